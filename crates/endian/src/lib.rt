@@ -1,0 +1,116 @@
+// Little-endian numbers of 16 and 32 bits, unsigned and signed, read out of bytes and written into them. The definitions
+// are in specs/. Callers show that the bytes lie inside the slice.
+ghost use mathlib.Core.Path.{_≡_};
+ghost use Prim.Native.Nat.{_+_, _<_};
+ghost use lib.ListN.{length};
+ghost use Rattle.endian.specs.Unsigned.{u16At, u32At, putU16, putU32};
+ghost use Rattle.endian.specs.Signed.{signed, bitsOf, i16At, i32At};
+
+// A byte as a wider number.
+fn wide(b: u8) -> u16
+    ensures { λ r. ⌜ (r ≡ b) × (r < 256) ⌝ }
+{
+    b as u16
+}
+
+fn wider(v: u16) -> u32
+    ensures { λ r. ⌜ (r ≡ v) × (r < 65536) ⌝ }
+{
+    v as u32
+}
+
+pub fn u16_at(s: &[u8], at: usize) -> u16
+    requires { ⌜ at + 1 < length (now s) ⌝ }
+    ensures { λ r. ⌜ r ≡ u16At (now (s .entry)) at ⌝ }
+{
+    wide(s[at]) + 256 * wide(s[at + 1])
+}
+
+pub fn u32_at(s: &[u8], at: usize) -> u32
+    requires { ⌜ at + 3 < length (now s) ⌝ }
+    ensures { λ r. ⌜ r ≡ u32At (now (s .entry)) at ⌝ }
+{
+    wider(u16_at(s, at)) + 65536 * wider(u16_at(s, at + 2))
+}
+
+// The signed number with the bits v. A cast of v itself would lose its top bit, so the upper half goes by the complement.
+pub fn signed16(v: u16) -> i16
+    ensures { λ r. ⌜ r ≡ signed 32768 v ⌝ }
+{
+    if v < 32768 {
+        v as i16
+    } else {
+        !((65535 - v) as i16)
+    }
+}
+
+pub fn signed32(v: u32) -> i32
+    ensures { λ r. ⌜ r ≡ signed 2147483648 v ⌝ }
+{
+    if v < 2147483648 {
+        v as i32
+    } else {
+        !((4294967295 - v) as i32)
+    }
+}
+
+pub fn i16_at(s: &[u8], at: usize) -> i16
+    requires { ⌜ at + 1 < length (now s) ⌝ }
+    ensures { λ r. ⌜ r ≡ i16At (now (s .entry)) at ⌝ }
+{
+    signed16(u16_at(s, at))
+}
+
+pub fn i32_at(s: &[u8], at: usize) -> i32
+    requires { ⌜ at + 3 < length (now s) ⌝ }
+    ensures { λ r. ⌜ r ≡ i32At (now (s .entry)) at ⌝ }
+{
+    signed32(u32_at(s, at))
+}
+
+// The bits of a signed number.
+pub fn bits16(v: i16) -> u16
+    ensures { λ r. ⌜ r ≡ bitsOf 32768 v ⌝ }
+{
+    if v < 0 { 65535 - (!v as u16) } else { v as u16 }
+}
+
+pub fn bits32(v: i32) -> u32
+    ensures { λ r. ⌜ r ≡ bitsOf 2147483648 v ⌝ }
+{
+    if v < 0 {
+        4294967295 - (!v as u32)
+    } else {
+        v as u32
+    }
+}
+
+pub fn put_u16(s: &mut [u8], at: usize, v: u16)
+    requires { ⌜ at + 1 < length (now s) ⌝ }
+    ensures { λ _. ⌜ now (s .exit) ≡ putU16 (now (s .entry)) at v ⌝ }
+{
+    s[at] = (v % 256) as u8;
+    s[at + 1] = (v / 256) as u8;
+}
+
+pub fn put_u32(s: &mut [u8], at: usize, v: u32)
+    requires { ⌜ at + 3 < length (now s) ⌝ }
+    ensures { λ _. ⌜ now (s .exit) ≡ putU32 (now (s .entry)) at v ⌝ }
+{
+    put_u16(s, at, (v % 65536) as u16);
+    put_u16(s, at + 2, (v / 65536) as u16);
+}
+
+pub fn put_i16(s: &mut [u8], at: usize, v: i16)
+    requires { ⌜ at + 1 < length (now s) ⌝ }
+    ensures { λ _. ⌜ now (s .exit) ≡ putU16 (now (s .entry)) at (bitsOf 32768 v) ⌝ }
+{
+    put_u16(s, at, bits16(v));
+}
+
+pub fn put_i32(s: &mut [u8], at: usize, v: i32)
+    requires { ⌜ at + 3 < length (now s) ⌝ }
+    ensures { λ _. ⌜ now (s .exit) ≡ putU32 (now (s .entry)) at (bitsOf 2147483648 v) ⌝ }
+{
+    put_u32(s, at, bits32(v));
+}

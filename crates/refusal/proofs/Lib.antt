@@ -1,0 +1,3 @@
+-- The laws of rows of checks and of scans. Assumes nothing.
+
+pub mod Checks

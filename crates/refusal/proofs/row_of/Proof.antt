@@ -1,0 +1,82 @@
+-- `refusal::row_of` meets its contract: each arm knows the case that it is in, and the table has a row for that case.
+-- Assumes nothing.
+use mathlib.Core.Path.{_≡_, sym, ap}
+use borrow.Author.Needs.{needs}
+use Rattle.refusal.specs.declared.Refusal.{Refusal}
+use Rattle.refusal.specs.Table.{rowOf}
+use Rattle.refusal.proofs.row_of.Statement.{statement}
+use Rattle.refusal.proofs.row_of.Tie as tie
+
+told : {r s : Refusal} → r ≡ s → rowOf s ≡ rowOf r
+told e = ap rowOf (sym e)
+
+pub row-of-spec : {M : Type 1} → statement M
+row-of-spec =
+    tie.close
+    (tie.spec
+    (λ c. search needs)
+    (λ c. search needs)
+    (λ c. search needs)
+    (λ c. search needs)
+    (λ c. search needs)
+    (λ c. search needs)
+    (λ c. search needs)
+    (λ c. search needs)
+    (λ c. search needs)
+    (λ c. search needs)
+    (λ c. search needs)
+    (λ c. search needs)
+    (λ c. search needs)
+    (λ c. search needs)
+    (λ c. search needs)
+    (λ c. search needs)
+    (λ c. search needs)
+    (λ c. search needs)
+    (λ c. search needs)
+    (λ c. search needs)
+    (λ c. search needs)
+    (λ c. search needs)
+    (λ c. search needs)
+    (λ c. search needs)
+    (λ c. search needs)
+    (λ c. search needs)
+    (λ c. search needs)
+    (λ c. search needs)
+    (λ c. search needs)
+    (λ c. search needs)
+    (λ c. search needs)
+    (λ c. search needs)
+    (λ c. search needs)
+    (λ c. told (c .enum-told .given .1))
+    (λ c. told (c .enum-told2 .given .1))
+    (λ c. told (c .enum-told3 .given .1))
+    (λ c. told (c .enum-told4 .given .1))
+    (λ c. told (c .before .r .given .1))
+    (λ c. told (c .before .r2 .given .1))
+    (λ c. told (c .enum-told5 .given .1))
+    (λ c. told (c .enum-told6 .given .1))
+    (λ c. told (c .enum-told7 .given .1))
+    (λ c. told (c .before .r3 .given .1))
+    (λ c. told (c .enum-told8 .given .1))
+    (λ c. told (c .before .r4 .given .1))
+    (λ c. told (c .before .r5 .given .1))
+    (λ c. told (c .enum-told9 .given .1))
+    (λ c. told (c .before .r6 .given .1))
+    (λ c. told (c .before .r7 .given .1))
+    (λ c. told (c .before .r8 .given .1))
+    (λ c. told (c .before .r9 .given .1))
+    (λ c. told (c .before .r10 .given .1))
+    (λ c. told (c .before .r11 .given .1))
+    (λ c. told (c .enum-told10 .given .1))
+    (λ c. told (c .enum-told11 .given .1))
+    (λ c. told (c .enum-told12 .given .1))
+    (λ c. told (c .enum-told13 .given .1))
+    (λ c. told (c .before .r12 .given .1))
+    (λ c. told (c .enum-told14 .given .1))
+    (λ c. told (c .enum-told15 .given .1))
+    (λ c. told (c .enum-told16 .given .1))
+    (λ c. told (c .enum-told17 .given .1))
+    (λ c. told (c .before .r13 .given .1))
+    (λ c. told (c .before .r14 .given .1))
+    (λ c. told (c .enum-told18 .given .1))
+    (λ c. told (c .enum-told19 .given .1)))

@@ -1,0 +1,58 @@
+-- The refusal table of 01, "Refusal numbers": number, place and record of each refusal, in the table's order. Unnamed parts
+-- are 0. Assumes nothing.
+use Prim.Native.Nat.{ℕ}
+use Rattle.refusal.specs.declared.Row.{Row}
+use Rattle.refusal.specs.declared.Refusal.{Refusal}
+use Rattle.refusal.specs.declared.Refusal.the-variants.{FileLength, Mark, LumpCount, DirectoryBounds, EntryBounds, EntryName, EntryNumber, MapName, MapMissing, MarkerRun, HexenMap, RecordSize, RecordCount, RejectLength, LinedefReference, SidedefReference, SegReference, SubsectorReference, NodeReference, Blockmap, WorkWords, NodeLoop, DescentNodes, DescentSubsectors, DescentChild, DescentLoop, PictureLength, PictureSize, PictureOffsets, PostBounds, PostRows, PixelBuffer, RecordBounds}
+
+-- a row of the table: number, place, record
+abbrev pub row : ℕ → ℕ → ℕ → Row
+row number place index = record { 0 = number; 1 = place; 2 = index }
+
+-- the table
+abbrev pub rowOf : Refusal → Row
+rowOf FileLength = row 1 0 0
+rowOf Mark = row 2 0 0
+rowOf LumpCount = row 3 0 0
+rowOf DirectoryBounds = row 4 0 0
+rowOf (EntryBounds entry) = row 5 0 entry
+rowOf (EntryName entry) = row 6 0 entry
+rowOf EntryNumber = row 7 0 0
+rowOf MapName = row 10 0 0
+rowOf MapMissing = row 11 0 0
+rowOf (MarkerRun place) = row 12 place 0
+rowOf HexenMap = row 13 0 0
+rowOf (RecordSize place) = row 20 place 0
+rowOf (RecordCount place) = row 21 place 0
+rowOf RejectLength = row 22 9 0
+rowOf (LinedefReference linedef) = row 23 2 linedef
+rowOf (SidedefReference sidedef) = row 24 3 sidedef
+rowOf (SegReference seg) = row 25 5 seg
+rowOf (SubsectorReference subsector) = row 26 6 subsector
+rowOf (NodeReference node) = row 27 7 node
+rowOf (Blockmap cell) = row 28 10 cell
+rowOf WorkWords = row 30 7 0
+rowOf NodeLoop = row 31 7 0
+rowOf DescentNodes = row 40 0 0
+rowOf DescentSubsectors = row 41 0 0
+rowOf (DescentChild node) = row 42 0 node
+rowOf DescentLoop = row 43 0 0
+rowOf PictureLength = row 50 0 0
+rowOf PictureSize = row 51 0 0
+rowOf PictureOffsets = row 52 0 0
+rowOf (PostBounds column) = row 53 0 column
+rowOf (PostRows column) = row 54 0 column
+rowOf PixelBuffer = row 55 0 0
+rowOf RecordBounds = row 60 0 0
+
+-- the paper's number of a refusal
+abbrev pub numberOf : Refusal → ℕ
+numberOf r = rowOf r .0
+
+-- its place, 0 to 10
+abbrev pub placeOf : Refusal → ℕ
+placeOf r = rowOf r .1
+
+-- its record: an entry, a record of a map's lump, a BLOCKMAP cell, a node or a picture's column
+abbrev pub recordOf : Refusal → ℕ
+recordOf r = rowOf r .2

@@ -1,0 +1,149 @@
+// The table of refusals as one enum, with the three numbers that a caller is given for each, and the answer of a check.
+// The table itself is specs/Table.antt.
+ghost use mathlib.Core.Path.{_≡_};
+ghost use Rattle.refusal.specs.Table.{rowOf, numberOf, placeOf, recordOf};
+ghost use Rattle.refusal.specs.Checks.{unless};
+
+// One case for each number of the table, with the place or the record that varies.
+pub enum Refusal {
+    // 1: the file's length
+    FileLength,
+    // 2: the mark, IWAD or PWAD
+    Mark,
+    // 3: the count of lumps
+    LumpCount,
+    // 4: the directory's start or end
+    DirectoryBounds,
+    // 5: an entry's offset or size
+    EntryBounds(usize),
+    // 6: an entry's name
+    EntryName(usize),
+    // 7: an entry number not below the count
+    EntryNumber,
+    // 10: the asked name is not a map name
+    MapName,
+    // 11: no such entry
+    MapMissing,
+    // 12: the marker's size, or one of the ten lumps missing or misnamed, at a place
+    MarkerRun(usize),
+    // 13: a Hexen map
+    HexenMap,
+    // 20: a size that is no multiple of the record, at a place
+    RecordSize(usize),
+    // 21: a count outside the table, at a place
+    RecordCount(usize),
+    // 22: the length of REJECT
+    RejectLength,
+    // 23 to 27: a reference of a record
+    LinedefReference(usize),
+    SidedefReference(usize),
+    SegReference(usize),
+    SubsectorReference(usize),
+    NodeReference(usize),
+    // 28: BLOCKMAP, at a cell; its header at 0
+    Blockmap(usize),
+    // 30: fewer than 4 × N work words
+    WorkWords,
+    // 31: a loop of nodes
+    NodeLoop,
+    // 40: descent, the size of NODES
+    DescentNodes,
+    // 41: descent, the count of subsectors
+    DescentSubsectors,
+    // 42: descent, a chosen child out of range, by the node that names it
+    DescentChild(usize),
+    // 43: descent, as many choices as nodes and still on a node
+    DescentLoop,
+    // 50: a picture under 8 bytes
+    PictureLength,
+    // 51: a picture's width or height
+    PictureSize,
+    // 52: a picture's column offsets past the end
+    PictureOffsets,
+    // 53: a column's offset, post or end byte outside the lump
+    PostBounds(usize),
+    // 54: a post's rows
+    PostRows(usize),
+    // 55: a pixel buffer under width × height
+    PixelBuffer,
+    // 60: a record not wholly inside its lump
+    RecordBounds,
+}
+
+// What a check answers.
+pub enum Check {
+    Pass,
+    Refused(Refusal),
+}
+
+// A row of the table: number, place and record. An unnamed part is 0.
+pub struct Row(pub u32, pub usize, pub usize);
+
+// The refusal's row.
+pub fn row_of(r: Refusal) -> Row
+    ensures { λ a. ⌜ a ≡ rowOf r ⌝ }
+{
+    match r {
+        Refusal::FileLength => Row(1, 0, 0),
+        Refusal::Mark => Row(2, 0, 0),
+        Refusal::LumpCount => Row(3, 0, 0),
+        Refusal::DirectoryBounds => Row(4, 0, 0),
+        Refusal::EntryBounds(entry) => Row(5, 0, entry),
+        Refusal::EntryName(entry) => Row(6, 0, entry),
+        Refusal::EntryNumber => Row(7, 0, 0),
+        Refusal::MapName => Row(10, 0, 0),
+        Refusal::MapMissing => Row(11, 0, 0),
+        Refusal::MarkerRun(place) => Row(12, place, 0),
+        Refusal::HexenMap => Row(13, 0, 0),
+        Refusal::RecordSize(place) => Row(20, place, 0),
+        Refusal::RecordCount(place) => Row(21, place, 0),
+        Refusal::RejectLength => Row(22, 9, 0),
+        Refusal::LinedefReference(linedef) => Row(23, 2, linedef),
+        Refusal::SidedefReference(sidedef) => Row(24, 3, sidedef),
+        Refusal::SegReference(seg) => Row(25, 5, seg),
+        Refusal::SubsectorReference(subsector) => Row(26, 6, subsector),
+        Refusal::NodeReference(node) => Row(27, 7, node),
+        Refusal::Blockmap(cell) => Row(28, 10, cell),
+        Refusal::WorkWords => Row(30, 7, 0),
+        Refusal::NodeLoop => Row(31, 7, 0),
+        Refusal::DescentNodes => Row(40, 0, 0),
+        Refusal::DescentSubsectors => Row(41, 0, 0),
+        Refusal::DescentChild(node) => Row(42, 0, node),
+        Refusal::DescentLoop => Row(43, 0, 0),
+        Refusal::PictureLength => Row(50, 0, 0),
+        Refusal::PictureSize => Row(51, 0, 0),
+        Refusal::PictureOffsets => Row(52, 0, 0),
+        Refusal::PostBounds(column) => Row(53, 0, column),
+        Refusal::PostRows(column) => Row(54, 0, column),
+        Refusal::PixelBuffer => Row(55, 0, 0),
+        Refusal::RecordBounds => Row(60, 0, 0),
+    }
+}
+
+// The paper's number of a refusal.
+pub fn number(r: Refusal) -> u32
+    ensures { λ n. ⌜ n ≡ numberOf r ⌝ }
+{
+    row_of(r).0
+}
+
+// The place of a refusal, 0 to 10.
+pub fn place(r: Refusal) -> usize
+    ensures { λ n. ⌜ n ≡ placeOf r ⌝ }
+{
+    row_of(r).1
+}
+
+// The record number of a refusal.
+pub fn index(r: Refusal) -> usize
+    ensures { λ n. ⌜ n ≡ recordOf r ⌝ }
+{
+    row_of(r).2
+}
+
+// A test as a check: passed, or refused with r.
+pub fn pass_if(ok: bool, r: Refusal) -> Check
+    ensures { λ a. ⌜ a ≡ unless ok r ⌝ }
+{
+    if ok { Check::Pass } else { Check::Refused(r) }
+}
