@@ -79,6 +79,9 @@ between-signed half n least most h = between-by half n least most h (ltb n half)
 pub natural-signed : (half n : ℕ) → n < half → natural (signed half n) ≡ n
 natural-signed half n h = ap natural (signed-low half n h)
 
+pub natural-negative : (half n : ℕ) → half ≤ n → natural (signed half n) ≡ 0
+natural-negative half n h = ap natural (signed-high half n h)
+
 -- ---- the bits of a number through its complement, as the code computes them
 
 -- the complement of a negative number's bits

@@ -4,7 +4,7 @@ ghost use mathlib.Core.Path.{_≡_};
 ghost use Prim.Native.Nat.{_+_, _<_};
 ghost use lib.ListN.{length};
 ghost use Rattle.endian.specs.Unsigned.{u16At, u32At, putU16, putU32};
-ghost use Rattle.endian.specs.Signed.{signed, bitsOf, i16At, i32At};
+ghost use Rattle.endian.specs.Signed.{signed, bitsOf, i16At, i32At, between, natural};
 
 // A byte as a wider number.
 fn wide(b: u8) -> u16
@@ -66,6 +66,24 @@ pub fn i32_at(s: &[u8], at: usize) -> i32
     ensures { λ r. ⌜ r ≡ i32At (now (s .entry)) at ⌝ }
 {
     signed32(u32_at(s, at))
+}
+
+// A signed number of four bytes as a count: 0 where it is negative.
+pub fn natural_at(s: &[u8], at: usize) -> usize
+    requires { ⌜ at + 3 < length (now s) ⌝ }
+    ensures { λ r. ⌜ (r ≡ natural (i32At (now (s .entry)) at)) × (r < 2147483648) ⌝ }
+{
+    let bits = u32_at(s, at);
+    if bits < 2147483648 { bits as usize } else { 0 }
+}
+
+// Whether a signed number of four bytes is least to most. Its bits tell: a negative number's are above every most.
+pub fn between_at(s: &[u8], at: usize, least: usize, most: usize) -> bool
+    requires { ⌜ (at + 3 < length (now s)) × (most < 2147483648) ⌝ }
+    ensures { λ r. ⌜ r ≡ between (i32At (now (s .entry)) at) least most ⌝ }
+{
+    let bits = u32_at(s, at) as usize;
+    (least <= bits) & (bits <= most)
 }
 
 // The bits of a signed number.

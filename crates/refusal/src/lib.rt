@@ -2,7 +2,7 @@
 // The table itself is specs/Table.antt.
 ghost use mathlib.Core.Path.{_≡_};
 ghost use Rattle.refusal.specs.Table.{rowOf, numberOf, placeOf, recordOf};
-ghost use Rattle.refusal.specs.Checks.{unless};
+ghost use Rattle.refusal.specs.Checks.{unless, _andThen_};
 
 // One case for each number of the table, with the place or the record that varies.
 pub enum Refusal {
@@ -146,4 +146,14 @@ pub fn pass_if(ok: bool, r: Refusal) -> Check
     ensures { λ a. ⌜ a ≡ unless ok r ⌝ }
 {
     if ok { Check::Pass } else { Check::Refused(r) }
+}
+
+// Two checks in a row: the first refusal.
+pub fn then(a: Check, b: Check) -> Check
+    ensures { λ r. ⌜ r ≡ (a andThen b) ⌝ }
+{
+    match a {
+        Check::Pass => b,
+        Check::Refused(r) => Check::Refused(r),
+    }
 }

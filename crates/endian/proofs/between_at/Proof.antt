@@ -1,0 +1,29 @@
+-- `endian::between_at` meets its contract: a test of the bits is a test of the signed number. Assumes nothing.
+use Prim.Native.Nat.{ℕ}
+use mathlib.Core.Path.{ap, sym, _∙_}
+use borrow.Author.Needs.{needs}
+use Rattle.endian.specs.Signed.{signed, between}
+use Rattle.endian.proofs.Signed.{between-signed}
+use Rattle.endian.proofs.between_at.Statement.{statement}
+use Rattle.endian.proofs.between_at.Tie as tie
+use Rattle.endian.proofs.between_at.Reads as reads
+use Rattle.endian.proofs.between_at.Lts as lts
+use Rattle.endian.proofs.u32_at.Reads as u32-at-reads
+
+-- src/lib.rt:89:16
+u32-at-requires : tie.Need-u32-at-requires
+u32-at-requires c κs = search needs
+
+-- src/lib.rt:89:16
+cast-bits : tie.Need-cast-bits
+cast-bits c = search needs
+
+-- src/lib.rt:85:1
+returns : tie.Need-returns
+returns c =
+    let e = c .before .before .args in
+    sym (between-signed 2147483648 (c .u32-at .result) (e .least) (e .most) (c .before .before .pre .1))
+    ∙ ap (λ (n : ℕ). between (signed 2147483648 n) (e .least) (e .most)) (c .u32-at .ensures)
+
+pub between-at-spec : {M : Type 1} → statement M
+between-at-spec = tie.close (tie.spec u32-at-requires cast-bits returns)

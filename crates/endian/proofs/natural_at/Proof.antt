@@ -1,0 +1,39 @@
+-- `endian::natural_at` meets its contract: below half the number is its bits, above it is negative. Assumes nothing.
+use Prim.Native.Nat.{ℕ}
+use mathlib.Core.Path.{ap, sym, _∙_}
+use native.Mathlib.Omega.{arith}
+use borrow.Author.Needs.{needs}
+use Rattle.endian.specs.Signed.{signed, natural}
+use Rattle.endian.proofs.Signed.{natural-signed, natural-negative}
+use Rattle.endian.proofs.natural_at.Statement.{statement}
+use Rattle.endian.proofs.natural_at.Tie as tie
+use Rattle.endian.proofs.natural_at.Reads as reads
+use Rattle.endian.proofs.natural_at.Lts as lts
+use Rattle.endian.proofs.u32_at.Reads as u32-at-reads
+
+-- src/lib.rt:76:9
+u32-at-requires : tie.Need-u32-at-requires
+u32-at-requires c κs = search needs
+
+-- src/lib.rt:78:9
+cast-result : tie.Need-cast-result
+cast-result c = search needs
+
+-- src/lib.rt:72:1
+returns : tie.Need-returns
+returns c = (
+  sym (natural-signed 2147483648 _ (c .if1 .taken))
+      ∙ ap (λ (n : ℕ). natural (signed 2147483648 n)) (c .before .u32-at .ensures),
+  c .if1 .taken,
+)
+
+-- src/lib.rt:72:1
+returns-2 : tie.Need-returns-2
+returns-2 c = (
+  sym (natural-negative 2147483648 _ (c .if1 .left))
+      ∙ ap (λ (n : ℕ). natural (signed 2147483648 n)) (c .before .u32-at .ensures),
+  omega arith,
+)
+
+pub natural-at-spec : {M : Type 1} → statement M
+natural-at-spec = tie.close (tie.spec u32-at-requires cast-result returns returns-2)

@@ -1,0 +1,111 @@
+-- What is answered of an entry and of a marker, by the checks that led there, and that an entry which is not refused is
+-- handed back whole. Assumes nothing.
+use Prim.Native.Nat.{ℕ, _+_, _≤_, _<_}
+use mathlib.Core.Bool.{Bool, true, false, _&&_, _||_, cond}
+use mathlib.Core.List.{List}
+use mathlib.Core.Path.{_≡_, refl, sym, ap, _∙_}
+use native.Mathlib.Omega.{arith}
+use borrow.Author.Tests.{le-ltb, lt-ltb, ltb-true, leb-true, eqb-true}
+use lib.Dec.{ltb, leb, eqb}
+use lib.IntN.{ℤ}
+use lib.ListN.{length}
+use Rattle.endian.specs.Signed.{between, natural}
+use Rattle.refusal.specs.declared.Refusal.{Refusal}
+use Rattle.refusal.specs.declared.Refusal.the-variants.{EntryBounds, EntryNumber, MapName}
+use Rattle.refusal.specs.declared.Check.{Check}
+use Rattle.refusal.specs.declared.Check.the-variants.{Pass, Refused}
+use Rattle.refusal.specs.Checks.{unless, _andThen_, each}
+use Rattle.refusal.proofs.Checks.{andThen-pass, unless-pass, each-pass}
+use Rattle.wad.specs.declared.lumps.Entry.{Entry}
+use Rattle.wad.specs.declared.lumps.Entry.the-variants.{At, Refused as NotThere}
+use Rattle.wad.specs.declared.map.Marker.{Marker}
+use Rattle.wad.specs.declared.map.Marker.the-variants.{Refused as NoMarker}
+use Rattle.wad.specs.Name.{mapNameOk, episodeName, numberedName}
+use Rattle.wad.specs.Header.{headOf, countOf, headerCheck}
+use Rattle.wad.specs.Entries.{directoryOf, offsetAt, sizeAt, insideOk, entryCheck, fileCheck}
+use Rattle.wad.specs.Lump.{sizeOf, offsetOf, placed, entryAnswer, partOf, HandedWhole}
+use Rattle.wad.specs.Map.{findMarker, found, markerAnswer}
+use Rattle.wad.proofs.Slices.{length-part, partIf-inside}
+use Rattle.wad.proofs.Listing.{and-true, between-natural}
+
+module _ (wad : List ℕ) (i : ℕ) where
+  abbrev pub answered : Check → Entry
+  answered k = placed k (offsetOf (directoryOf wad) i) (sizeOf (directoryOf wad) i)
+
+  abbrev pub numbered : Check
+  numbered = unless (ltb i (countOf (headOf wad))) EntryNumber
+
+  pub entry-refused : {r : Refusal} → fileCheck wad ≡ Refused r → NotThere r ≡ entryAnswer wad i
+  entry-refused e = sym (ap (λ (k : Check). answered (k andThen numbered)) e)
+
+  pub entry-past : fileCheck wad ≡ Pass → countOf (headOf wad) ≤ i → NotThere EntryNumber ≡ entryAnswer wad i
+  entry-past e h =
+      sym (ap (λ (k : Check). answered (k andThen numbered)) e
+      ∙ ap (λ (b : Bool). answered (unless b EntryNumber)) (le-ltb i (countOf (headOf wad)) h))
+
+  pub entry-at : fileCheck wad ≡ Pass → i < countOf (headOf wad)
+      → At (offsetOf (directoryOf wad) i) (sizeOf (directoryOf wad) i) ≡ entryAnswer wad i
+  entry-at e h =
+      sym (ap (λ (k : Check). answered (k andThen numbered)) e
+      ∙ ap (λ (b : Bool). answered (unless b EntryNumber)) (lt-ltb i (countOf (headOf wad)) h))
+
+module _ (wad name : List ℕ) where
+  abbrev pub sought : Check → Marker
+  sought k = found k (findMarker (directoryOf wad) name (countOf (headOf wad)))
+
+  abbrev pub named : Check
+  named = unless (mapNameOk name) MapName
+
+  pub marker-refused : {r : Refusal} → fileCheck wad ≡ Refused r → NoMarker r ≡ markerAnswer wad name
+  marker-refused e = sym (ap (λ (k : Check). sought (k andThen named)) e)
+
+  pub marker-named : {b : Bool} → fileCheck wad ≡ Pass → b ≡ mapNameOk name
+      → sought (unless b MapName) ≡ markerAnswer wad name
+  marker-named e q =
+      ap (λ (b : Bool). sought (unless b MapName)) q ∙ sym (ap (λ (k : Check). sought (k andThen named)) e)
+
+-- a map's name has eight bytes
+pub mapNameOk-length : (name : List ℕ) → mapNameOk name ≡ true → length name ≡ 8
+mapNameOk-length name e = eqb-true (length name) 8 (and-true (eqb (length name) 8) (episodeName name || numberedName name) e .0)
+
+-- ---- an entry that is not refused
+
+no-further : (b : Bool) (n m len : ℕ) → n + m ≤ len → cond b 0 n + m ≤ len
+no-further true n m len h = omega arith
+no-further false n m len h = h
+
+inside-by : (len : ℕ) (offset size : ℤ) (b : Bool) → between size 0 0 ≡ b → insideOk len offset size ≡ true
+    → cond (eqb (natural size) 0) 0 (natural offset) + natural size ≤ len
+inside-by len offset size true e h =
+    let none = between-natural size 0 0 e in
+    let z : natural size ≡ 0 = omega arith in
+    rw (z) (omega arith)
+inside-by len offset size false e h =
+    let rest = rw e at h in
+    let sums = and-true (between size 1 len && between offset 12 len) (leb (natural offset + natural size) len) rest in
+    no-further (eqb (natural size) 0) (natural offset) (natural size) len (leb-true (natural offset + natural size) len (sums .1))
+
+-- its part lies inside the file
+pub entry-inside : (wad : List ℕ) (i : ℕ) → fileCheck wad ≡ Pass → i < countOf (headOf wad)
+    → offsetOf (directoryOf wad) i + sizeOf (directoryOf wad) i ≤ length wad
+entry-inside wad i e h =
+    let dir = directoryOf wad in
+    let entries = andThen-pass (headerCheck (length wad) (headOf wad)) (each (entryCheck (length wad) dir) (countOf (headOf wad))) e .1 in
+    let this = each-pass (entryCheck (length wad) dir) (countOf (headOf wad)) entries i h in
+    let bounds = insideOk (length wad) (offsetAt dir i) (sizeAt dir i) in
+    let first = andThen-pass (unless bounds (EntryBounds i)) _ this .0 in
+    inside-by (length wad) (offsetAt dir i) (sizeAt dir i) (between (sizeAt dir i) 0 0) refl (unless-pass bounds (EntryBounds i) first)
+
+placed-at : (c : Check) (o s : ℕ) {offset size : ℕ} → placed c o s ≡ At offset size → (c ≡ Pass) × ((o ≡ offset) × (s ≡ size))
+placed-at Pass o s e = (refl, ((cc), (cc)))
+placed-at (Refused r) o s e = let z : _≡_ {A = ℕ} 0 1 = cc in absurd (omega arith)
+
+pub handed-whole : HandedWhole
+handed-whole wad i offset size e =
+    let dir = directoryOf wad in
+    let p = placed-at (fileCheck wad andThen numbered wad i) (offsetOf dir i) (sizeOf dir i) e in
+    let checks = andThen-pass (fileCheck wad) (numbered wad i) (p .0) in
+    let below = ltb-true i (countOf (headOf wad)) (unless-pass (ltb i (countOf (headOf wad))) EntryNumber (checks .1)) in
+    let inside : offset + size ≤ length wad = rw (← p .1 .0, ← p .1 .1) (entry-inside wad i (checks .0) below) in
+    let whole = ap (partOf wad) e ∙ partIf-inside wad offset size inside in
+    record { whole = whole; sized = ap length whole ∙ length-part wad offset size inside }

@@ -1,0 +1,29 @@
+-- `wad::lumps::offset_of` meets its contract, by the size. Assumes nothing.
+use mathlib.Core.Path.{sym, _∙_}
+use native.Mathlib.Omega.{arith}
+use borrow.Author.Tests.{eq-eqb, ne-eqb}
+use borrow.Author.Needs.{needs}
+use Rattle.wad.proofs.lumps.offset_of.Statement.{statement}
+use Rattle.wad.proofs.lumps.offset_of.Tie as tie
+
+size-of-requires : tie.Need-size-of-requires
+size-of-requires c κs = search needs
+
+returns : tie.Need-returns
+returns c = (rw (eq-eqb _ 0 (sym (c .before .size-of .ensures .0) ∙ c .if1 .taken)), omega arith)
+
+mul-natural-at : tie.Need-mul-natural-at
+mul-natural-at c = search needs
+
+natural-at-requires : tie.Need-natural-at-requires
+natural-at-requires c κs = search needs
+
+returns-2 : tie.Need-returns-2
+returns-2 c = (
+  rw (ne-eqb _ 0 (λ e. c .before .if1 .left (c .before .before .size-of .ensures .0 ∙ e))) (c .natural-at .ensures .0),
+  c .natural-at .ensures .1,
+)
+
+pub offset-of-spec : {M : Type 1} → statement M
+offset-of-spec =
+    tie.close (tie.spec size-of-requires returns mul-natural-at natural-at-requires returns-2)

@@ -1,0 +1,81 @@
+-- `wad::map::last_named` meets its contract: no entry from `left` on has the name. The measure is `left`. Assumes nothing.
+use Prim.Native.Nat.{ℕ, suc, _-_, _≤_}
+use mathlib.Core.Path.{_≡_, sym, ap, _∙_}
+use native.Mathlib.Omega.{arith}
+use borrow.Author.Needs.{needs}
+use mathlib.Core.List.{List}
+use denote.Ref.{now}
+use Rattle.wad.specs.Name.{sameName}
+use Rattle.wad.specs.Map.{findMarker}
+use Rattle.wad.proofs.Search.{findMarker-none, findMarker-found, findMarker-on}
+use Rattle.wad.proofs.map.last_named.Statement.{statement}
+use Rattle.wad.proofs.map.last_named.Tie as tie
+
+abbrev Inv-loop : tie.InvT-loop
+Inv-loop dir count name left₀ left = (left ≤ count) × (findMarker dir name count ≡ findMarker dir name left)
+
+abbrev μ-loop : tie.MeasureT-loop
+μ-loop dir count name left₀ left = left
+
+loop-holds : tie.Need-loop-holds Inv-loop μ-loop
+loop-holds c = search needs
+
+sub-left : tie.Need-sub-left Inv-loop μ-loop
+sub-left c = search needs
+
+mul-part : tie.Need-mul-part Inv-loop μ-loop
+mul-part c = search needs
+
+add-part : tie.Need-add-part Inv-loop μ-loop
+add-part c = search needs
+
+part-requires : tie.Need-part-requires Inv-loop μ-loop
+part-requires c κs = search needs
+
+same-name-requires : tie.Need-same-name-requires Inv-loop μ-loop
+same-name-requires c κs = search needs
+
+returns : tie.Need-returns Inv-loop μ-loop
+returns c =
+    let a = c .before .before .before .before .before .before .before .args in
+    let l = c .before .before .before .before .loop in
+    let k : l .left ≡ suc (l .left - 1) = omega arith in
+    let same = c .before .same-name .ensures ∙ ap (λ (n : List ℕ). sameName n (now (a .name))) (c .before .before .part .ensures .0) in
+    sym (l .inv .1 ∙ findMarker-found (now (a .dir)) (now (a .name)) (l .left - 1) (l .left) k same (c .if1 .taken))
+
+loop-less : tie.Need-loop-less Inv-loop μ-loop
+loop-less c = search needs
+
+loop-again : tie.Need-loop-again Inv-loop μ-loop
+loop-again c =
+    let a = c .before .before .before .before .before .before .before .args in
+    let l = c .before .before .before .before .loop in
+    let k : l .left ≡ suc (l .left - 1) = omega arith in
+    let same = c .before .same-name .ensures ∙ ap (λ (n : List ℕ). sameName n (now (a .name))) (c .before .before .part .ensures .0) in (
+      search needs,
+      l .inv .1 ∙ findMarker-on (now (a .dir)) (now (a .name)) (l .left - 1) (l .left) k same (c .if1 .left),
+    )
+
+returns-2 : tie.Need-returns-2 Inv-loop μ-loop
+returns-2 c =
+    let a = c .before .before .before .before .args in
+    let l = c .before .loop in
+    let z : l .left ≡ 0 = omega arith in
+    sym (l .inv .1 ∙ ap (findMarker (now (a .dir)) (now (a .name))) z ∙ findMarker-none (now (a .dir)) (now (a .name)))
+
+pub last-named-spec : {M : Type 1} → statement M
+last-named-spec =
+    tie.close
+    (tie.spec
+    Inv-loop
+    μ-loop
+    loop-holds
+    sub-left
+    mul-part
+    add-part
+    part-requires
+    same-name-requires
+    returns
+    loop-less
+    loop-again
+    returns-2)

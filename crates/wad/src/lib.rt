@@ -1,0 +1,28 @@
+// A WAD file's header, directory and entries, and the search for a map's marker. Every question judges the whole directory
+// first (refusals 1 to 6), so that its answer can be relied on whatever the bytes are.
+mod entries;
+mod header;
+mod lumps;
+mod map;
+mod name;
+mod parts;
+
+pub use entries::Directory;
+pub use entries::directory_of;
+pub use entries::entry_count;
+pub use entries::judge_directory;
+pub use entries::judge_file;
+pub use lumps::Entry;
+pub use lumps::find_entry;
+pub use lumps::lump;
+pub use lumps::lump_at;
+pub use lumps::offset_of;
+pub use lumps::size_of;
+pub use map::Marker;
+pub use map::find_map;
+pub use map::last_named;
+pub use name::map_name_ok;
+pub use name::name_ok;
+pub use name::same_name;
+pub use parts::part;
+pub use parts::part_if;
