@@ -38,10 +38,9 @@ fn judge_entry(len: usize, dir: &[u8], i: usize) -> Check
     requires { ⌜ (len ≤ 16777216) × (16 * i + 16 ≤ length (now dir)) ⌝ }
     ensures { λ r. ⌜ r ≡ entryCheck len (now (dir .entry)) i ⌝ }
 {
-    refusal::then(
-        refusal::pass_if(inside_ok(len, dir, i), Refusal::EntryBounds(i)),
-        refusal::pass_if(name_ok(part(dir, 16 * i + 8, 8)), Refusal::EntryName(i)),
-    )
+    let bounds = refusal::pass_if(inside_ok(len, dir, i), Refusal::EntryBounds(i));
+    let name = refusal::pass_if(name_ok(part(dir, 16 * i + 8, 8)), Refusal::EntryName(i));
+    refusal::then(bounds, name)
 }
 
 // 5 and 6 of each entry in turn.
