@@ -1,0 +1,42 @@
+-- Signed numbers of 16 bits, their differences and the products of these, at 64 bits: each fits, and a value that is passed
+-- on is the value. Assumes nothing.
+use Prim.Native.Nat.{_^_, _≤_, _<_}
+use mathlib.Core.Path.{_≡_, _∙_}
+use native.Mathlib.Nat.{le-trans, lt-of-le-of-lt}
+use native.Mathlib.Omega.{arith}
+use lib.Dec.{lit<}
+use lib.IntN.{ℤ, natAbs, _-ℤ_, _*ℤ_}
+use lib.Signed.{mag}
+use mir.Syntax.{Width, w16, w64}
+use mir.Val.{toZ, ofZ, hbits, SFits}
+use mir.ValLaws.{toZ-ofZ}
+use Rattle.endian.proofs.Magnitude.{mag-natAbs, natAbs-mag, natAbs-sub, mag-mul}
+
+-- a call's result that is read again
+pub read-again : (w : Width) {z v : ℤ} → mag z < 2 ^ hbits w → z ≡ v → toZ w (ofZ w z) ≡ v
+read-again w {z} {v} ok e = toZ-ofZ w z (record { sfits = ok }) ∙ e
+
+pub widened : (z : ℤ) → SFits w16 z → SFits w64 z
+widened z h = let small : mag z < 32768 = h .sfits in record { sfits = omega arith }
+
+module _ (a b : ℤ) (fa : SFits w16 a) (fb : SFits w16 b) where
+  natAbs-difference : natAbs (a -ℤ b) ≤ 65537
+  natAbs-difference =
+      let la : natAbs a ≤ 32768 = natAbs-mag a (fa .sfits) in
+      let lb : natAbs b ≤ 32768 = natAbs-mag b (fb .sfits) in
+      omega (arith, natAbs-sub a b)
+
+  pub difference-fits : SFits w64 (a -ℤ b)
+  difference-fits =
+      let h = le-trans (mag-natAbs (a -ℤ b)) natAbs-difference in
+      record { sfits = omega arith }
+
+  pub product-fits : (d : ℤ) → SFits w16 d → SFits w64 ((a -ℤ b) *ℤ d)
+  product-fits d fd =
+      let ld : natAbs d ≤ 32768 = natAbs-mag d (fd .sfits) in
+      record { sfits = lt-of-le-of-lt (mag-mul (a -ℤ b) d natAbs-difference ld) (lit< tt) }
+
+  -- a product that was computed from values passed on
+  pub product-again : (d : ℤ) → SFits w16 d → {z : ℤ} → mag z < 2 ^ hbits w64
+      → z ≡ (toZ w16 (ofZ w16 a) -ℤ toZ w16 (ofZ w16 b)) *ℤ toZ w16 (ofZ w16 d) → toZ w64 (ofZ w64 z) ≡ (a -ℤ b) *ℤ d
+  product-again d fd ok e = read-again w64 ok (rw (toZ-ofZ w16 a fa, toZ-ofZ w16 b fb, toZ-ofZ w16 d fd) at e)

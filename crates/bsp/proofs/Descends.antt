@@ -1,0 +1,57 @@
+-- Where the verdict is a depth, the descent of every point is its plain walk, and no longer than the depth. Assumes nothing.
+use Prim.Native.Nat.{ℕ, _+_, _%_, _<_}
+use mathlib.Core.Bool.{Bool, true, false, _||_}
+use mathlib.Core.List.{List}
+use mathlib.Core.Path.{_≡_, refl, ap, _∙_}
+use native.Mathlib.Decide.{decLt}
+use native.Mathlib.Omega.{arith}
+use borrow.Author.Tests.{lt-ltb, le-leb, eq-eqb}
+use lib.Dec.{ltb, eqb}
+use lib.ListN.{length}
+use Rattle.bsp.specs.declared.Descent.the-variants.{Found}
+use Rattle.bsp.specs.Nodes.{nodesOf, root}
+use Rattle.bsp.specs.Walks.{nodesOk, subsectorsOk}
+use Rattle.bsp.specs.Promises.{Passed, DescentHolds}
+use Rattle.bsp.proofs.Nodes.{root-node}
+use Rattle.bsp.proofs.Verdict.{depth-verdict}
+use Rattle.bsp.proofs.Walks.{walk-only, descent-root, finds}
+
+alone-ok : (count subsectors : ℕ) → (count ≡ 0 → subsectors ≡ 1) → (ltb 0 count || eqb subsectors 1) ≡ true
+alone-ok count subsectors one = by (decLt 0 count)
+  where
+    by : Dec (0 < count) → (ltb 0 count || eqb subsectors 1) ≡ true
+    by (yes h) = rw (lt-ltb 0 count h)
+    by (no h) =
+        let e : subsectors ≡ 1 = one (omega arith) in
+        rw (eq-eqb subsectors 1 e) (either (ltb 0 count))
+      where
+        either : (b : Bool) → (b || true) ≡ true
+        either true = refl
+        either false = refl
+
+module _ (nodes : List ℕ) (subsectors : ℕ) where
+  nodes-ok : Passed nodes subsectors → nodesOk nodes ≡ true
+  nodes-ok p =
+      let whole = p .whole in
+      let even : length nodes % 28 ≡ 0 = omega arith in
+      rw (eq-eqb (length nodes % 28) 0 even, le-leb (nodesOf nodes) 32767 (p .few))
+
+  subsectors-ok : Passed nodes subsectors → subsectorsOk (nodesOf nodes) subsectors ≡ true
+  subsectors-ok p =
+      rw (le-leb 1 subsectors (p .least), le-leb subsectors 32767 (p .most)) (alone-ok (nodesOf nodes) subsectors (p .alone))
+
+  pub descent-holds : DescentHolds nodes subsectors
+  descent-holds p depth e x y =
+      let (off, is) = depth-verdict nodes e in
+      let f =
+      finds nodes subsectors x y (p .inRange) (nodesOf nodes) 0 (root (nodesOf nodes))
+      (root-node (nodesOf nodes)) off in
+      let none : 0 + f .passed ≡ f .passed = omega arith in
+      record {
+        subsector = f .subsector;
+        count = f .passed;
+        found = descent-root nodes subsectors x y (nodes-ok p) (subsectors-ok p) ∙ f .found ∙ ap (Found (f .subsector)) none;
+        walk = f .walk;
+        only = λ s k w. walk-only nodes x y (f .walk) w;
+        shallow = rw is at (f .low);
+      }

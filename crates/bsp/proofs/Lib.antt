@@ -1,0 +1,15 @@
+-- The laws of the node graph and of the descent. Assumes nothing.
+
+pub mod Choices
+pub mod Nodes
+pub mod Heights
+pub mod Verdict
+pub mod Coordinates
+pub mod Walks
+pub mod Descends
+pub mod Unmet
+pub mod Tall
+pub mod Searching
+pub mod Looks
+pub mod Words
+pub mod Examples

@@ -1,0 +1,19 @@
+-- `bsp::root_word` meets its contract: the last node, where there is one. Assumes nothing.
+use mathlib.Core.Path.{sym}
+use native.Mathlib.Omega.{arith}
+use Rattle.bsp.proofs.Nodes.{root-last}
+use borrow.Author.Needs.{needs}
+use Rattle.bsp.proofs.root_word.Statement.{statement}
+use Rattle.bsp.proofs.root_word.Tie as tie
+
+sub-result : tie.Need-sub-result
+sub-result c = search needs
+
+returns : tie.Need-returns
+returns c = search needs
+
+returns-2 : tie.Need-returns-2
+returns-2 c = sym (root-last (c .before .args .count) (omega arith))
+
+pub root-word-spec : {M : Type 1} → statement M
+root-word-spec = tie.close (tie.spec sub-result returns returns-2)

@@ -1,0 +1,10 @@
+-- `bsp::search::start` meets its contract, from those of the two functions that it calls. Assumes nothing.
+use borrow.Author.Needs.{needs}
+use Rattle.bsp.proofs.search.start.Statement.{statement}
+use Rattle.bsp.proofs.search.start.Tie as tie
+
+returns : tie.Need-returns
+returns c = cc
+
+pub start-spec : {M : Type 1} → statement M
+start-spec = tie.close (tie.spec (λ c κs. search needs) (λ c. search needs) (λ c κs. search needs) (λ c. search needs) returns)

@@ -1,0 +1,13 @@
+-- `record::linedef::Linedef::parse` meets its contract, field by field. Assumes nothing.
+use borrow.Author.Needs.{needs}
+use Rattle.record.proofs.linedef.Linedef.parse.Statement.{statement}
+use Rattle.record.proofs.linedef.Linedef.parse.Tie as tie
+
+returns : tie.Need-returns
+returns c = cc
+
+pub parse-spec : {M : Type 1} → statement M
+parse-spec =
+    tie.close
+    (tie.spec (λ c κs. search needs) (λ c κs. search needs) (λ c κs. search needs) (λ c κs. search needs)
+    (λ c κs. search needs) (λ c κs. search needs) (λ c κs. search needs) returns)
