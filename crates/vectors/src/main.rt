@@ -2,6 +2,7 @@
 mod files;
 mod named_records;
 mod nodes;
+mod pictures;
 mod print;
 mod records;
 
@@ -12,4 +13,5 @@ fn main() {
     records::run();
     named_records::run();
     nodes::run();
+    pictures::run();
 }

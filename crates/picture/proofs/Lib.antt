@@ -1,0 +1,8 @@
+-- The laws of pictures. Assumes nothing.
+
+pub mod Checks
+pub mod Posts
+pub mod Strokes
+pub mod Painting
+pub mod Planes
+pub mod Examples

@@ -1,0 +1,66 @@
+-- Which pictures are refused, and with what (01, "Pictures" and the numbers 50 to 55 of "Refusal numbers", in their
+-- order). Assumes nothing.
+use Prim.Native.Nat.{ℕ, zero, suc}
+use mathlib.Core.Bool.{Bool, _&&_, cond}
+use mathlib.Core.List.{List}
+use lib.Dec.{leb, eqb}
+use lib.ListN.{length}
+use Rattle.refusal.specs.declared.Refusal.the-variants.{PictureLength, PictureSize, PictureOffsets, PostBounds, PostRows, PixelBuffer}
+use Rattle.refusal.specs.declared.Check.{Check}
+use Rattle.refusal.specs.declared.Check.the-variants.{Pass, Refused}
+use Rattle.refusal.specs.Checks.{unless, _andThen_, each}
+use Rattle.picture.specs.declared.Judged.{Judged}
+use Rattle.picture.specs.declared.Judged.the-variants.{Accepted, Refused as NotAccepted}
+use Rattle.picture.specs.Layout.{widthOf, heightOf, areaOf, pictureOf, tableEnd, offsetOf, startAt, endRow, postEnd}
+
+-- width 1 to 320, height 1 to 200
+abbrev pub sizeOk : ℕ → ℕ → Bool
+sizeOk width height = (leb 1 width && leb width 320) && (leb 1 height && leb height 200)
+
+-- 50, 51 and 52
+abbrev pub headerCheck : List ℕ → Check
+headerCheck lump =
+    unless (leb 8 (length lump)) PictureLength
+    andThen unless (sizeOk (widthOf lump) (heightOf lump)) PictureSize
+    andThen unless (leb (tableEnd (widthOf lump)) (length lump)) PictureOffsets
+
+-- 55: buffers of `colours` and `covers` bytes, each at least width × height
+abbrev pub roomCheck : List ℕ → ℕ → ℕ → Check
+roomCheck lump colours covers = unless (leb (areaOf lump) colours && leb (areaOf lump) covers) PixelBuffer
+
+-- the post at `at` starts at `row` or below, where the post before it ended, and ends at the height or above it
+abbrev pub rowsOk : List ℕ → ℕ → ℕ → ℕ → Bool
+rowsOk lump height at row = leb row (startAt lump at) && leb (endRow lump at) height
+
+-- 53 and 54 over the posts from `at` on, downward, below a post that ended before `row`: the end byte, or a post inside
+-- the lump with good rows and then the next. A post takes bytes, so that as many posts as bytes are enough to look at.
+unfoldable pub postsCheck : ℕ → List ℕ → ℕ → ℕ → ℕ → ℕ → Check
+postsCheck zero lump height column at row = Refused (PostBounds column)
+postsCheck (suc most) lump height column at row =
+    cond (eqb (startAt lump at) 255) Pass
+    (unless (leb (postEnd lump at) (length lump)) (PostBounds column)
+    andThen unless (rowsOk lump height at row) (PostRows column)
+    andThen postsCheck most lump height column (postEnd lump at) (endRow lump at))
+
+-- 53 and 54 of one column: its offset, then its posts
+abbrev pub columnCheck : List ℕ → ℕ → ℕ → ℕ → Check
+columnCheck lump width height column =
+    unless (leb (tableEnd width) (offsetOf lump column)) (PostBounds column)
+    andThen postsCheck (length lump) lump height column (offsetOf lump column) 0
+
+-- 53 and 54, columns left to right
+abbrev pub columnsCheck : List ℕ → Check
+columnsCheck lump = each (columnCheck lump (widthOf lump) (heightOf lump)) (widthOf lump)
+
+-- a picture as such
+abbrev pub judgeCheck : List ℕ → Check
+judgeCheck lump = headerCheck lump andThen columnsCheck lump
+
+-- a picture to be painted into buffers of `colours` and `covers` bytes
+abbrev pub paintCheck : List ℕ → ℕ → ℕ → Check
+paintCheck lump colours covers = headerCheck lump andThen roomCheck lump colours covers andThen columnsCheck lump
+
+-- the answer: the header of a picture that passed, or the refusal
+abbrev pub answerOf : Check → List ℕ → Judged
+answerOf Pass lump = Accepted (pictureOf lump)
+answerOf (Refused r) lump = NotAccepted r
