@@ -34,7 +34,14 @@ add-result : tie.Need-add-result
 add-result c = search needs
 
 returns : tie.Need-returns
-returns c = cc
+returns c =
+    rw (
+      c .natural-at2 .ensures .0,
+      c .before .natural-at .ensures .0,
+      c .before .before .between-at3 .ensures,
+      c .before .before .before .between-at2 .ensures,
+      c .before .before .before .before .between-at .ensures,
+    )
 
 pub inside-ok-spec : {M : Type 1} → statement M
 inside-ok-spec =

@@ -18,7 +18,12 @@ add-result : tie.Need-add-result
 add-result c = search needs
 
 returns : tie.Need-returns
-returns c = cc
+returns c =
+    rw (
+      c .count-of .ensures .0,
+      c .before .start-of .ensures .0,
+      c .before .before .between-at .ensures,
+    )
 
 pub bounds-ok-spec : {M : Type 1} → statement M
 bounds-ok-spec =

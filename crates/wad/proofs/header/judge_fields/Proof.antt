@@ -27,7 +27,17 @@ then-requires-2 : tie.Need-then-requires-2
 then-requires-2 c κs = search needs
 
 returns : tie.Need-returns
-returns c = cc
+returns c =
+    rw (
+      c .then2 .ensures,
+      c .before .then .ensures,
+      c .before .before .pass-if3 .ensures,
+      c .before .before .before .bounds-ok .ensures,
+      c .before .before .before .before .pass-if2 .ensures,
+      c .before .before .before .before .before .between-at .ensures,
+      c .before .before .before .before .before .before .pass-if .ensures,
+      c .before .before .before .before .before .before .before .mark-ok .ensures,
+    )
 
 pub judge-fields-spec : {M : Type 1} → statement M
 judge-fields-spec =

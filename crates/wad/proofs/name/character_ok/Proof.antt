@@ -12,7 +12,12 @@ within-requires-3 : tie.Need-within-requires-3
 within-requires-3 c κs = search needs
 
 returns : tie.Need-returns
-returns c = cc
+returns c =
+    rw (
+      c .within3 .ensures,
+      c .before .within2 .ensures,
+      c .before .before .within .ensures,
+    )
 
 pub character-ok-spec : {M : Type 1} → statement M
 character-ok-spec =

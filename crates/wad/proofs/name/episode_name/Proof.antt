@@ -33,7 +33,11 @@ shared-slice-read-result-6 : tie.Need-shared-slice-read-result-6
 shared-slice-read-result-6 c = search needs
 
 returns : tie.Need-returns
-returns c = cc
+returns c =
+    rw (
+      c .before .before .before .before .within2 .ensures,
+      c .before .before .before .before .before .before .before .within .ensures,
+    )
 
 pub episode-name-spec : {M : Type 1} → statement M
 episode-name-spec =

@@ -6,7 +6,9 @@ character-ok-requires : tie.Need-character-ok-requires
 character-ok-requires c κs = search needs
 
 returns : tie.Need-returns
-returns c = cc
+returns c =
+    rw
+    (c .character-ok .ensures)
 
 pub follows-ok-spec : {M : Type 1} → statement M
 follows-ok-spec = tie.close (tie.spec character-ok-requires returns)

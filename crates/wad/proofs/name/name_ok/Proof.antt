@@ -72,7 +72,17 @@ follows-ok-requires-7 : tie.Need-follows-ok-requires-7
 follows-ok-requires-7 c κs = search needs
 
 returns : tie.Need-returns
-returns c = cc
+returns c =
+    rw (
+      c .follows-ok7 .ensures,
+      c .before .before .before .follows-ok6 .ensures,
+      c .before .before .before .before .before .before .follows-ok5 .ensures,
+      c .before .before .before .before .before .before .before .before .before .follows-ok4 .ensures,
+      c .before .before .before .before .before .before .before .before .before .before .before .before .follows-ok3 .ensures,
+      c .before .before .before .before .before .before .before .before .before .before .before .before .before .before .before .follows-ok2 .ensures,
+      c .before .before .before .before .before .before .before .before .before .before .before .before .before .before .before .before .before .before .follows-ok .ensures,
+      c .before .before .before .before .before .before .before .before .before .before .before .before .before .before .before .before .before .before .before .before .before .character-ok .ensures,
+    )
 
 pub name-ok-spec : {M : Type 1} → statement M
 name-ok-spec =

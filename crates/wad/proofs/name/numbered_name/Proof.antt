@@ -39,7 +39,11 @@ shared-slice-read-result-8 : tie.Need-shared-slice-read-result-8
 shared-slice-read-result-8 c = search needs
 
 returns : tie.Need-returns
-returns c = cc
+returns c =
+    rw (
+      c .before .before .before .before .before .within2 .ensures,
+      c .before .before .before .before .before .before .before .within .ensures,
+    )
 
 pub numbered-name-spec : {M : Type 1} → statement M
 numbered-name-spec =
