@@ -1,0 +1,112 @@
+-- Demand 2's frame and demand 3. The frame is a matter of rewriting, since the definitions take only what they may depend
+-- on; demand 3 is the node graph's theorems, carried to the verdict. Assumes nothing.
+use Prim.Native.Nat.{ℕ}
+use mathlib.Core.Bool.{Bool}
+use mathlib.Core.List.{List}
+use mathlib.Core.Path.{_≡_, refl, sym, ap, _∙_, subst}
+use native.Mathlib.Omega.{arith}
+use lib.IntN.{ℤ}
+use lib.ListN.{length}
+use Rattle.refusal.specs.declared.Refusal.the-variants.{NodeLoop, WorkWords}
+use Rattle.refusal.specs.declared.Check.{Check}
+use Rattle.refusal.specs.declared.Check.the-variants.{Pass, Refused}
+use Rattle.refusal.specs.Checks.{unless, _andThen_}
+use Rattle.refusal.proofs.Checks.{andThen-pass}
+use Rattle.wad.specs.declared.map.Marker.{Marker}
+use Rattle.wad.specs.declared.map.Marker.the-variants.{Entry, Refused as NoMarker}
+use Rattle.wad.specs.Header.{headOf, countOf as entriesOf}
+use Rattle.wad.specs.Entries.{directoryOf}
+use Rattle.wad.specs.Map.{markerBy, markerAnswer}
+use Rattle.bsp.specs.declared.Graph.{Graph}
+use Rattle.bsp.specs.declared.Graph.the-variants.{Loop as Looped, Depth as Deep}
+use Rattle.bsp.specs.Heights.{graphVerdict}
+use Rattle.bsp.specs.Routes.{Loop}
+use Rattle.bsp.proofs.Verdict.{verdict-holds}
+use Rattle.bsp.proofs.Descends.{descent-holds}
+use Rattle.level.specs.declared.Verdict.the-variants.{Accepted, Refused as NotAccepted}
+use Rattle.level.specs.Lumps.{mapLumps, lumpOf, countOf}
+use Rattle.level.specs.Run.{runCheck}
+use Rattle.level.specs.Sizes.{sizesCheck}
+use Rattle.level.specs.References.{referencesCheck}
+use Rattle.level.specs.Blockmap.{blockmapCheck}
+use Rattle.level.specs.Verdict.{lumpsCheck, mapCheck, graphAnswer, judged, checkAt, nodesAt, subsectorsAt, verdictBy, verdict}
+use Rattle.level.specs.Demands.{SameMap, SameShortage, Frame, Below31, Demand3}
+use Rattle.level.proofs.Passing.{passed}
+
+-- ---- demand 2
+
+module _ (wad wad′ name words words′ : List ℕ) (same : SameMap wad wad′ name) (short : SameShortage wad name words words′) where
+  same-marker : markerAnswer wad name ≡ markerAnswer wad′ name
+  same-marker = λ i. markerBy (same .long i) (same .header i) (same .directory i) name
+
+  same-by : (a : Marker) → markerAnswer wad name ≡ a → verdictBy wad words a ≡ verdictBy wad′ words′ a
+  same-by (NoMarker r) e = refl
+  same-by (Entry m) e =
+      let dir = directoryOf wad in
+      let lumps = mapLumps wad dir m in
+      let enough : Bool → Check = λ (b : Bool).
+      runCheck dir (entriesOf (headOf wad)) m
+      andThen (sizesCheck lumps andThen referencesCheck lumps andThen blockmapCheck (lumpOf lumps 9) (countOf lumps 1) andThen unless b WorkWords) in
+      ap (λ (b : Bool). judged (enough b) (graphVerdict (nodesAt wad m)) m) (short m e)
+      ∙ (λ i.
+      judged (mapCheck (same .directory i) (entriesOf (same .header i)) m (same .lumps m e i) (length words′)) (graphVerdict (lumpOf (same .lumps m e i) 6)) m)
+
+pub frame : Frame
+frame wad wad′ name words words′ same short =
+    same-by wad wad′ name words words′ same short (markerAnswer wad name) refl
+    ∙ ap (verdictBy wad′ words′) (same-marker wad wad′ name words words′ same short)
+
+-- ---- demand 3
+
+graph-loop : (g : Graph) (m : ℕ) → graphAnswer g m ≡ NotAccepted NodeLoop → g ≡ Looped
+graph-loop Looped m e = refl
+graph-loop (Deep d) m e = let z : _≡_ {A = ℕ} 0 1 = cc in absurd (omega arith)
+
+graph-deep : (g : Graph) (m : ℕ) {d m′ : ℕ} → graphAnswer g m ≡ Accepted d m′ → (g ≡ Deep d) × (m ≡ m′)
+graph-deep Looped m e = let z : _≡_ {A = ℕ} 0 1 = cc in absurd (omega arith)
+graph-deep (Deep d) m e = ((cc), (cc))
+
+judged-deep : (c : Check) (g : Graph) (m : ℕ) {d m′ : ℕ} → judged c g m ≡ Accepted d m′ → (c ≡ Pass) × ((g ≡ Deep d) × (m ≡ m′))
+judged-deep Pass g m e = (refl, graph-deep g m e)
+judged-deep (Refused r) g m e = let z : _≡_ {A = ℕ} 0 1 = cc in absurd (omega arith)
+
+module _ (wad name words : List ℕ) where
+  -- below 31 everything passes: the verdict is the graph's
+  graphs : (m : ℕ) → Below31 wad name words m → verdict wad name words ≡ graphAnswer (graphVerdict (nodesAt wad m)) m
+  graphs m b =
+      ap (verdictBy wad words) (b .marks) ∙ ap (λ (c : Check). judged c (graphVerdict (nodesAt wad m)) m) (b .passes)
+
+  record Known (d m : ℕ) : Type 0 where
+    below : Below31 wad name words m
+    deep : graphVerdict (nodesAt wad m) ≡ Deep d
+
+  known-by : (a : Marker) {d m : ℕ} → markerAnswer wad name ≡ a → verdictBy wad words a ≡ Accepted d m → Known d m
+  known-by (NoMarker r) e q = let z : _≡_ {A = ℕ} 0 1 = cc in absurd (omega arith)
+  known-by (Entry k) {d} {m} e q =
+      let p = judged-deep (checkAt wad k (length words)) (graphVerdict (nodesAt wad k)) k q in
+      subst (λ (n : ℕ). Known d n) (p .1 .1) (record { below = record { marks = e; passes = p .0 }; deep = p .1 .0 })
+
+  -- an accepted map passes every check below 31, and its graph has that depth
+  known : (d m : ℕ) → verdict wad name words ≡ Accepted d m → Known d m
+  known d m q = known-by (markerAnswer wad name) refl q
+
+  pub demand3 : Demand3 wad name words
+  demand3 =
+      record {
+        loop = λ (m : ℕ) (b : Below31 wad name words m).
+            let holds = verdict-holds (nodesAt wad m) in (
+              λ (e : verdict wad name words ≡ NotAccepted NodeLoop).
+                  holds .loop .0 (graph-loop (graphVerdict (nodesAt wad m)) m (sym (graphs m b) ∙ e)),
+              λ (l : Loop (nodesAt wad m)). graphs m b ∙ ap (λ (g : Graph). graphAnswer g m) (holds .loop .1 l),
+            );
+        noLoop = λ (m : ℕ) (b : Below31 wad name words m) (none : Loop (nodesAt wad m) → ⊥).
+            let d = verdict-holds (nodesAt wad m) .noLoop none in
+            (d .0, graphs m b ∙ ap (λ (g : Graph). graphAnswer g m) (d .1));
+        exact = λ (d m : ℕ) (e : verdict wad name words ≡ Accepted d m). verdict-holds (nodesAt wad m) .deep d (known d m e .deep);
+        descends = λ (d m : ℕ) (e : verdict wad name words ≡ Accepted d m) (x y : ℤ).
+            let k = known d m e in
+            let dir = directoryOf wad in
+            let lumps = mapLumps wad dir m in
+            let rest = andThen-pass (runCheck dir (entriesOf (headOf wad)) m) (lumpsCheck lumps (length words)) (k .below .passes) .1 in
+            descent-holds (nodesAt wad m) (subsectorsAt wad m) (passed lumps (length words) rest) d (k .deep) x y;
+      }

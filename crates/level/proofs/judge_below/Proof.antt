@@ -1,0 +1,39 @@
+-- `level::judge_below` meets its contract: the run of names, then the lumps. Assumes nothing.
+use mathlib.Core.Path.{sym, _∙_}
+use Rattle.refusal.proofs.Checks.{refused-then, pass-then}
+use native.Mathlib.Omega.{arith}
+use denote.Ref.{now}
+use Rattle.level.proofs.Passing.{run-long}
+use borrow.Author.Needs.{needs}
+use Rattle.level.proofs.judge_below.Statement.{statement}
+use Rattle.level.proofs.judge_below.Tie as tie
+
+judge-run-requires : tie.Need-judge-run-requires
+judge-run-requires c κs = search needs
+
+enum-known-r : tie.Need-enum-known-r
+enum-known-r c = search needs
+
+returns : tie.Need-returns
+returns c =
+    refused-then _ (sym (c .before .before .before .judge-run .ensures) ∙ c .before .r .given .1)
+
+enum-told : tie.Need-enum-told
+enum-told c = search needs
+
+check-lumps-requires : tie.Need-check-lumps-requires
+check-lumps-requires c κs =
+    let e = c .before .before .before .before .before in
+    let passes = sym (c .before .before .judge-run .ensures) ∙ c .enum-told .given .1 in
+    let long = run-long (now (e .args .dir)) (e .args .count) (e .args .marker) passes in
+    omega arith
+
+returns-2 : tie.Need-returns-2
+returns-2 c =
+    pass-then (sym (c .before .before .before .judge-run .ensures) ∙ c .before .enum-told .given .1)
+    (c .check-lumps .ensures)
+
+pub judge-below-spec : {M : Type 1} → statement M
+judge-below-spec =
+    tie.close
+    (tie.spec judge-run-requires enum-known-r returns enum-told check-lumps-requires returns-2)

@@ -1,0 +1,25 @@
+-- `level::lumps::check_nodes` meets its contract, from those of the functions that it calls. Assumes nothing.
+use borrow.Author.Needs.{needs}
+use Rattle.level.proofs.lumps.check_nodes.Statement.{statement}
+use Rattle.level.proofs.lumps.check_nodes.Tie as tie
+
+row-lump-requires : tie.Need-row-lump-requires
+row-lump-requires c κs = search needs
+
+row-count-requires : tie.Need-row-count-requires
+row-count-requires c κs = search needs
+
+judge-nodes-requires : tie.Need-judge-nodes-requires
+judge-nodes-requires c κs = search needs
+
+returns : tie.Need-returns
+returns c =
+    rw (
+      c .judge-nodes .ensures,
+      c .before .row-count .ensures,
+      c .before .before .row-lump .ensures,
+    )
+
+pub check-nodes-spec : {M : Type 1} → statement M
+check-nodes-spec =
+    tie.close (tie.spec row-lump-requires row-count-requires judge-nodes-requires returns)

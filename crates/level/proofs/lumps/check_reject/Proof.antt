@@ -1,0 +1,32 @@
+-- `level::lumps::check_reject` meets its contract, from those of the functions that it calls. Assumes nothing.
+use native.Mathlib.Omega.{arith}
+use denote.Ref.{now}
+use Rattle.level.specs.Lumps.{mapLumps}
+use Rattle.level.proofs.Passing.{count-most}
+use borrow.Author.Needs.{needs}
+use Rattle.level.proofs.lumps.check_reject.Statement.{statement}
+use Rattle.level.proofs.lumps.check_reject.Tie as tie
+
+row-lump-requires : tie.Need-row-lump-requires
+row-lump-requires c κs = search needs
+
+row-count-requires : tie.Need-row-count-requires
+row-count-requires c κs = search needs
+
+judge-reject-requires : tie.Need-judge-reject-requires
+judge-reject-requires c κs =
+    let e = c .before .before .before .before in
+    let lumps = mapLumps (now (e .args .wad)) (now (e .args .dir)) (e .args .marker) in
+    rw (c .row-count .ensures) (count-most lumps (e .pre .1) 7 (omega arith))
+
+returns : tie.Need-returns
+returns c =
+    rw (
+      c .judge-reject .ensures,
+      c .before .row-count .ensures,
+      c .before .before .row-lump .ensures,
+    )
+
+pub check-reject-spec : {M : Type 1} → statement M
+check-reject-spec =
+    tie.close (tie.spec row-lump-requires row-count-requires judge-reject-requires returns)

@@ -1,0 +1,16 @@
+-- `level::sizes::alone_ok` meets its contract, from that of `row_count`. Assumes nothing.
+use borrow.Author.Needs.{needs}
+use Rattle.level.proofs.sizes.alone_ok.Statement.{statement}
+use Rattle.level.proofs.sizes.alone_ok.Tie as tie
+
+row-count-requires : tie.Need-row-count-requires
+row-count-requires c κs = search needs
+
+row-count-requires-2 : tie.Need-row-count-requires-2
+row-count-requires-2 c κs = search needs
+
+returns : tie.Need-returns
+returns c = rw (c .row-count2 .ensures, c .before .row-count .ensures)
+
+pub alone-ok-spec : {M : Type 1} → statement M
+alone-ok-spec = tie.close (tie.spec row-count-requires row-count-requires-2 returns)

@@ -1,0 +1,59 @@
+-- BLOCKMAP: 28 (01, "References"; documents 001 and 003). A lump of 16-bit words: origin x and y, columns, rows, an offset for
+-- each cell, and lists of linedef numbers. Assumes nothing.
+use Prim.Native.Nat.{ℕ, zero, suc, _+_, _-_, _*_, _/_, _%_}
+use mathlib.Core.Bool.{Bool, true, false, _&&_, cond}
+use mathlib.Core.List.{List}
+use lib.Dec.{leb, ltb, eqb}
+use lib.ListN.{length}
+use Rattle.endian.specs.Unsigned.{u16At}
+use Rattle.refusal.specs.declared.Check.{Check}
+use Rattle.refusal.specs.declared.Refusal.the-variants.{Blockmap}
+use Rattle.refusal.specs.Checks.{unless, _andThen_, each}
+
+-- how many words the lump has
+abbrev pub wordsOf : List ℕ → ℕ
+wordsOf lump = length lump / 2
+
+-- word `i`
+abbrev pub wordAt : List ℕ → ℕ → ℕ
+wordAt lump i = u16At lump (2 * i)
+
+-- columns × rows
+abbrev pub cellsOf : List ℕ → ℕ
+cellsOf lump = wordAt lump 2 * wordAt lump 3
+
+-- 1 to 512 columns or rows
+abbrev pub sideOk : ℕ → Bool
+sideOk n = leb 1 n && leb n 512
+
+-- four words at least and whole ones, columns and rows in their limits, and all the cells' offsets inside the lump
+abbrev pub headerOk : List ℕ → Bool
+headerOk lump =
+    leb 8 (length lump) && eqb (length lump % 2) 0 && sideOk (wordAt lump 2) && sideOk (wordAt lump 3)
+    && leb (4 + cellsOf lump) (wordsOf lump)
+
+-- the mark that ends a list
+abbrev pub listEnd : ℕ
+listEnd = 65535
+
+-- the last `left` words of the lump begin with linedef numbers below `linedefs` and then the mark
+unfoldable pub endsWell : List ℕ → ℕ → ℕ → Bool
+endsWell lump linedefs zero = false
+endsWell lump linedefs (suc left) =
+    cond (eqb (wordAt lump (wordsOf lump - suc left)) listEnd)
+    true
+    (ltb (wordAt lump (wordsOf lump - suc left)) linedefs && endsWell lump linedefs left)
+
+-- a list at word `offset`: behind the offsets and inside the lump, a 0, then linedef numbers, then the mark
+abbrev pub listOk : List ℕ → ℕ → ℕ → Bool
+listOk lump linedefs offset =
+    leb (4 + cellsOf lump) offset && ltb offset (wordsOf lump) && eqb (wordAt lump offset) 0
+    && endsWell lump linedefs (wordsOf lump - (offset + 1))
+
+-- the list of cell `i`
+abbrev pub cellCheck : List ℕ → ℕ → ℕ → Check
+cellCheck lump linedefs i = unless (listOk lump linedefs (wordAt lump (4 + i))) (Blockmap i)
+
+-- the header, then the cells in turn
+abbrev pub blockmapCheck : List ℕ → ℕ → Check
+blockmapCheck lump linedefs = unless (headerOk lump) (Blockmap 0) andThen each (cellCheck lump linedefs) (cellsOf lump)

@@ -1,0 +1,63 @@
+-- Demand 2's frame and demand 3, of any file, any asked name, any work words and any point. The proofs are in
+-- proofs/Demands.antt. Assumes nothing.
+use Prim.Native.Nat.{ℕ, _*_}
+use mathlib.Core.List.{List}
+use mathlib.Core.Logic.{_↔_}
+use mathlib.Core.Path.{_≡_}
+use lib.Dec.{leb}
+use lib.IntN.{ℤ}
+use lib.ListN.{length}
+use Rattle.refusal.specs.declared.Check.the-variants.{Pass}
+use Rattle.refusal.specs.declared.Refusal.the-variants.{NodeLoop}
+use Rattle.wad.specs.declared.map.Marker.the-variants.{Entry}
+use Rattle.wad.specs.Header.{headOf}
+use Rattle.wad.specs.Entries.{directoryOf}
+use Rattle.wad.specs.Map.{markerAnswer}
+use Rattle.bsp.specs.Nodes.{nodesOf}
+use Rattle.bsp.specs.Routes.{Loop, Depth}
+use Rattle.bsp.specs.Promises.{Descends}
+use Rattle.level.specs.declared.Verdict.the-variants.{Accepted, Refused}
+use Rattle.level.specs.Lumps.{mapLumps}
+use Rattle.level.specs.Verdict.{checkAt, nodesAt, subsectorsAt, verdict}
+
+-- ---- demand 2: what alters a verdict
+
+-- two files of one length, with the same header and directory, and the same bytes in the ten lumps of the map `name`
+pub record SameMap (wad wad′ name : List ℕ) : Type 0 where
+  pub long : length wad ≡ length wad′
+  pub header : headOf wad ≡ headOf wad′
+  pub directory : directoryOf wad ≡ directoryOf wad′
+  pub lumps : (marker : ℕ) → markerAnswer wad name ≡ Entry marker
+      → mapLumps wad (directoryOf wad) marker ≡ mapLumps wad′ (directoryOf wad′) marker
+
+-- both lots of words are enough for the map's nodes, or both are too few
+abbrev pub SameShortage : List ℕ → List ℕ → List ℕ → List ℕ → Type 0
+SameShortage wad name words words′ =
+    (marker : ℕ) → markerAnswer wad name ≡ Entry marker
+    → leb (4 * nodesOf (nodesAt wad marker)) (length words) ≡ leb (4 * nodesOf (nodesAt wad marker)) (length words′)
+
+-- nothing else alters the verdict on a map
+abbrev pub Frame : Type 0
+Frame =
+    (wad wad′ name words words′ : List ℕ) → SameMap wad wad′ name → SameShortage wad name words words′
+    → verdict wad name words ≡ verdict wad′ name words′
+
+-- ---- demand 3: loop, depth and descent
+
+-- every check below 31 passes, of the map whose marker is entry `marker`
+pub record Below31 (wad name words : List ℕ) (marker : ℕ) : Type 0 where
+  pub marks : markerAnswer wad name ≡ Entry marker
+  pub passes : checkAt wad marker (length words) ≡ Pass
+
+pub record Demand3 (wad name words : List ℕ) : Type 0 where
+  -- where every check below 31 passes, the map is refused for a loop exactly if some list of as many choices as there are
+  -- nodes is still on a node
+  pub loop : (marker : ℕ) → Below31 wad name words marker
+      → verdict wad name words ≡ Refused NodeLoop ↔ Loop (nodesAt wad marker)
+  -- and otherwise it is accepted, with its exact depth
+  pub noLoop : (marker : ℕ) → Below31 wad name words marker → (Loop (nodesAt wad marker) → ⊥)
+      → (depth : ℕ) × (verdict wad name words ≡ Accepted depth marker)
+  pub exact : (depth marker : ℕ) → verdict wad name words ≡ Accepted depth marker → Depth (nodesAt wad marker) depth
+  -- on every accepted map every point's descent is not refused, and is its plain walk, with a count of at most the depth
+  pub descends : (depth marker : ℕ) → verdict wad name words ≡ Accepted depth marker
+      → (x y : ℤ) → Descends (nodesAt wad marker) (subsectorsAt wad marker) x y depth

@@ -1,0 +1,103 @@
+-- The verdict on a map, as the row of all checks in the order of 01's table, and what the lent work words hold afterwards.
+-- Assumes nothing.
+use Prim.Native.Nat.{ℕ, _*_}
+use mathlib.Core.List.{List}
+use mathlib.Core.Path.{_≡_}
+use lib.Dec.{leb}
+use lib.ListN.{length}
+use Rattle.refusal.specs.declared.Check.{Check}
+use Rattle.refusal.specs.declared.Check.the-variants.{Pass, Refused}
+use Rattle.refusal.specs.declared.Refusal.the-variants.{WorkWords, NodeLoop}
+use Rattle.refusal.specs.Checks.{unless, _andThen_}
+use Rattle.wad.specs.declared.map.Marker.{Marker}
+use Rattle.wad.specs.declared.map.Marker.the-variants.{Entry, Refused as NoMarker}
+use Rattle.wad.specs.Header.{headOf, countOf as entriesOf}
+use Rattle.wad.specs.Entries.{directoryOf}
+use Rattle.wad.specs.Map.{markerAnswer}
+use Rattle.bsp.specs.declared.Graph.{Graph}
+use Rattle.bsp.specs.declared.Graph.the-variants.{Loop, Depth}
+use Rattle.bsp.specs.Nodes.{nodesOf}
+use Rattle.bsp.specs.Heights.{graphVerdict}
+use Rattle.bsp.specs.Judging.{cleared}
+use Rattle.level.specs.declared.Verdict.{Verdict}
+use Rattle.level.specs.declared.Verdict.the-variants.{Accepted, Refused as NotAccepted}
+use Rattle.level.specs.Lumps.{mapLumps, lumpOf, countOf}
+use Rattle.level.specs.Run.{runCheck}
+use Rattle.level.specs.Sizes.{sizesCheck}
+use Rattle.level.specs.References.{referencesCheck}
+use Rattle.level.specs.Blockmap.{blockmapCheck}
+
+-- 30: fewer than four work words for each node
+abbrev pub workCheck : List (List ℕ) → ℕ → Check
+workCheck lumps words = unless (leb (4 * countOf lumps 6) words) WorkWords
+
+-- 20 to 30, which look at the map's own lumps and at how many words are lent
+abbrev pub lumpsCheck : List (List ℕ) → ℕ → Check
+lumpsCheck lumps words =
+    sizesCheck lumps
+    andThen referencesCheck lumps
+    andThen blockmapCheck (lumpOf lumps 9) (countOf lumps 1)
+    andThen workCheck lumps words
+
+-- 12 to 30, of the map whose marker is entry `marker` of a directory of `count` entries
+abbrev pub mapCheck : List ℕ → ℕ → ℕ → List (List ℕ) → ℕ → Check
+mapCheck dir count marker lumps words = runCheck dir count marker andThen lumpsCheck lumps words
+
+-- 31, or accepted
+abbrev pub graphAnswer : Graph → ℕ → Verdict
+graphAnswer Loop marker = NotAccepted NodeLoop
+graphAnswer (Depth depth) marker = Accepted depth marker
+
+-- the verdict by all checks below 31, and where they pass by the node graph
+abbrev pub judged : Check → Graph → ℕ → Verdict
+judged Pass graph marker = graphAnswer graph marker
+judged (Refused r) graph marker = NotAccepted r
+
+-- the words afterwards: as found below 31, else the first four for each node zero
+abbrev pub wordsBy : Check → List ℕ → List ℕ → List ℕ
+wordsBy Pass nodes words = cleared words (4 * nodesOf nodes)
+wordsBy (Refused r) nodes words = words
+
+-- the check of the map at entry `marker` of a file
+abbrev pub checkAt : List ℕ → ℕ → ℕ → Check
+checkAt wad marker words =
+    mapCheck (directoryOf wad) (entriesOf (headOf wad)) marker (mapLumps wad (directoryOf wad) marker) words
+
+-- its NODES lump, and its count of subsectors
+abbrev pub nodesAt : List ℕ → ℕ → List ℕ
+nodesAt wad marker = lumpOf (mapLumps wad (directoryOf wad) marker) 6
+
+abbrev pub subsectorsAt : List ℕ → ℕ → ℕ
+subsectorsAt wad marker = countOf (mapLumps wad (directoryOf wad) marker) 5
+
+-- 1 to 11 by the search for the marker, then the rest
+abbrev pub verdictBy : List ℕ → List ℕ → Marker → Verdict
+verdictBy wad words (Entry marker) = judged (checkAt wad marker (length words)) (graphVerdict (nodesAt wad marker)) marker
+verdictBy wad words (NoMarker r) = NotAccepted r
+
+abbrev pub wordsAfterBy : List ℕ → List ℕ → Marker → List ℕ
+wordsAfterBy wad words (Entry marker) = wordsBy (checkAt wad marker (length words)) (nodesAt wad marker) words
+wordsAfterBy wad words (NoMarker r) = words
+
+-- the verdict on the map of an asked name
+abbrev pub verdict : List ℕ → List ℕ → List ℕ → Verdict
+verdict wad name words = verdictBy wad words (markerAnswer wad name)
+
+-- what the lent words hold afterwards
+abbrev pub wordsAfter : List ℕ → List ℕ → List ℕ → List ℕ
+wordsAfter wad name words = wordsAfterBy wad words (markerAnswer wad name)
+
+-- what is promised of the map check: the verdict, and the words afterwards
+pub record Answered (wad name words : List ℕ) (answer : Verdict) (after : List ℕ) : Type 0 where
+  pub verdicts : answer ≡ verdict wad name words
+  pub leaves : after ≡ wordsAfter wad name words
+
+-- the same from a marker on
+pub record AnsweredAt (wad : List ℕ) (marker : ℕ) (words : List ℕ) (answer : Verdict) (after : List ℕ) : Type 0 where
+  pub verdicts : answer ≡ verdictBy wad words (Entry marker)
+  pub leaves : after ≡ wordsAfterBy wad words (Entry marker)
+
+-- and where only the node graph is left to judge
+pub record AnsweredBy (nodes : List ℕ) (marker : ℕ) (words : List ℕ) (answer : Verdict) (after : List ℕ) : Type 0 where
+  pub verdicts : answer ≡ graphAnswer (graphVerdict nodes) marker
+  pub leaves : after ≡ cleared words (4 * nodesOf nodes)

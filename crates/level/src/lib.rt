@@ -1,0 +1,74 @@
+// The map check: one map of a file, by its name, judged whole. The definitions are in specs/.
+mod blockmap;
+mod fields;
+mod lumps;
+mod references;
+mod run;
+mod sizes;
+
+ghost use mathlib.Core.Path.{_≡_};
+ghost use Prim.Native.Nat.{_*_, _/_, _<_, _≤_};
+ghost use lib.ListN.{length};
+ghost use Rattle.refusal.specs.declared.Check.the-variants.{Pass};
+ghost use Rattle.wad.specs.Header.{headOf, countOf};
+ghost use Rattle.wad.specs.Entries.{fileCheck};
+ghost use Rattle.bsp.specs.Nodes.{nodesOf};
+ghost use Rattle.bsp.specs.Judging.{Judgeable};
+ghost use Rattle.level.specs.Lumps.{mapLumps};
+ghost use Rattle.level.specs.Verdict.{mapCheck, Answered, AnsweredAt, AnsweredBy};
+use bsp::Graph;
+use refusal::Check;
+use refusal::Refusal;
+use wad::Marker;
+
+// What is answered of a map.
+pub enum Verdict {
+    // the largest number of nodes on a route, and the marker's entry number
+    Accepted { depth: usize, marker: usize },
+    Refused(Refusal),
+}
+
+// The map of the asked name, judged. The words are lent for the node graph: four for each node. A refusal below 31 leaves
+// them as found; 31 and acceptance leave the first four for each node zero and the others as found.
+pub fn judge_map(wad: &[u8], name: &[u8], words: &mut [u16]) -> Verdict
+    ensures { λ r. ⌜ Answered (now (wad .entry)) (now (name .entry)) (now (words .entry)) r (now (words .exit)) ⌝ }
+{
+    match wad::find_map(wad, name) {
+        Marker::Refused(r) => Verdict::Refused(r),
+        Marker::Entry(marker) => judge_at(wad, marker, words),
+    }
+}
+
+// The map at a marker that was found.
+fn judge_at(wad: &[u8], marker: usize, words: &mut [u16]) -> Verdict
+    requires { ⌜ (fileCheck (now wad) ≡ Pass) × (marker < countOf (headOf (now wad))) ⌝ }
+    ensures { λ r. ⌜ AnsweredAt (now (wad .entry)) marker (now (words .entry)) r (now (words .exit)) ⌝ }
+{
+    let dir = wad::directory_of(wad);
+    if let Check::Refused(r) = judge_below(wad, dir, wad::entry_count(wad), marker, words.len()) {
+        return Verdict::Refused(r);
+    }
+    judge_graph(sizes::row_lump(wad, dir, marker, 6), marker, words)
+}
+
+// 12 to 30.
+fn judge_below(wad: &[u8], dir: &[u8], count: usize, marker: usize, words: usize) -> Check
+    requires { ⌜ (16 * count ≤ length (now dir)) × (marker < count) ⌝ }
+    ensures { λ r. ⌜ r ≡ mapCheck (now (dir .entry)) count marker (mapLumps (now (wad .entry)) (now (dir .entry)) marker) words ⌝ }
+{
+    if let Check::Refused(r) = run::judge_run(dir, count, marker) {
+        return Check::Refused(r);
+    }
+    lumps::check_lumps(wad, dir, marker, words)
+}
+
+// 31, or accepted.
+fn judge_graph(nodes: &[u8], marker: usize, words: &mut [u16]) -> Verdict
+    requires { ⌜ Judgeable (now nodes) (nodesOf (now nodes)) (now words) ⌝ }
+    ensures { λ r. ⌜ AnsweredBy (now (nodes .entry)) marker (now (words .entry)) r (now (words .exit)) ⌝ }
+{
+    match bsp::judge(nodes, nodes.len() / 28, words) {
+        Graph::Loop => Verdict::Refused(Refusal::NodeLoop),
+        Graph::Depth(depth) => Verdict::Accepted { depth, marker },
+    }
+}

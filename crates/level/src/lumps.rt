@@ -1,0 +1,157 @@
+// The checks of a map's lumps, each on the parts of the file that the directory names: refusals 20 to 30 in their order.
+ghost use mathlib.Core.Path.{_≡_};
+ghost use Prim.Native.Nat.{_+_, _*_, _≤_};
+ghost use lib.ListN.{length};
+ghost use Rattle.refusal.specs.declared.Check.the-variants.{Pass};
+ghost use Rattle.refusal.specs.Checks.{each};
+ghost use Rattle.level.specs.Lumps.{mapLumps, lumpOf, countOf};
+ghost use Rattle.level.specs.Sizes.{sizeCheck, rejectCheck, sizesCheck};
+ghost use Rattle.level.specs.References.{linedefsCheck, sidedefsCheck, segsCheck, subsectorsCheck, nodesCheck, referencesCheck};
+ghost use Rattle.level.specs.Blockmap.{blockmapCheck};
+ghost use Rattle.level.specs.Verdict.{workCheck, lumpsCheck};
+use crate::blockmap::judge_blockmap;
+use crate::references::judge_linedefs;
+use crate::references::judge_nodes;
+use crate::references::judge_segs;
+use crate::references::judge_sidedefs;
+use crate::references::judge_subsectors;
+use crate::sizes::judge_reject;
+use crate::sizes::judge_sizes;
+use crate::sizes::row_count;
+use crate::sizes::row_lump;
+use refusal::Check;
+use refusal::Refusal;
+
+// 22. The counts have passed.
+fn check_reject(wad: &[u8], dir: &[u8], marker: usize) -> Check
+    requires { ⌜ 16 * (marker + 11) ≤ length (now dir) ⌝ }
+    requires { ⌜ each (sizeCheck (mapLumps (now wad) (now dir) marker)) 8 ≡ Pass ⌝ }
+    ensures { λ r. ⌜ r ≡ rejectCheck (mapLumps (now (wad .entry)) (now (dir .entry)) marker) ⌝ }
+{
+    judge_reject(
+        row_lump(wad, dir, marker, 8).len(),
+        row_count(wad, dir, marker, 7),
+    )
+}
+
+// 20 to 22.
+fn check_sizes(wad: &[u8], dir: &[u8], marker: usize) -> Check
+    requires { ⌜ 16 * (marker + 11) ≤ length (now dir) ⌝ }
+    ensures { λ r. ⌜ r ≡ sizesCheck (mapLumps (now (wad .entry)) (now (dir .entry)) marker) ⌝ }
+{
+    if let Check::Refused(r) = judge_sizes(wad, dir, marker) {
+        return Check::Refused(r);
+    }
+    check_reject(wad, dir, marker)
+}
+
+fn check_linedefs(wad: &[u8], dir: &[u8], marker: usize) -> Check
+    requires { ⌜ 16 * (marker + 11) ≤ length (now dir) ⌝ }
+    ensures { λ r. ⌜ r ≡ linedefsCheck (mapLumps (now (wad .entry)) (now (dir .entry)) marker) ⌝ }
+{
+    judge_linedefs(
+        row_lump(wad, dir, marker, 1),
+        row_count(wad, dir, marker, 3),
+        row_count(wad, dir, marker, 2),
+    )
+}
+
+fn check_sidedefs(wad: &[u8], dir: &[u8], marker: usize) -> Check
+    requires { ⌜ 16 * (marker + 11) ≤ length (now dir) ⌝ }
+    ensures { λ r. ⌜ r ≡ sidedefsCheck (mapLumps (now (wad .entry)) (now (dir .entry)) marker) ⌝ }
+{
+    judge_sidedefs(
+        row_lump(wad, dir, marker, 2),
+        row_count(wad, dir, marker, 7),
+    )
+}
+
+fn check_segs(wad: &[u8], dir: &[u8], marker: usize) -> Check
+    requires { ⌜ 16 * (marker + 11) ≤ length (now dir) ⌝ }
+    ensures { λ r. ⌜ r ≡ segsCheck (mapLumps (now (wad .entry)) (now (dir .entry)) marker) ⌝ }
+{
+    judge_segs(
+        row_lump(wad, dir, marker, 4),
+        row_lump(wad, dir, marker, 1),
+        row_count(wad, dir, marker, 3),
+    )
+}
+
+fn check_subsectors(wad: &[u8], dir: &[u8], marker: usize) -> Check
+    requires { ⌜ 16 * (marker + 11) ≤ length (now dir) ⌝ }
+    ensures { λ r. ⌜ r ≡ subsectorsCheck (mapLumps (now (wad .entry)) (now (dir .entry)) marker) ⌝ }
+{
+    judge_subsectors(
+        row_lump(wad, dir, marker, 5),
+        row_count(wad, dir, marker, 4),
+    )
+}
+
+fn check_nodes(wad: &[u8], dir: &[u8], marker: usize) -> Check
+    requires { ⌜ 16 * (marker + 11) ≤ length (now dir) ⌝ }
+    ensures { λ r. ⌜ r ≡ nodesCheck (mapLumps (now (wad .entry)) (now (dir .entry)) marker) ⌝ }
+{
+    judge_nodes(
+        row_lump(wad, dir, marker, 6),
+        row_count(wad, dir, marker, 5),
+    )
+}
+
+// 23 to 27.
+fn check_references(wad: &[u8], dir: &[u8], marker: usize) -> Check
+    requires { ⌜ 16 * (marker + 11) ≤ length (now dir) ⌝ }
+    ensures { λ r. ⌜ r ≡ referencesCheck (mapLumps (now (wad .entry)) (now (dir .entry)) marker) ⌝ }
+{
+    if let Check::Refused(r) = check_linedefs(wad, dir, marker) {
+        return Check::Refused(r);
+    }
+    if let Check::Refused(r) = check_sidedefs(wad, dir, marker) {
+        return Check::Refused(r);
+    }
+    if let Check::Refused(r) = check_segs(wad, dir, marker) {
+        return Check::Refused(r);
+    }
+    if let Check::Refused(r) = check_subsectors(wad, dir, marker) {
+        return Check::Refused(r);
+    }
+    check_nodes(wad, dir, marker)
+}
+
+// 28.
+fn check_blockmap(wad: &[u8], dir: &[u8], marker: usize) -> Check
+    requires { ⌜ 16 * (marker + 11) ≤ length (now dir) ⌝ }
+    ensures { λ r. ⌜ r ≡ blockmapCheck (lumpOf (mapLumps (now (wad .entry)) (now (dir .entry)) marker) 9) (countOf (mapLumps (now (wad .entry)) (now (dir .entry)) marker) 1) ⌝ }
+{
+    judge_blockmap(
+        row_lump(wad, dir, marker, 9),
+        row_count(wad, dir, marker, 1),
+    )
+}
+
+// 30. A quarter of the words, so that no product can wrap.
+fn check_work(wad: &[u8], dir: &[u8], marker: usize, words: usize) -> Check
+    requires { ⌜ 16 * (marker + 11) ≤ length (now dir) ⌝ }
+    ensures { λ r. ⌜ r ≡ workCheck (mapLumps (now (wad .entry)) (now (dir .entry)) marker) words ⌝ }
+{
+    refusal::pass_if(
+        row_count(wad, dir, marker, 6) <= words / 4,
+        Refusal::WorkWords,
+    )
+}
+
+// 20 to 30.
+pub fn check_lumps(wad: &[u8], dir: &[u8], marker: usize, words: usize) -> Check
+    requires { ⌜ 16 * (marker + 11) ≤ length (now dir) ⌝ }
+    ensures { λ r. ⌜ r ≡ lumpsCheck (mapLumps (now (wad .entry)) (now (dir .entry)) marker) words ⌝ }
+{
+    if let Check::Refused(r) = check_sizes(wad, dir, marker) {
+        return Check::Refused(r);
+    }
+    if let Check::Refused(r) = check_references(wad, dir, marker) {
+        return Check::Refused(r);
+    }
+    if let Check::Refused(r) = check_blockmap(wad, dir, marker) {
+        return Check::Refused(r);
+    }
+    check_work(wad, dir, marker, words)
+}
