@@ -12,6 +12,7 @@ use refusal::Check;
 use refusal::Refusal;
 
 // A picture's header: its size in pixels, and the offsets of its origin.
+#[repr(C)]
 pub struct Picture {
     pub width: usize,
     pub height: usize,

@@ -9,6 +9,7 @@ use refusal::Check;
 // As a sidedef's number: none.
 pub const NO_SIDEDEF: u16 = 65535;
 
+#[repr(C)]
 pub struct Linedef {
     // numbers of vertices
     pub start: u16,

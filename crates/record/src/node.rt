@@ -7,6 +7,7 @@ ghost use Rattle.record.specs.Nodes.{fourAt, putFour, nodeOf, nodeBytes,
 use crate::part;
 use refusal::Check;
 
+#[repr(C)]
 pub struct Node {
     // a point of the line, and its direction
     pub x: i16,

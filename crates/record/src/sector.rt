@@ -6,6 +6,7 @@ ghost use Rattle.record.specs.Sectors.{sectorOf, sectorBytes, sectorAt};
 use crate::part;
 use refusal::Check;
 
+#[repr(C)]
 pub struct Sector {
     // heights
     pub floor: i16,

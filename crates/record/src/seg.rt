@@ -6,6 +6,7 @@ ghost use Rattle.record.specs.Segs.{segOf, segBytes, segAt};
 use crate::part;
 use refusal::Check;
 
+#[repr(C)]
 pub struct Seg {
     // numbers of vertices
     pub start: u16,

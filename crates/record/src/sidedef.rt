@@ -6,6 +6,7 @@ ghost use Rattle.record.specs.Sidedefs.{sidedefOf, sidedefBytes, sidedef
 use crate::part;
 use refusal::Check;
 
+#[repr(C)]
 pub struct Sidedef {
     pub x_offset: i16,
     pub y_offset: i16,

@@ -6,6 +6,7 @@ ghost use Rattle.record.specs.Subsectors.{subsectorOf, subsectorBytes, s
 use crate::part;
 use refusal::Check;
 
+#[repr(C)]
 pub struct Subsector {
     // how many segs, and the number of the first
     pub number: u16,

@@ -6,6 +6,7 @@ ghost use Rattle.record.specs.Things.{thingOf, thingBytes, thingAt};
 use crate::part;
 use refusal::Check;
 
+#[repr(C)]
 pub struct Thing {
     pub x: i16,
     pub y: i16,

@@ -6,6 +6,7 @@ ghost use Rattle.record.specs.Vertexes.{vertexOf, vertexBytes, vertexAt}
 use crate::part;
 use refusal::Check;
 
+#[repr(C)]
 pub struct Vertex {
     pub x: i16,
     pub y: i16,

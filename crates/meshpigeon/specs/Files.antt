@@ -1,0 +1,26 @@
+-- Answers on a file's directory. Assumes nothing.
+use Rattle.wad.specs.declared.entries.Directory.{Directory}
+use Rattle.wad.specs.declared.entries.Directory.the-variants.{Listed, Refused as NotListed}
+use Rattle.wad.specs.declared.lumps.Entry.{Entry}
+use Rattle.wad.specs.declared.lumps.Entry.the-variants.{At, Refused as NotThere}
+use Rattle.wad.specs.declared.map.Marker.{Marker}
+use Rattle.wad.specs.declared.map.Marker.the-variants.{Entry as Marked, Refused as NoMarker}
+use Rattle.meshpigeon.specs.declared.files.DirectoryAnswer.{DirectoryAnswer}
+use Rattle.meshpigeon.specs.declared.files.EntryAnswer.{EntryAnswer}
+use Rattle.meshpigeon.specs.declared.files.MarkerAnswer.{MarkerAnswer}
+use Rattle.meshpigeon.specs.Status.{accepted, refused}
+
+-- count of lumps and start of the directory
+abbrev pub directoryOut : Directory → DirectoryAnswer
+directoryOut (Listed count start) = record { status = accepted; count = count; start = start }
+directoryOut (NotListed r) = record { status = refused r; count = 0; start = 0 }
+
+-- where an entry's part lies, and its size
+abbrev pub entryOut : Entry → EntryAnswer
+entryOut (At offset size) = record { status = accepted; offset = offset; size = size }
+entryOut (NotThere r) = record { status = refused r; offset = 0; size = 0 }
+
+-- a map's marker
+abbrev pub markerOut : Marker → MarkerAnswer
+markerOut (Marked marker) = record { status = accepted; marker = marker }
+markerOut (NoMarker r) = record { status = refused r; marker = 0 }

@@ -1,0 +1,7 @@
+-- The answers that C and Rust are given, by the definitions of the layers below. Assumes nothing.
+
+pub mod Status
+pub mod Files
+pub mod Maps
+pub mod Pictures
+pub mod Records

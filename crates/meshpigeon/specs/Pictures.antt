@@ -1,0 +1,28 @@
+-- Answers on a picture. Assumes nothing.
+use Prim.Native.Nat.{ℕ}
+use mathlib.Core.List.{List}
+use mathlib.Core.Path.{_≡_}
+use lib.IntN.{pos}
+use lib.ListN.{length}
+use Rattle.picture.specs.declared.Picture.{Picture}
+use Rattle.picture.specs.declared.Judged.{Judged}
+use Rattle.picture.specs.declared.Judged.the-variants.{Accepted, Refused as NotAccepted}
+use Rattle.picture.specs.Judging.{paintCheck, answerOf}
+use Rattle.picture.specs.Pixels.{planeOf, byColour, byCover, bufferAfter}
+use Rattle.meshpigeon.specs.declared.pictures.PictureAnswer.{PictureAnswer}
+use Rattle.meshpigeon.specs.Status.{accepted, refused}
+
+-- a header of zeros
+abbrev pub noPicture : Picture
+noPicture = record { width = 0; height = 0; left = pos 0; top = pos 0 }
+
+-- the header of an accepted picture
+abbrev pub pictureOut : Judged → PictureAnswer
+pictureOut (Accepted picture) = record { status = accepted; picture = picture }
+pictureOut (NotAccepted r) = record { status = refused r; picture = noPicture }
+
+-- the painting entry's answer, and both buffers afterwards
+pub record PicturePainted (lump colour cover : List ℕ) (answer : PictureAnswer) (colour′ cover′ : List ℕ) : Type 0 where
+  pub answers : answer ≡ pictureOut (answerOf (paintCheck lump (length colour) (length cover)) lump)
+  pub colours : colour′ ≡ bufferAfter (paintCheck lump (length colour) (length cover)) (planeOf byColour lump) colour
+  pub covered : cover′ ≡ bufferAfter (paintCheck lump (length colour) (length cover)) (planeOf byCover lump) cover

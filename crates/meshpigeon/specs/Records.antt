@@ -1,0 +1,53 @@
+-- Answers on a map's records. Assumes nothing.
+use Prim.Native.Nat.{ℕ}
+use mathlib.Core.List.{List}
+use mathlib.Core.Path.{_≡_}
+use Rattle.record.specs.Records.{insideCheck, replaced}
+use Rattle.record.specs.declared.thing.ThingRead.{ThingRead}
+use Rattle.meshpigeon.specs.declared.records.ThingAnswer.{ThingAnswer}
+use Rattle.record.specs.declared.linedef.LinedefRead.{LinedefRead}
+use Rattle.meshpigeon.specs.declared.records.LinedefAnswer.{LinedefAnswer}
+use Rattle.record.specs.declared.sidedef.SidedefRead.{SidedefRead}
+use Rattle.meshpigeon.specs.declared.records.SidedefAnswer.{SidedefAnswer}
+use Rattle.record.specs.declared.vertex.VertexRead.{VertexRead}
+use Rattle.meshpigeon.specs.declared.records.VertexAnswer.{VertexAnswer}
+use Rattle.record.specs.declared.seg.SegRead.{SegRead}
+use Rattle.meshpigeon.specs.declared.records.SegAnswer.{SegAnswer}
+use Rattle.record.specs.declared.subsector.SubsectorRead.{SubsectorRead}
+use Rattle.meshpigeon.specs.declared.records.SubsectorAnswer.{SubsectorAnswer}
+use Rattle.record.specs.declared.node.NodeRead.{NodeRead}
+use Rattle.meshpigeon.specs.declared.records.NodeAnswer.{NodeAnswer}
+use Rattle.record.specs.declared.sector.SectorRead.{SectorRead}
+use Rattle.meshpigeon.specs.declared.records.SectorAnswer.{SectorAnswer}
+use Rattle.meshpigeon.specs.declared.status.Status.{Status}
+use Rattle.meshpigeon.specs.Status.{statusOf}
+
+-- what a write of `bytes` as record `index` answers, and what it leaves of the lump
+pub record RecordWritten (lump : List ℕ) (size index : ℕ) (bytes : List ℕ) (answer : Status) (left : List ℕ) : Type 0 where
+  pub answers : answer ≡ statusOf (insideCheck lump size index)
+  pub leaves : left ≡ replaced lump size index bytes
+
+-- a record that was read, all 0 where refused
+abbrev pub thingOut : ThingRead → ThingAnswer
+thingOut r = record { status = statusOf (r .check); thing = r .thing }
+
+abbrev pub linedefOut : LinedefRead → LinedefAnswer
+linedefOut r = record { status = statusOf (r .check); linedef = r .linedef }
+
+abbrev pub sidedefOut : SidedefRead → SidedefAnswer
+sidedefOut r = record { status = statusOf (r .check); sidedef = r .sidedef }
+
+abbrev pub vertexOut : VertexRead → VertexAnswer
+vertexOut r = record { status = statusOf (r .check); vertex = r .vertex }
+
+abbrev pub segOut : SegRead → SegAnswer
+segOut r = record { status = statusOf (r .check); seg = r .seg }
+
+abbrev pub subsectorOut : SubsectorRead → SubsectorAnswer
+subsectorOut r = record { status = statusOf (r .check); subsector = r .subsector }
+
+abbrev pub nodeOut : NodeRead → NodeAnswer
+nodeOut r = record { status = statusOf (r .check); node = r .node }
+
+abbrev pub sectorOut : SectorRead → SectorAnswer
+sectorOut r = record { status = statusOf (r .check); sector = r .sector }

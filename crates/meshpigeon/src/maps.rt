@@ -1,0 +1,66 @@
+// A map, and a point's descent.
+ghost use mathlib.Core.Path.{_≡_};
+ghost use Rattle.bsp.specs.Walks.{descent};
+ghost use Rattle.meshpigeon.specs.Maps.{MapJudged, descentOut};
+use crate::status::Status;
+use crate::status::nothing_refused;
+use crate::status::refused;
+use bsp::Descent;
+use level::Verdict;
+
+#[repr(C)]
+pub struct MapAnswer {
+    pub status: Status,
+    pub depth: usize,
+    pub marker: usize,
+}
+
+#[repr(C)]
+pub struct DescentAnswer {
+    pub status: Status,
+    pub subsector: usize,
+    pub count: usize,
+}
+
+// The map of a name of eight bytes, judged over lent words, four for each node.
+#[no_mangle]
+pub extern "C" fn meshpigeon_judge_map(wad: &[u8], name: &[u8], words: &mut [u16]) -> MapAnswer
+    ensures { λ r. ⌜ MapJudged (now (wad .entry)) (now (name .entry)) (now (words .entry)) r (now (words .exit)) ⌝ }
+{
+    match level::judge_map(wad, name, words) {
+        Verdict::Accepted { depth, marker } => MapAnswer {
+            status: nothing_refused(),
+            depth,
+            marker,
+        },
+        Verdict::Refused(r) => MapAnswer {
+            status: refused(r),
+            depth: 0,
+            marker: 0,
+        },
+    }
+}
+
+// The subsector of a point, over any NODES bytes and any count of subsectors, 40 to 43.
+#[no_mangle]
+pub extern "C" fn meshpigeon_descend(
+    nodes: &[u8],
+    subsectors: usize,
+    x: i16,
+    y: i16,
+) -> DescentAnswer
+    ensures { λ r. ⌜ r ≡ descentOut (descent (now (nodes .entry)) subsectors x y) ⌝ }
+{
+    match bsp::descend(nodes, subsectors, x, y) {
+        Descent::Found { subsector, count } => DescentAnswer {
+            status: nothing_refused(),
+            subsector,
+            count,
+        },
+        Descent::Refused(r) => DescentAnswer {
+            status: refused(r),
+            subsector: 0,
+            count: 0,
+        },
+    }
+}

@@ -1,0 +1,55 @@
+// Pictures.
+ghost use mathlib.Core.Path.{_≡_};
+ghost use Rattle.picture.specs.Judging.{judgeCheck, answerOf};
+ghost use Rattle.meshpigeon.specs.Pictures.{pictureOut, PicturePainted};
+use crate::status::Status;
+use crate::status::nothing_refused;
+use crate::status::refused;
+use picture::Judged;
+use picture::Picture;
+
+#[repr(C)]
+pub struct PictureAnswer {
+    pub status: Status,
+    pub picture: Picture,
+}
+
+fn answer(judged: Judged) -> PictureAnswer
+    ensures { λ r. ⌜ r ≡ pictureOut judged ⌝ }
+{
+    match judged {
+        Judged::Accepted(picture) => PictureAnswer {
+            status: nothing_refused(),
+            picture,
+        },
+        Judged::Refused(r) => PictureAnswer {
+            status: refused(r),
+            picture: Picture {
+                width: 0,
+                height: 0,
+                left: 0,
+                top: 0,
+            },
+        },
+    }
+}
+
+// A picture judged, 50 to 54.
+#[no_mangle]
+pub extern "C" fn meshpigeon_judge_picture(lump: &[u8]) -> PictureAnswer
+    ensures { λ r. ⌜ r ≡ pictureOut (answerOf (judgeCheck (now (lump .entry))) (now (lump .entry))) ⌝ }
+{
+    answer(picture::judge(lump))
+}
+
+// A picture painted into two lent buffers, 50 to 55.
+#[no_mangle]
+pub extern "C" fn meshpigeon_paint_picture(
+    lump: &[u8],
+    colour: &mut [u8],
+    cover: &mut [u8],
+) -> PictureAnswer
+    ensures { λ r. ⌜ PicturePainted (now (lump .entry)) (now (colour .entry)) (now (cover .entry)) r (now (colour .exit)) (now (cover .exit)) ⌝ }
+{
+    answer(picture::paint(lump, colour, cover))
+}
