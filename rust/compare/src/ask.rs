@@ -1,0 +1,144 @@
+//! One case asked of the library, and of the reader.
+
+use generator::{Case, Kind, Question, Record};
+
+/// An answer with all its effects.
+#[derive(Clone, Debug, PartialEq, Eq)]
+pub struct Outcome {
+    /// The answer's numbers, or the refusal's number, place and record.
+    pub numbers: Result<Vec<i64>, (u32, usize, usize)>,
+    /// The bytes of the entry that was asked for.
+    pub part: Vec<u8>,
+    /// The work words afterwards.
+    pub words: Vec<u16>,
+    /// The colour buffer afterwards, or the lump that was written.
+    pub first: Vec<u8>,
+    /// The cover buffer afterwards.
+    pub second: Vec<u8>,
+}
+
+impl Outcome {
+    fn new(numbers: Result<Vec<i64>, (u32, usize, usize)>) -> Self {
+        Self { numbers, part: Vec::new(), words: Vec::new(), first: Vec::new(), second: Vec::new() }
+    }
+}
+
+macro_rules! asker {
+    ($(#[$about:meta])* $name:ident, $side:ident, $judge_map:ident, $part:expr) => {
+        $(#[$about])*
+        pub fn $name(case: &Case) -> Outcome {
+            let refused = |it: $side::Refusal| (it.number, it.place, it.record);
+            let bytes = &case.bytes;
+            match &case.question {
+                Question::Directory => {
+                    Outcome::new($side::directory(bytes).map(|it| vec![it.count as i64, it.start as i64]).map_err(refused))
+                }
+                Question::Entry { number } => {
+                    let place = $side::entry(bytes, *number);
+                    let mut outcome = Outcome::new(place.map(|it| vec![it.0 as i64, it.1 as i64]).map_err(refused));
+                    outcome.part = $part(bytes, *number);
+                    outcome
+                }
+                Question::FindMap { name } => Outcome::new($side::find_map(bytes, name).map(|it| vec![it as i64]).map_err(refused)),
+                Question::JudgeMap { name, words } => {
+                    let mut words = words.clone();
+                    let judged = $side::$judge_map(bytes, name, &mut words);
+                    let mut outcome = Outcome::new(judged.map(|it| vec![it.depth as i64, it.marker as i64]).map_err(refused));
+                    outcome.words = words;
+                    outcome
+                }
+                Question::Descend { subsectors, x, y } => {
+                    let found = $side::descend(bytes, *subsectors, *x, *y);
+                    Outcome::new(found.map(|it| vec![it.subsector as i64, it.count as i64]).map_err(refused))
+                }
+                Question::JudgePicture => Outcome::new($side::judge_picture(bytes).map(|it| picture!(it)).map_err(refused)),
+                Question::PaintPicture { colour, cover } => {
+                    let (mut colour, mut cover) = (colour.clone(), cover.clone());
+                    let painted = $side::paint_picture(bytes, &mut colour, &mut cover);
+                    let mut outcome = Outcome::new(painted.map(|it| picture!(it)).map_err(refused));
+                    (outcome.first, outcome.second) = (colour, cover);
+                    outcome
+                }
+                Question::ReadRecord { kind, index } => Outcome::new(read!($side, *kind, bytes, *index).map_err(refused)),
+                Question::WriteRecord { record, index } => {
+                    let mut lump = bytes.clone();
+                    let written = write!($side, *record, &mut lump, *index).map_err(refused);
+                    let mut outcome = Outcome::new(written.map(|()| Vec::new()));
+                    outcome.first = lump;
+                    outcome
+                }
+            }
+        }
+    };
+}
+
+macro_rules! picture {
+    ($it:expr) => {
+        vec![$it.width as i64, $it.height as i64, $it.left.into(), $it.top.into()]
+    };
+}
+
+/// A record's fields in order, as numbers.
+macro_rules! fields {
+    ($it:expr; $($field:ident)*; $($list:ident)*) => {{
+        let numbers: Vec<i64> = vec![$($it.$field.into()),*];
+        let lists: Vec<Vec<i64>> = vec![$($it.$list.iter().map(|&part| i64::from(part)).collect()),*];
+        [numbers, lists.concat()].concat()
+    }};
+}
+
+macro_rules! read {
+    ($side:ident, $kind:expr, $lump:expr, $index:expr) => {
+        match $kind {
+            Kind::Thing => $side::Thing::read($lump, $index).map(|it| fields!(it; x y angle kind flags;)),
+            Kind::Linedef => {
+                $side::Linedef::read($lump, $index).map(|it| fields!(it; start end flags special tag right left;))
+            }
+            Kind::Sidedef => {
+                $side::Sidedef::read($lump, $index).map(|it| fields!(it; x_offset y_offset sector; upper lower middle))
+            }
+            Kind::Vertex => $side::Vertex::read($lump, $index).map(|it| fields!(it; x y;)),
+            Kind::Seg => $side::Seg::read($lump, $index).map(|it| fields!(it; start end angle linedef direction offset;)),
+            Kind::Subsector => $side::Subsector::read($lump, $index).map(|it| fields!(it; number first;)),
+            Kind::Node => $side::Node::read($lump, $index).map(|it| fields!(it; x y dx dy right left; right_box left_box)),
+            Kind::Sector => {
+                $side::Sector::read($lump, $index)
+                    .map(|it| fields!(it; floor ceiling light special tag; floor_flat ceiling_flat))
+            }
+        }
+    };
+}
+
+/// The same record, as the other side's type.
+macro_rules! same {
+    ($side:ident, $kind:ident, $it:expr; $($field:ident)*) => {
+        $side::$kind { $($field: $it.$field),* }
+    };
+}
+
+macro_rules! write {
+    ($side:ident, $record:expr, $lump:expr, $index:expr) => {
+        match $record {
+            Record::Thing(it) => same!($side, Thing, it; x y angle kind flags).write($lump, $index),
+            Record::Linedef(it) => same!($side, Linedef, it; start end flags special tag right left).write($lump, $index),
+            Record::Sidedef(it) => same!($side, Sidedef, it; x_offset y_offset upper lower middle sector).write($lump, $index),
+            Record::Vertex(it) => same!($side, Vertex, it; x y).write($lump, $index),
+            Record::Seg(it) => same!($side, Seg, it; start end angle linedef direction offset).write($lump, $index),
+            Record::Subsector(it) => same!($side, Subsector, it; number first).write($lump, $index),
+            Record::Node(it) => same!($side, Node, it; x y dx dy right_box left_box right left).write($lump, $index),
+            Record::Sector(it) => {
+                same!($side, Sector, it; floor ceiling floor_flat ceiling_flat light special tag).write($lump, $index)
+            }
+        }
+    };
+}
+
+asker! {
+    /// Asks the proved library.
+    ask_library, meshpigeon, judge_map_with, |bytes, number| meshpigeon::lump(bytes, number).unwrap_or_default().to_vec()
+}
+
+asker! {
+    /// Asks the independent reader.
+    ask_reader, reader, judge_map, |bytes, number| reader::lump(bytes, number).to_vec()
+}

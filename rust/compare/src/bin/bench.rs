@@ -1,0 +1,203 @@
+//! Library and reader side by side on the same inputs, in one run: `cargo run --release -p compare --bin bench`.
+//!
+//! Prints a table in Markdown and writes a plot (SVG) to the file that is named as the only argument.
+//! A time is the best of several runs; a ratio below 1 says that the library is the faster.
+
+use std::fmt::Write as _;
+use std::hint::black_box;
+use std::time::{Duration, Instant};
+
+use generator as given;
+
+/// One input with both sides' way to judge it.
+struct Input {
+    name: &'static str,
+    /// The input at a size of 1, 2 or 4 quarters of the whole, for the growth.
+    sized: fn(usize) -> Vec<u8>,
+    library: fn(&[u8]) -> usize,
+    reader: fn(&[u8]) -> usize,
+}
+
+/// What was measured of an input.
+struct Row {
+    name: &'static str,
+    bytes: usize,
+    library: Duration,
+    reader: Duration,
+    sum: Duration,
+    growth: [f64; 2],
+}
+
+fn library_map(wad: &[u8]) -> usize {
+    let mut words = vec![0; meshpigeon::MOST_WORDS];
+    meshpigeon::judge_map_with(wad, &given::MAP_NAME, &mut words).expect("a good map").depth
+}
+
+fn reader_map(wad: &[u8]) -> usize {
+    let mut words = vec![0; meshpigeon::MOST_WORDS];
+    reader::judge_map(wad, &given::MAP_NAME, &mut words).expect("a good map").depth
+}
+
+fn library_directory(wad: &[u8]) -> usize {
+    meshpigeon::directory(wad).expect("a good directory").count
+}
+
+fn reader_directory(wad: &[u8]) -> usize {
+    reader::directory(wad).expect("a good directory").count
+}
+
+fn library_picture(lump: &[u8]) -> usize {
+    let (mut colour, mut cover) = (vec![0; 64_000], vec![0; 64_000]);
+    meshpigeon::paint_picture(lump, &mut colour, &mut cover).expect("a good picture").width
+}
+
+fn reader_picture(lump: &[u8]) -> usize {
+    let (mut colour, mut cover) = (vec![0; 64_000], vec![0; 64_000]);
+    reader::paint_picture(lump, &mut colour, &mut cover).expect("a good picture").width
+}
+
+/// The points of the million descents.
+fn points() -> impl Iterator<Item = (i16, i16)> {
+    (0..1_000_000_u32).map(|n| ((n.wrapping_mul(40_503) >> 8) as i16, (n.wrapping_mul(2_654_435_761) >> 16) as i16))
+}
+
+fn library_descents(nodes: &[u8]) -> usize {
+    points().map(|(x, y)| meshpigeon::descend(nodes, 32_767, x, y).map_or(0, |it| it.count)).sum()
+}
+
+fn reader_descents(nodes: &[u8]) -> usize {
+    points().map(|(x, y)| reader::descend(nodes, 32_767, x, y).map_or(0, |it| it.count)).sum()
+}
+
+fn inputs() -> Vec<Input> {
+    vec![
+        Input { name: "map of ordinary size", sized: |n| given::map_of(n), library: library_map, reader: reader_map },
+        Input {
+            name: "largest map in 16 MiB",
+            sized: |n| if n == 4 { given::largest_map() } else { given::map_of(16 * n) },
+            library: library_map,
+            reader: reader_map,
+        },
+        Input {
+            name: "4,096 directory entries",
+            sized: |n| given::directory_of(1_024 * n),
+            library: library_directory,
+            reader: reader_directory,
+        },
+        Input {
+            name: "chain of 32,767 nodes",
+            sized: |n| given::chain(32_767 * n / 4),
+            library: library_map,
+            reader: reader_map,
+        },
+        Input {
+            name: "picture of 320 × 200",
+            sized: |n| given::picture(320, 50 * n as u16),
+            library: library_picture,
+            reader: reader_picture,
+        },
+        Input {
+            name: "a million descents",
+            sized: |n| given::halving_nodes([0, 12, 13, 13, 14][n]),
+            library: library_descents,
+            reader: reader_descents,
+        },
+        Input {
+            name: "hostile BLOCKMAP of 16 MiB",
+            sized: |n| given::hostile_blockmap_of(given::MOST_BYTES * n / 4),
+            library: library_map,
+            reader: reader_map,
+        },
+        Input {
+            name: "hostile picture of 16 MiB",
+            sized: |n| given::hostile_picture_of(1_048_000 * n),
+            library: library_picture,
+            reader: reader_picture,
+        },
+    ]
+}
+
+/// The best of several runs, for a fifth of a second or once.
+fn best(mut run: impl FnMut() -> usize) -> Duration {
+    let mut best = Duration::MAX;
+    let begun = Instant::now();
+    loop {
+        let start = Instant::now();
+        black_box(run());
+        best = best.min(start.elapsed());
+        if begun.elapsed() > Duration::from_millis(200) {
+            return best;
+        }
+    }
+}
+
+fn sum(bytes: &[u8]) -> usize {
+    bytes.iter().map(|&byte| usize::from(byte)).sum()
+}
+
+fn measure(input: &Input) -> Row {
+    let times: Vec<f64> =
+        [1, 2, 4].iter().map(|&n| (input.sized)(n)).map(|it| best(|| (input.library)(black_box(&it))).as_secs_f64()).collect();
+    let bytes = (input.sized)(4);
+    Row {
+        name: input.name,
+        bytes: bytes.len(),
+        library: best(|| (input.library)(black_box(&bytes))),
+        reader: best(|| (input.reader)(black_box(&bytes))),
+        sum: best(|| sum(black_box(&bytes))),
+        growth: [times[1] / times[0], times[2] / times[1]],
+    }
+}
+
+fn table(rows: &[Row]) -> String {
+    let mut text = String::from("| input | bytes | library | reader | ratio | MB/s | to summing | n to 2n | 2n to 4n |\n|---|---|---|---|---|---|---|---|---|\n");
+    for row in rows {
+        let (library, reader, sum) = (row.library.as_secs_f64(), row.reader.as_secs_f64(), row.sum.as_secs_f64());
+        let _ = writeln!(
+            text,
+            "| {} | {} | {:.3} ms | {:.3} ms | {:.2} | {:.0} | {:.1} | {:.1} | {:.1} |",
+            row.name,
+            row.bytes,
+            library * 1e3,
+            reader * 1e3,
+            library / reader,
+            row.bytes as f64 / library / 1e6,
+            library / sum,
+            row.growth[0],
+            row.growth[1],
+        );
+    }
+    text
+}
+
+/// A bar for each input: the library's time as a part of the reader's.
+fn plot(rows: &[Row]) -> String {
+    let height = 40 * rows.len() + 60;
+    let mut svg = format!(
+        "<svg xmlns=\"http://www.w3.org/2000/svg\" width=\"720\" height=\"{height}\" font-family=\"sans-serif\" font-size=\"14\">\n<rect width=\"720\" height=\"{height}\" fill=\"white\"/>\n<text x=\"20\" y=\"24\" font-size=\"16\">Library's time for 1.0 of the reader's</text>\n<line x1=\"440\" y1=\"36\" x2=\"440\" y2=\"{}\" stroke=\"#888\" stroke-dasharray=\"4\"/>\n<text x=\"432\" y=\"{}\" fill=\"#888\">1.0</text>\n",
+        height - 24,
+        height - 8,
+    );
+    for (at, row) in rows.iter().enumerate() {
+        let ratio = row.library.as_secs_f64() / row.reader.as_secs_f64();
+        let y = 40 * at + 44;
+        let _ = writeln!(
+            svg,
+            "<text x=\"20\" y=\"{}\">{}</text><rect x=\"240\" y=\"{y}\" width=\"{:.1}\" height=\"24\" fill=\"#4878a8\"/><text x=\"{:.1}\" y=\"{}\">{ratio:.2}</text>",
+            y + 17,
+            row.name,
+            (200.0 * ratio).min(440.0),
+            248.0 + (200.0 * ratio).min(400.0),
+            y + 17,
+        );
+    }
+    svg + "</svg>\n"
+}
+
+fn main() {
+    let rows: Vec<Row> = inputs().iter().map(measure).collect();
+    print!("{}", table(&rows));
+    if let Some(file) = std::env::args_os().nth(1) {
+        std::fs::write(&file, plot(&rows)).expect("the plot is written");
+    }
+}

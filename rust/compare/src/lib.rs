@@ -1,0 +1,30 @@
+//! The proved library and the independent reader, asked the same questions.
+//!
+//! An [`Outcome`] is all that an answer can show: the refusal or the numbers, and the later contents of whatever was lent.
+#![forbid(unsafe_code)]
+#![deny(missing_docs)]
+
+mod ask;
+mod shrink;
+
+pub use ask::{ask_library, ask_reader, Outcome};
+pub use shrink::shrunk;
+
+use generator::{Case, Expected};
+
+/// What is wrong with the answers to a case, if anything: they differ, or are not what the generator knows.
+pub fn fault(case: &Case) -> Option<String> {
+    let library = ask_library(case);
+    let reader = ask_reader(case);
+    if library != reader {
+        return Some(format!("library {library:?}\nreader  {reader:?}"));
+    }
+    let known = match case.expected {
+        Expected::Unknown => true,
+        Expected::Refused(it) => library.numbers == Err((it.number, it.place, it.record)),
+        Expected::Accepted => library.numbers.is_ok(),
+        Expected::Map(it) => library.numbers == Ok(vec![it.depth as i64, it.marker as i64]),
+        Expected::Found(it) => library.numbers == Ok(vec![it.subsector as i64, it.count as i64]),
+    };
+    (!known).then(|| format!("both {library:?}\nknown {:?}", case.expected))
+}

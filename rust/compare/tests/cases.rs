@@ -1,0 +1,52 @@
+//! Library and reader on generated cases: 200,000 by default, any number by MESHPIGEON_CASES, from MESHPIGEON_SEED.
+
+use compare::{fault, shrunk};
+use generator::{all_picture_damages, case, limits, Case};
+use std::env;
+use std::thread;
+
+fn number(name: &str, default: u64) -> u64 {
+    match env::var(name) {
+        Ok(text) => text.parse().unwrap_or_else(|_| panic!("{name} is no number: {text}")),
+        Err(_) => default,
+    }
+}
+
+/// Stops at the first fault, with the case shrunk and written to a file.
+fn hold(case: &Case, origin: &str) {
+    let Some(words) = fault(case) else { return };
+    let small = shrunk(case, |it| fault(it).is_some());
+    let file = env::temp_dir().join(format!("meshpigeon-difference-{}.txt", std::process::id()));
+    let text = format!("{origin}\n{words}\n\nshrunk:\n{small:?}\n{}\n", fault(&small).unwrap_or_default());
+    std::fs::write(&file, text).expect("the case is written");
+    panic!("{origin}: {}\n{words}\nthe shrunk case is in {}", case.label, file.display());
+}
+
+#[test]
+fn generated_cases_agree() {
+    let (seed, cases) = (number("MESHPIGEON_SEED", 20_261_115), number("MESHPIGEON_CASES", 200_000));
+    let threads = thread::available_parallelism().map_or(1, |it| it.get() as u64);
+    thread::scope(|scope| {
+        for first in 0..threads {
+            scope.spawn(move || {
+                for index in (first..cases).step_by(threads as usize) {
+                    hold(&case(seed, index), &format!("seed {seed}, case {index}"));
+                }
+            });
+        }
+    });
+}
+
+#[test]
+fn both_sides_of_every_limit_agree() {
+    for (index, build) in limits().iter().enumerate() {
+        hold(&build(), &format!("limit {index}"));
+    }
+}
+
+#[test]
+fn every_damage_of_a_picture_agrees() {
+    for (index, case) in all_picture_damages(1).iter().enumerate() {
+        hold(case, &format!("picture damage {index}"));
+    }
+}

@@ -1,0 +1,179 @@
+//! The large inputs of a benchmark, most of them at any size so that growth can be measured.
+//! Every map among them is good and called [`MAP_NAME`](crate::MAP_NAME).
+
+use crate::blockmap::LIST_END;
+use crate::map::encode;
+use crate::{BlockmapSpec, MAP_NAME};
+use crate::{Content, EntryPlan, Layout, MapSpec, PictureSpec, Plan, Post, Rng, Shape, Sizes};
+use reader::{Node, SUBSECTOR_BIT};
+
+/// The largest file there may be.
+pub const MOST_BYTES: usize = 16_777_216;
+
+/// A file with a map of about the size of E1M1.
+pub fn ordinary_map() -> Vec<u8> {
+    map_of(1)
+}
+
+/// A file with a map that has `scale` times the records of an ordinary one, up to 60 times.
+pub fn map_of(scale: usize) -> Vec<u8> {
+    let mut rng = Rng::new(1);
+    let sizes = Sizes {
+        things: 143 * scale,
+        linedefs: 486 * scale,
+        sidedefs: 666 * scale,
+        vertices: 470 * scale,
+        segs: 747 * scale,
+        subsectors: 239 * scale,
+        nodes: 239 * scale - 1,
+        sectors: 88 * scale,
+        columns: 36,
+        rows: 23 * scale.min(8) as u16,
+    };
+    Plan::wad_of(MapSpec::new(sizes, Shape::Balanced, Layout::Separate, &mut rng).0)
+}
+
+/// The largest map that fits 16 MiB: most counts at their limits, the rest shared between
+/// REJECT and BLOCKMAP.
+pub fn largest_map() -> Vec<u8> {
+    let mut rng = Rng::new(2);
+    let sizes = Sizes {
+        things: 65_535,
+        linedefs: 65_535,
+        sidedefs: 65_535,
+        vertices: 65_535,
+        segs: 65_535,
+        subsectors: 32_767,
+        nodes: 32_767,
+        sectors: 8_000,
+        columns: 128,
+        rows: 128,
+    };
+    let mut map = MapSpec::plain(sizes, &mut rng);
+    many_lists(&mut map.blockmap, sizes.linedefs, &mut rng);
+    filled(map, MOST_BYTES, || rng.below(65_535) as u16)
+}
+
+/// Gives the cells lists of any length as far as offsets reach.
+fn many_lists(blockmap: &mut BlockmapSpec, linedefs: usize, rng: &mut Rng) {
+    let start = BlockmapSpec::lists_start(blockmap.offsets.len());
+    let mut starts = Vec::new();
+    blockmap.lists.clear();
+    while start + blockmap.lists.len() < 65_500 {
+        starts.push((start + blockmap.lists.len()) as u16);
+        blockmap.lists.push(0);
+        let length = rng.below(12);
+        blockmap.lists.extend((0..length).map(|_| rng.below(linedefs) as u16));
+        blockmap.lists.push(LIST_END);
+    }
+    starts.push((start + blockmap.lists.len()) as u16);
+    blockmap.lists.push(0);
+    blockmap.offsets.iter_mut().for_each(|offset| *offset = rng.pick(&starts));
+}
+
+/// The file of `map`, its last list filled up so that the file has `bytes` bytes, or one less.
+fn filled(mut map: MapSpec, bytes: usize, mut linedef: impl FnMut() -> u16) -> Vec<u8> {
+    let rest = bytes.saturating_sub(Plan::wad_of(map.clone()).len());
+    map.blockmap.lists.extend((1..rest / 2).map(|_| linedef()));
+    map.blockmap.lists.push(LIST_END);
+    Plan::wad_of(map)
+}
+
+/// A file of `count` entries. From 11 on, a small map comes first.
+pub fn directory_of(count: usize) -> Vec<u8> {
+    let mut plan = Plan::new(MapSpec::plain(Sizes::LEAST, &mut Rng::new(3)), MAP_NAME);
+    plan.entries.truncate(count);
+    for index in plan.entries.len()..count {
+        let name = format!("LUMP{index:04}");
+        let name = std::array::from_fn(|at| name.as_bytes()[at]);
+        plan.entries.push(EntryPlan::new(name, Content::Bytes(vec![index as u8; index % 3])));
+    }
+    plan.wad()
+}
+
+/// A file with a map whose nodes are a chain of `nodes`: its depth is `nodes`.
+pub fn chain(nodes: usize) -> Vec<u8> {
+    let sizes = Sizes { nodes, subsectors: (nodes + 1).min(32_767), ..Sizes::LEAST };
+    Plan::wad_of(MapSpec::new(sizes, Shape::Chain, Layout::Shared, &mut Rng::new(4)).0)
+}
+
+/// 32,000 cells whose lists all run to the end of a 16 MiB file.
+pub fn hostile_blockmap() -> Vec<u8> {
+    hostile_blockmap_of(MOST_BYTES)
+}
+
+/// The same in a file of `bytes` bytes, at least 140,000.
+pub fn hostile_blockmap_of(bytes: usize) -> Vec<u8> {
+    let sizes = Sizes { columns: 250, rows: 128, ..Sizes::LEAST };
+    let mut map = MapSpec::plain(sizes, &mut Rng::new(5));
+    let start = BlockmapSpec::lists_start(32_000) as u16;
+    map.blockmap.offsets = (start..).take(32_000).collect();
+    map.blockmap.lists.clear();
+    filled(map, bytes, || 0)
+}
+
+/// 320 columns that share about four million empty posts.
+pub fn hostile_picture() -> Vec<u8> {
+    hostile_picture_of(4_000_000)
+}
+
+/// 320 columns that share `posts` empty posts.
+pub fn hostile_picture_of(posts: usize) -> Vec<u8> {
+    let mut picture = PictureSpec::blank(320, 200);
+    picture.data = vec![0; 4 * posts];
+    picture.data.push(255);
+    picture.encode()
+}
+
+/// A picture like a sprite: columns of their own, most rows painted, some gaps.
+pub fn picture(width: u16, height: u16) -> Vec<u8> {
+    let mut rng = Rng::new(6);
+    let mut picture = PictureSpec::blank(width, height);
+    for column in 0..usize::from(width) {
+        let (mut posts, mut row) = (Vec::new(), rng.below(8));
+        while row < usize::from(height) {
+            let length = rng.between(1, 80).min(usize::from(height) - row);
+            let (pixels, ignored) = (rng.bytes(length), [0, 0]);
+            posts.push(Post { start: row as u8, pixels, ignored });
+            row += length + rng.below(12);
+        }
+        picture.give_column(column, &posts);
+        picture.data.push(255);
+    }
+    picture.encode()
+}
+
+/// A NODES lump that halves the plane in turn, `levels` times, 1 to 15, over 2 to the power
+/// `levels` subsectors, and 32,767 at most: at 15 levels two areas share the last one.
+pub fn halving_nodes(levels: u32) -> Vec<u8> {
+    let count = (1usize << levels) - 1;
+    let mut nodes = vec![Node::default(); count];
+    let area = [i32::from(i16::MIN), i32::from(i16::MIN), 65_536, 65_536];
+    halve(&mut nodes, 0, area);
+    encode(&nodes)
+}
+
+/// Node `heap` of the heap halves `[x, y, width, height]`; the heap is numbered from the last.
+fn halve(nodes: &mut [Node], heap: usize, [x, y, width, height]: [i32; 4]) {
+    let last = nodes.len() - 1;
+    let child = |side: usize| match 2 * heap + 1 + side {
+        node if node <= last => (last - node) as u16,
+        leaf => SUBSECTOR_BIT | (leaf - last - 1).min(32_766) as u16,
+    };
+    let upright = width >= height;
+    let node = &mut nodes[last - heap];
+    (node.right, node.left) = (child(0), child(1));
+    let (half_width, half_height) = (width / 2, height / 2);
+    let [right, left] = if upright {
+        (node.x, node.y, node.dy) = ((x + half_width) as i16, y as i16, 64);
+        [[x + half_width, y, half_width, height], [x, y, half_width, height]]
+    } else {
+        (node.x, node.y, node.dx) = (x as i16, (y + half_height) as i16, 64);
+        [[x, y, width, half_height], [x, y + half_height, width, half_height]]
+    };
+    for (side, area) in [right, left].into_iter().enumerate() {
+        if 2 * heap + 1 + side <= last {
+            halve(nodes, 2 * heap + 1 + side, area);
+        }
+    }
+}

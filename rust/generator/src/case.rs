@@ -1,0 +1,95 @@
+//! What a case is: the bytes, the question asked of them, and what is known of the answer.
+
+use crate::{Kind, Record};
+use reader::{Accepted, Found, Refusal};
+
+/// One input with one question.
+#[derive(Clone, Debug)]
+pub struct Case {
+    /// What the case is about, for reports.
+    pub label: String,
+    /// The file, NODES lump, picture lump or record lump.
+    pub bytes: Vec<u8>,
+    /// What is asked of the bytes.
+    pub question: Question,
+    /// What the generator knows of the answer.
+    pub expected: Expected,
+}
+
+/// A question, with all its parameters and the first contents of whatever is lent.
+#[derive(Clone, Debug, PartialEq, Eq)]
+pub enum Question {
+    /// Judge a file's directory.
+    Directory,
+    /// Place and part of an entry.
+    Entry {
+        /// The entry's number.
+        number: usize,
+    },
+    /// The marker of a map.
+    FindMap {
+        /// The asked name, eight bytes if it is good.
+        name: Vec<u8>,
+    },
+    /// Judge a map.
+    JudgeMap {
+        /// The asked name.
+        name: Vec<u8>,
+        /// The work words as lent.
+        words: Vec<u16>,
+    },
+    /// Descend in a NODES lump.
+    Descend {
+        /// The count of subsectors.
+        subsectors: usize,
+        /// The point.
+        x: i16,
+        /// The point.
+        y: i16,
+    },
+    /// Judge a picture.
+    JudgePicture,
+    /// Paint a picture.
+    PaintPicture {
+        /// The colour buffer as lent.
+        colour: Vec<u8>,
+        /// The cover buffer as lent.
+        cover: Vec<u8>,
+    },
+    /// Read a record.
+    ReadRecord {
+        /// Its kind.
+        kind: Kind,
+        /// Its number.
+        index: usize,
+    },
+    /// Write a record over the bytes.
+    WriteRecord {
+        /// Its fields.
+        record: Record,
+        /// Its number.
+        index: usize,
+    },
+}
+
+/// What the generator knows of an answer, by construction.
+#[derive(Clone, Copy, Debug, PartialEq, Eq)]
+pub enum Expected {
+    /// Nothing.
+    Unknown,
+    /// This refusal.
+    Refused(Refusal),
+    /// No refusal.
+    Accepted,
+    /// A map with this depth and marker.
+    Map(Accepted),
+    /// A descent that ends so.
+    Found(Found),
+}
+
+impl Case {
+    /// A case of these parts.
+    pub fn new(label: impl Into<String>, bytes: Vec<u8>, question: Question, expected: Expected) -> Self {
+        Self { label: label.into(), bytes, question, expected }
+    }
+}

@@ -1,0 +1,52 @@
+//! A deterministic generator of WAD files, maps, pictures, records and descents, good and bad.
+//!
+//! Everything is built from named fields, with what is known of the answer beside it.
+//! [`case`] gives any number of small cases from a seed and an index; [`damages`], the pairs and
+//! the limits are finite lists; the large inputs of a benchmark have a function each.
+#![forbid(unsafe_code)]
+#![deny(missing_docs)]
+
+mod bench;
+mod blockmap;
+mod case;
+mod damage;
+mod damage_records;
+mod descent;
+mod family;
+mod flip;
+mod graph;
+mod limit;
+mod limit_lump;
+mod limit_map;
+mod limit_run;
+mod map;
+mod order;
+mod picture;
+mod picture_damage;
+mod plan;
+mod record;
+mod record_case;
+mod rng;
+mod valid;
+
+pub use bench::{
+    chain, directory_of, halving_nodes, hostile_blockmap, hostile_blockmap_of, hostile_picture, hostile_picture_of, largest_map,
+    map_of, ordinary_map, picture, MOST_BYTES,
+};
+pub use blockmap::{BlockmapSpec, Layout};
+pub use case::{Case, Expected, Question};
+pub use damage::{damages, Damage};
+pub use descent::descent_case;
+pub use family::{case, cases, FAMILIES};
+pub use flip::{flipped_map_case, flipped_picture_case, random_file_case, random_lump_case};
+pub use graph::{Shape, Truth};
+pub use limit::{limits, Build};
+pub use map::{MapSpec, Sizes};
+pub use order::{apply, damaged_case, directory_case, order_of, pair, pair_case, pair_count, single_case};
+pub use picture::{picture_case, PictureSpec, Post};
+pub use picture_damage::{all_picture_damages, damaged_picture_case, picture_damage_case, PictureDamage, PICTURE_DAMAGES};
+pub use plan::{Content, EntryPlan, Plan, LUMP_NAMES, MAP_NAME};
+pub use record::{Encode, Kind, Record};
+pub use record_case::record_case;
+pub use rng::Rng;
+pub use valid::{any_plan, map_case, sound_plan, valid_case, verdict};

@@ -1,0 +1,117 @@
+//! Asks the reader a case's question and holds the answer against what is expected.
+
+use generator::{Case, Encode, Expected, Kind, Question, Record};
+use reader::*;
+
+/// An answer of the reader, as far as expectations speak of it.
+#[derive(Debug, PartialEq)]
+enum Answer {
+    Good,
+    Map(Accepted),
+    Found(Found),
+}
+
+/// Checks one case; answers its refusal number, 0 for none.
+pub fn check(case: &Case) -> u32 {
+    let answer = ask(case);
+    let good = match case.expected {
+        Expected::Unknown => true,
+        Expected::Refused(refusal) => answer == Err(refusal),
+        Expected::Accepted => answer.is_ok(),
+        Expected::Map(accepted) => answer == Ok(Answer::Map(accepted)),
+        Expected::Found(found) => answer == Ok(Answer::Found(found)),
+    };
+    assert!(good, "{}: {:?}, not {:?}", case.label, answer, case.expected);
+    answer.err().map_or(0, |refusal| refusal.number)
+}
+
+fn ask(case: &Case) -> Result<Answer, Refusal> {
+    let bytes = &case.bytes;
+    match &case.question {
+        Question::Directory => directory(bytes).map(|_| Answer::Good),
+        Question::Entry { number } => ask_entry(bytes, *number),
+        Question::FindMap { name } => find_map(bytes, name).map(|_| Answer::Good),
+        Question::JudgeMap { name, words } => ask_map(bytes, name, words),
+        Question::Descend { subsectors, x, y } => descend(bytes, *subsectors, *x, *y).map(Answer::Found),
+        Question::JudgePicture => judge_picture(bytes).map(|_| Answer::Good),
+        Question::PaintPicture { colour, cover } => ask_paint(bytes, colour, cover),
+        Question::ReadRecord { kind, index } => {
+            let record = read(*kind, bytes, *index)?;
+            assert_eq!(record.encode(), &bytes[index * kind.size()..][..kind.size()]);
+            Ok(Answer::Good)
+        }
+        Question::WriteRecord { record, index } => ask_write(bytes, record, *index),
+    }
+}
+
+fn ask_entry(wad: &[u8], number: usize) -> Result<Answer, Refusal> {
+    let part = entry(wad, number);
+    let (offset, size) = part.unwrap_or((0, 0));
+    assert_eq!(lump(wad, number), &wad[offset..offset + size]);
+    part.map(|_| Answer::Good)
+}
+
+fn ask_map(wad: &[u8], name: &[u8], lent: &[u16]) -> Result<Answer, Refusal> {
+    let mut words = lent.to_vec();
+    let verdict = judge_map(wad, name, &mut words);
+    let zeroed = match verdict {
+        Ok(accepted) => 4 * lump(wad, accepted.marker + 7).len() / Node::SIZE,
+        Err(Refusal { number: 31, .. }) => 4 * lump(wad, find_map(wad, name)? + 7).len() / Node::SIZE,
+        Err(_) => 0,
+    };
+    assert!(words[..zeroed].iter().all(|&word| word == 0));
+    assert_eq!(words[zeroed..], lent[zeroed..]);
+    verdict.map(Answer::Map)
+}
+
+fn ask_paint(lump: &[u8], lent_colour: &[u8], lent_cover: &[u8]) -> Result<Answer, Refusal> {
+    let (mut colour, mut cover) = (lent_colour.to_vec(), lent_cover.to_vec());
+    let verdict = paint_picture(lump, &mut colour, &mut cover);
+    let area = verdict.map_or(0, |picture| picture.width * picture.height);
+    assert_eq!((&colour[area..], &cover[area..]), (&lent_colour[area..], &lent_cover[area..]));
+    assert!(cover[..area].iter().all(|&cover| cover < 2));
+    assert!(colour.iter().zip(&cover).take(area).all(|(colour, cover)| *cover == 1 || *colour == 0));
+    match verdict {
+        Err(Refusal { number: 55, .. }) => {}
+        _ => assert_eq!(verdict, judge_picture(lump)),
+    }
+    verdict.map(|_| Answer::Good)
+}
+
+fn ask_write(lump: &[u8], record: &Record, index: usize) -> Result<Answer, Refusal> {
+    let mut later = lump.to_vec();
+    let verdict = write(record, &mut later, index);
+    let mut wanted = lump.to_vec();
+    if verdict.is_ok() {
+        let bytes = record.encode();
+        wanted[bytes.len() * index..][..bytes.len()].copy_from_slice(&bytes);
+    }
+    assert_eq!(later, wanted);
+    verdict.map(|_| Answer::Good)
+}
+
+fn read(kind: Kind, lump: &[u8], index: usize) -> Result<Record, Refusal> {
+    match kind {
+        Kind::Thing => Thing::read(lump, index).map(Record::Thing),
+        Kind::Linedef => Linedef::read(lump, index).map(Record::Linedef),
+        Kind::Sidedef => Sidedef::read(lump, index).map(Record::Sidedef),
+        Kind::Vertex => Vertex::read(lump, index).map(Record::Vertex),
+        Kind::Seg => Seg::read(lump, index).map(Record::Seg),
+        Kind::Subsector => Subsector::read(lump, index).map(Record::Subsector),
+        Kind::Node => Node::read(lump, index).map(Record::Node),
+        Kind::Sector => Sector::read(lump, index).map(Record::Sector),
+    }
+}
+
+fn write(record: &Record, lump: &mut [u8], index: usize) -> Result<(), Refusal> {
+    match record {
+        Record::Thing(record) => record.write(lump, index),
+        Record::Linedef(record) => record.write(lump, index),
+        Record::Sidedef(record) => record.write(lump, index),
+        Record::Vertex(record) => record.write(lump, index),
+        Record::Seg(record) => record.write(lump, index),
+        Record::Subsector(record) => record.write(lump, index),
+        Record::Node(record) => record.write(lump, index),
+        Record::Sector(record) => record.write(lump, index),
+    }
+}

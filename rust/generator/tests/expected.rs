@@ -1,0 +1,51 @@
+//! The reader gives every answer that the generator expects, and changes nothing else.
+
+mod common;
+
+use common::check;
+use generator::{all_picture_damages, case, damages, pair_case, pair_count, single_case};
+use std::collections::BTreeMap;
+
+#[test]
+fn every_single_damage_yields_its_number() {
+    for index in 0..40 * damages().len() {
+        check(&single_case(1, index));
+    }
+}
+
+#[test]
+fn every_pair_of_damages_yields_the_first_in_order() {
+    for index in 0..4 * pair_count() {
+        check(&pair_case(2, index));
+    }
+}
+
+#[test]
+fn every_picture_damage_and_pair() {
+    for seed in 0..20 {
+        for case in all_picture_damages(seed) {
+            check(&case);
+        }
+    }
+}
+
+#[test]
+fn cases_of_all_families() {
+    let mut met = BTreeMap::new();
+    for index in 0..60_000 {
+        let number = check(&case(3, index));
+        *met.entry(number).or_insert(0) += 1;
+    }
+    println!("{met:?}");
+    let wanted = [0, 1, 2, 3, 4, 5, 6, 7, 10, 11, 12, 13, 20, 21, 22, 23, 24, 25, 26, 27, 28, 30, 31];
+    let more = [40, 41, 42, 43, 50, 51, 52, 53, 54, 55, 60];
+    assert!(wanted.iter().chain(&more).all(|number| met.contains_key(number)));
+}
+
+#[test]
+fn cases_are_the_same_each_time() {
+    for index in 0..500 {
+        let (one, two) = (case(9, index), case(9, index));
+        assert_eq!((one.bytes, one.question), (two.bytes, two.question));
+    }
+}

@@ -1,0 +1,54 @@
+//! Both sides of every limit, and the large inputs of the benchmark.
+
+mod common;
+
+use common::check;
+use generator::*;
+use reader::{descend, directory, judge_map, judge_picture, Accepted, Found};
+
+#[test]
+fn both_sides_of_every_limit() {
+    for build in limits() {
+        check(&build());
+    }
+}
+
+fn judged(wad: &[u8]) -> Accepted {
+    let mut words = vec![1; 4 * 32_767];
+    judge_map(wad, &MAP_NAME, &mut words).expect("a good map")
+}
+
+#[test]
+fn large_inputs_are_good() {
+    assert_eq!(judged(&ordinary_map()).depth, 8);
+    assert_eq!(judged(&map_of(4)).depth, 10);
+    assert_eq!(judged(&chain(32_767)).depth, 32_767);
+    assert_eq!(judged(&directory_of(4_096)).marker, 0);
+    assert_eq!(directory(&directory_of(4_096)).unwrap().count, 4_096);
+    let largest = largest_map();
+    assert!((MOST_BYTES - 1..=MOST_BYTES).contains(&largest.len()));
+    assert_eq!(judged(&largest).depth, 15);
+}
+
+#[test]
+fn hostile_inputs_are_good() {
+    let hostile = hostile_blockmap();
+    assert!((MOST_BYTES - 1..=MOST_BYTES).contains(&hostile.len()));
+    assert_eq!(judged(&hostile).depth, 0);
+    assert!(judge_picture(&hostile_picture_of(10_000)).is_ok());
+    assert_eq!(judge_picture(&picture(320, 200)).map(|it| (it.width, it.height)), Ok((320, 200)));
+}
+
+#[test]
+fn halving_passes_one_node_a_level() {
+    let nodes = halving_nodes(10);
+    let mut met = vec![false; 1024];
+    for x in (0..32).map(|step| step * 2048 - 32_768 + 1) {
+        for y in (0..32).map(|step| step * 2048 - 32_768 + 1) {
+            let Found { subsector, count } = descend(&nodes, 1024, x as i16, y as i16).unwrap();
+            assert_eq!(count, 10);
+            met[subsector] = true;
+        }
+    }
+    assert!(met.iter().all(|met| *met));
+}

@@ -1,0 +1,136 @@
+//! The reader against 01's definitions, spelt out without any regard to cost: every list of
+//! choices, every cell's list for itself, every pixel for itself.
+
+use generator::*;
+use reader::{judge_map, judge_picture, paint_picture, Accepted, Node, Refusal, SUBSECTOR_BIT};
+
+/// The child word reached from `word` by the choices, one bit each; `None` where a choice would
+/// have to be made at a subsector.
+fn follow(nodes: &[Node], mut word: u16, choices: u32, count: usize) -> Option<u16> {
+    for turn in 0..count {
+        if word & SUBSECTOR_BIT != 0 {
+            return None;
+        }
+        let node = &nodes[usize::from(word)];
+        word = if choices >> turn & 1 == 1 { node.right } else { node.left };
+    }
+    Some(word)
+}
+
+/// All words reached by lists of `count` choices from the root.
+fn reached(nodes: &[Node], count: usize) -> Vec<u16> {
+    let root = nodes.len() as u16 - 1;
+    (0..1 << count).filter_map(|choices| follow(nodes, root, choices, count)).collect()
+}
+
+/// 01's words: a loop when some list of N choices is still on a node; otherwise the largest
+/// number of choices of a route.
+fn verdict_of(nodes: &[Node]) -> Result<Accepted, Refusal> {
+    let is_node = |word: &u16| word & SUBSECTOR_BIT == 0;
+    if reached(nodes, nodes.len()).iter().any(is_node) {
+        return Err(Refusal::new(31, 7, 0));
+    }
+    let ends = |count: &usize| reached(nodes, *count).iter().any(|word| !is_node(word));
+    let depth = (0..=nodes.len()).rev().find(ends).expect("a route");
+    Ok(Accepted { depth, marker: 0 })
+}
+
+fn judge(map: MapSpec) -> Result<Accepted, Refusal> {
+    let mut words = vec![9; 4 * map.nodes.len()];
+    judge_map(&Plan::wad_of(map), &MAP_NAME, &mut words)
+}
+
+fn judge_nodes(nodes: Vec<Node>) {
+    let mut map = MapSpec::plain(Sizes::LEAST, &mut Rng::new(1));
+    map.nodes = nodes.clone();
+    assert_eq!(judge(map), verdict_of(&nodes), "{nodes:?}");
+}
+
+#[test]
+fn all_graphs_of_up_to_three_nodes() {
+    for count in 1..=3 {
+        let words: Vec<u16> = (0..count as u16).chain([SUBSECTOR_BIT]).collect();
+        for number in 0..words.len().pow(2 * count) {
+            let word = |at: u32| words[number / words.len().pow(at) % words.len()];
+            let node = |at: u32| Node { right: word(2 * at), left: word(2 * at + 1), ..Node::default() };
+            judge_nodes((0..count).map(node).collect());
+        }
+    }
+}
+
+#[test]
+fn any_graphs_of_up_to_nine_nodes() {
+    let mut rng = Rng::new(5);
+    for _ in 0..4_000 {
+        let shape = rng.pick(&[Shape::Any, Shape::Any, Shape::Shuffled, Shape::Islands, Shape::Ring]);
+        let count = rng.between(4, 9);
+        let (children, _) = shape.children(count, 1, &mut rng);
+        let node = |&[right, left]: &[u16; 2]| Node { right, left, ..Node::default() };
+        judge_nodes(children.iter().map(node).collect());
+    }
+}
+
+/// Whether the list at word `offset` is good, read from its start to its end.
+fn list_is_good(words: &[u16], first: usize, offset: u16, linedefs: usize) -> bool {
+    let mut rest = words.iter().skip(usize::from(offset));
+    if usize::from(offset) < first || rest.next() != Some(&0) {
+        return false;
+    }
+    let end = rest.clone().position(|&word| word == 65_535);
+    end.is_some_and(|end| rest.take(end).all(|&word| usize::from(word) < linedefs))
+}
+
+#[test]
+fn lists_one_by_one() {
+    let mut rng = Rng::new(6);
+    for _ in 0..20_000 {
+        let sizes = Sizes { linedefs: 2, columns: 3, rows: 2, ..Sizes::LEAST };
+        let mut map = MapSpec::plain(sizes, &mut rng);
+        let length = rng.between(1, 12);
+        let odds = if rng.once_in(4) { 6 } else { 40 };
+        let mut word = || if rng.once_in(odds) { 2 } else { rng.pick(&[0, 0, 0, 1, 65_535]) };
+        map.blockmap.lists = (0..length).map(|_| word()).collect();
+        let zeros: Vec<usize> = (0..length).filter(|&at| map.blockmap.lists[at] == 0).collect();
+        for offset in &mut map.blockmap.offsets {
+            let any = 10 + rng.below(length + 1) as u16 - u16::from(rng.once_in(30));
+            let aimed = zeros.get(rng.below(zeros.len().max(1))).map_or(any, |at| 10 + *at as u16);
+            *offset = if rng.once_in(12) { any } else { aimed };
+        }
+        let words = [&[0; 4][..], &map.blockmap.offsets, &map.blockmap.lists].concat();
+        let bad = map.blockmap.offsets.iter().position(|&at| !list_is_good(&words, 10, at, 2));
+        let wanted = match bad {
+            Some(cell) => Err(Refusal::new(28, 10, cell)),
+            None => Ok(Accepted { depth: 0, marker: 0 }),
+        };
+        assert_eq!(judge(map), wanted);
+    }
+}
+
+/// The pixel of a good picture at a row of a column, if any post paints it.
+fn pixel(lump: &[u8], column: usize, row: usize) -> Option<u8> {
+    let mut at = u32::from_le_bytes(lump[8 + 4 * column..][..4].try_into().unwrap()) as usize;
+    while lump[at] != 255 {
+        let (start, length) = (usize::from(lump[at]), usize::from(lump[at + 1]));
+        if (start..start + length).contains(&row) {
+            return Some(lump[at + 3 + row - start]);
+        }
+        at += length + 4;
+    }
+    None
+}
+
+#[test]
+fn pixels_one_by_one() {
+    let mut rng = Rng::new(7);
+    for _ in 0..2_000 {
+        let (width, height) = (rng.between(1, 7), rng.between(1, 14));
+        let lump = PictureSpec::good(width as u16, height as u16, &mut rng).encode();
+        let (mut colour, mut cover) = (vec![3; width * height], vec![4; width * height + 1]);
+        assert_eq!(paint_picture(&lump, &mut colour, &mut cover), judge_picture(&lump));
+        for at in 0..width * height {
+            let wanted = pixel(&lump, at % width, at / width);
+            assert_eq!((colour[at], cover[at]), (wanted.unwrap_or(0), u8::from(wanted.is_some())));
+        }
+        assert_eq!(cover[width * height], 4);
+    }
+}

@@ -1,0 +1,109 @@
+//! Safe bindings to Meshpigeon, a fully proved judge of Doom map files.
+//!
+//! Every function takes any bytes at all and answers, or gives the one [`Refusal`] that the table of refusals names.
+//!
+//! ```
+//! let wad = [*b"PWAD", [0; 4], [12, 0, 0, 0]].concat();
+//! assert_eq!(meshpigeon::directory(&wad).unwrap().count, 0);
+//! let refusal = meshpigeon::judge_map(&wad, b"MAP01\0\0\0").unwrap_err();
+//! assert_eq!(refusal.number, 11);
+//! assert_eq!(refusal.to_string(), "the file has no map of that name");
+//! ```
+#![deny(missing_docs)]
+
+mod raw;
+mod record;
+mod refusal;
+
+pub use record::{Linedef, Node, Sector, Seg, Sidedef, Subsector, Thing, Vertex};
+pub use refusal::Refusal;
+
+/// As many work words as any map needs: four for each of 32,767 nodes.
+pub const MOST_WORDS: usize = 4 * 32_767;
+
+/// A file's directory.
+#[derive(Clone, Copy, Debug, PartialEq, Eq)]
+pub struct Directory {
+    /// How many lumps the file has.
+    pub count: usize,
+    /// Where the directory starts.
+    pub start: usize,
+}
+
+/// An accepted map.
+#[derive(Clone, Copy, Debug, PartialEq, Eq)]
+pub struct Accepted {
+    /// The largest number of nodes on a route.
+    pub depth: usize,
+    /// The marker's entry number.
+    pub marker: usize,
+}
+
+/// Where a descent ends.
+#[derive(Clone, Copy, Debug, PartialEq, Eq)]
+pub struct Found {
+    /// The subsector.
+    pub subsector: usize,
+    /// How many nodes were passed.
+    pub count: usize,
+}
+
+/// A picture's header.
+#[repr(C)]
+#[derive(Clone, Copy, Debug, PartialEq, Eq)]
+pub struct Picture {
+    /// Pixels across.
+    pub width: usize,
+    /// Pixels down.
+    pub height: usize,
+    /// Left offset.
+    pub left: i16,
+    /// Top offset.
+    pub top: i16,
+}
+
+/// Judges a file's header and directory: 1 to 6.
+pub fn directory(wad: &[u8]) -> Result<Directory, Refusal> {
+    raw::directory(wad).map(|answer| Directory { count: answer.first, start: answer.second })
+}
+
+/// Where an entry's part of the file lies, and its size: 1 to 7.
+pub fn entry(wad: &[u8], number: usize) -> Result<(usize, usize), Refusal> {
+    raw::entry(wad, number).map(|answer| (answer.first, answer.second))
+}
+
+/// An entry's part of the file itself: 1 to 7.
+pub fn lump(wad: &[u8], number: usize) -> Result<&[u8], Refusal> {
+    entry(wad, number).map(|(offset, size)| &wad[offset..offset + size])
+}
+
+/// The entry number of a map's marker, by its name zero-padded to eight bytes: 1 to 6, 10, 11.
+pub fn find_map(wad: &[u8], name: &[u8]) -> Result<usize, Refusal> {
+    raw::find_map(wad, name).map(|answer| answer.only)
+}
+
+/// Judges one map, with work words of its own.
+pub fn judge_map(wad: &[u8], name: &[u8]) -> Result<Accepted, Refusal> {
+    judge_map_with(wad, name, &mut vec![0; MOST_WORDS])
+}
+
+/// Judges one map over lent work words, four for each node. A refusal below 31 leaves them as found; 31 and acceptance leave the
+/// first four for each node zero and the others as found.
+pub fn judge_map_with(wad: &[u8], name: &[u8], words: &mut [u16]) -> Result<Accepted, Refusal> {
+    raw::judge_map(wad, name, words).map(|answer| Accepted { depth: answer.first, marker: answer.second })
+}
+
+/// The subsector of a point, over any NODES bytes and any count of subsectors: 40 to 43.
+pub fn descend(nodes: &[u8], subsectors: usize, x: i16, y: i16) -> Result<Found, Refusal> {
+    raw::descend(nodes, subsectors, x, y).map(|answer| Found { subsector: answer.first, count: answer.second })
+}
+
+/// Judges a picture: 50 to 54.
+pub fn judge_picture(lump: &[u8]) -> Result<Picture, Refusal> {
+    raw::judge_picture(lump)
+}
+
+/// Paints a picture row by row from the top into the first width × height bytes of both buffers: 50 to 55. A refusal writes nothing.
+pub fn paint_picture(lump: &[u8], colour: &mut [u8], cover: &mut [u8]) -> Result<Picture, Refusal> {
+    raw::paint_picture(lump, colour, cover)
+}

@@ -1,0 +1,140 @@
+//! The library's functions as include/meshpigeon.h declares them. The only module with `unsafe`: each wrapper lends the library a
+//! pointer and a length of a live slice, which is all that the library asks.
+
+use crate::record::{Linedef, Node, Sector, Seg, Sidedef, Subsector, Thing, Vertex};
+use crate::Refusal;
+
+/// What every answer begins with; number 0 is accepted.
+#[repr(C)]
+#[derive(Clone, Copy)]
+pub(crate) struct Status {
+    number: u32,
+    place: usize,
+    record: usize,
+}
+
+impl Status {
+    /// The refusal, or nothing.
+    pub(crate) fn check(self) -> Result<(), Refusal> {
+        match self.number {
+            0 => Ok(()),
+            _ => Err(Refusal { number: self.number, place: self.place, record: self.record }),
+        }
+    }
+}
+
+/// An answer of two numbers.
+#[repr(C)]
+pub(crate) struct Two {
+    status: Status,
+    pub(crate) first: usize,
+    pub(crate) second: usize,
+}
+
+/// An answer of one number.
+#[repr(C)]
+pub(crate) struct One {
+    status: Status,
+    pub(crate) only: usize,
+}
+
+/// An answer of a picture's header.
+#[repr(C)]
+pub(crate) struct Header {
+    status: Status,
+    pub(crate) picture: crate::Picture,
+}
+
+impl Two {
+    fn checked(self) -> Result<Self, Refusal> {
+        self.status.check().map(|()| self)
+    }
+}
+
+type Bytes = *const u8;
+type BytesMut = *mut u8;
+
+extern "C" {
+    fn meshpigeon_directory(wad: Bytes, wad_len: usize) -> Two;
+    fn meshpigeon_entry(wad: Bytes, wad_len: usize, number: usize) -> Two;
+    fn meshpigeon_find_map(wad: Bytes, wad_len: usize, name: Bytes, name_len: usize) -> One;
+    fn meshpigeon_judge_map(wad: Bytes, wad_len: usize, name: Bytes, name_len: usize, words: *mut u16, words_len: usize) -> Two;
+    fn meshpigeon_descend(nodes: Bytes, nodes_len: usize, subsectors: usize, x: i16, y: i16) -> Two;
+    fn meshpigeon_judge_picture(lump: Bytes, lump_len: usize) -> Header;
+    fn meshpigeon_paint_picture(
+        lump: Bytes,
+        lump_len: usize,
+        colour: BytesMut,
+        colour_len: usize,
+        cover: BytesMut,
+        cover_len: usize,
+    ) -> Header;
+}
+
+pub(crate) fn directory(wad: &[u8]) -> Result<Two, Refusal> {
+    unsafe { meshpigeon_directory(wad.as_ptr(), wad.len()) }.checked()
+}
+
+pub(crate) fn entry(wad: &[u8], number: usize) -> Result<Two, Refusal> {
+    unsafe { meshpigeon_entry(wad.as_ptr(), wad.len(), number) }.checked()
+}
+
+pub(crate) fn find_map(wad: &[u8], name: &[u8]) -> Result<One, Refusal> {
+    let answer = unsafe { meshpigeon_find_map(wad.as_ptr(), wad.len(), name.as_ptr(), name.len()) };
+    answer.status.check().map(|()| answer)
+}
+
+pub(crate) fn judge_map(wad: &[u8], name: &[u8], words: &mut [u16]) -> Result<Two, Refusal> {
+    unsafe { meshpigeon_judge_map(wad.as_ptr(), wad.len(), name.as_ptr(), name.len(), words.as_mut_ptr(), words.len()) }.checked()
+}
+
+pub(crate) fn descend(nodes: &[u8], subsectors: usize, x: i16, y: i16) -> Result<Two, Refusal> {
+    unsafe { meshpigeon_descend(nodes.as_ptr(), nodes.len(), subsectors, x, y) }.checked()
+}
+
+pub(crate) fn judge_picture(lump: &[u8]) -> Result<crate::Picture, Refusal> {
+    let answer = unsafe { meshpigeon_judge_picture(lump.as_ptr(), lump.len()) };
+    answer.status.check().map(|()| answer.picture)
+}
+
+pub(crate) fn paint_picture(lump: &[u8], colour: &mut [u8], cover: &mut [u8]) -> Result<crate::Picture, Refusal> {
+    let answer = unsafe {
+        meshpigeon_paint_picture(lump.as_ptr(), lump.len(), colour.as_mut_ptr(), colour.len(), cover.as_mut_ptr(), cover.len())
+    };
+    answer.status.check().map(|()| answer.picture)
+}
+
+macro_rules! kinds {
+    ($($kind:ident $read:ident $write:ident $c_read:ident $c_write:ident $answer:ident;)*) => {$(
+        #[repr(C)]
+        struct $answer {
+            status: Status,
+            record: $kind,
+        }
+
+        extern "C" {
+            fn $c_read(lump: Bytes, lump_len: usize, index: usize) -> $answer;
+            fn $c_write(lump: BytesMut, lump_len: usize, index: usize, record: $kind) -> Status;
+        }
+
+        pub(crate) fn $read(lump: &[u8], index: usize) -> Result<$kind, Refusal> {
+            let answer = unsafe { $c_read(lump.as_ptr(), lump.len(), index) };
+            answer.status.check().map(|()| answer.record)
+        }
+
+        pub(crate) fn $write(lump: &mut [u8], index: usize, record: $kind) -> Result<(), Refusal> {
+            unsafe { $c_write(lump.as_mut_ptr(), lump.len(), index, record) }.check()
+        }
+    )*};
+}
+
+kinds! {
+    Thing read_thing write_thing meshpigeon_read_thing meshpigeon_write_thing ThingAnswer;
+    Linedef read_linedef write_linedef meshpigeon_read_linedef meshpigeon_write_linedef LinedefAnswer;
+    Sidedef read_sidedef write_sidedef meshpigeon_read_sidedef meshpigeon_write_sidedef SidedefAnswer;
+    Vertex read_vertex write_vertex meshpigeon_read_vertex meshpigeon_write_vertex VertexAnswer;
+    Seg read_seg write_seg meshpigeon_read_seg meshpigeon_write_seg SegAnswer;
+    Subsector read_subsector write_subsector meshpigeon_read_subsector meshpigeon_write_subsector SubsectorAnswer;
+    Node read_node write_node meshpigeon_read_node meshpigeon_write_node NodeAnswer;
+    Sector read_sector write_sector meshpigeon_read_sector meshpigeon_write_sector SectorAnswer;
+}

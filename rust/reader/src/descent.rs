@@ -1,0 +1,56 @@
+//! The descent: from the root to the subsector of a point.
+
+use crate::{Node, Refusal, SUBSECTOR_BIT};
+
+const MOST_NODES: usize = 32_767;
+const MOST_SUBSECTORS: usize = 32_767;
+
+/// Where a descent ended.
+#[derive(Clone, Copy, Debug, PartialEq, Eq)]
+pub struct Found {
+    /// The subsector reached.
+    pub subsector: usize,
+    /// How many nodes were passed.
+    pub count: usize,
+}
+
+/// Descends from the last node of a NODES lump to the point's subsector: refusals 40 to 43.
+///
+/// Only the chosen children are judged.
+pub fn descend(nodes: &[u8], subsectors: usize, x: i16, y: i16) -> Result<Found, Refusal> {
+    let total = nodes.len() / Node::SIZE;
+    if !nodes.len().is_multiple_of(Node::SIZE) || total > MOST_NODES {
+        return Err(Refusal::plain(40));
+    }
+    if !(1..=MOST_SUBSECTORS).contains(&subsectors) || (total == 0 && subsectors != 1) {
+        return Err(Refusal::plain(41));
+    }
+    if total == 0 {
+        return Ok(Found { subsector: 0, count: 0 });
+    }
+    let mut at = total - 1;
+    for count in 1..=total {
+        let child = chosen_child(&Node::read(nodes, at)?, x, y);
+        let number = usize::from(child & !SUBSECTOR_BIT);
+        let is_subsector = child & SUBSECTOR_BIT != 0;
+        if number >= if is_subsector { subsectors } else { total } {
+            return Err(Refusal::new(42, 0, at));
+        }
+        if is_subsector {
+            return Ok(Found { subsector: number, count });
+        }
+        at = number;
+    }
+    Err(Refusal::plain(43))
+}
+
+/// The right child exactly if (x - px) × dy > (y - py) × dx, over whole numbers.
+fn chosen_child(node: &Node, x: i16, y: i16) -> u16 {
+    let across = (i64::from(x) - i64::from(node.x)) * i64::from(node.dy);
+    let along = (i64::from(y) - i64::from(node.y)) * i64::from(node.dx);
+    if across > along {
+        node.right
+    } else {
+        node.left
+    }
+}

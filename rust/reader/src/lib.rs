@@ -1,0 +1,44 @@
+//! An independent reader of Doom map files.
+//!
+//! Written from paper 01 ("Specification of the build and its rules") and document 004 (field
+//! layouts) alone, in plain safe Rust, to be held against the proved library. Every function
+//! answers the papers' refusal number, place and record; where the papers leave an order open,
+//! the list "Readings taken" of the design decides.
+//!
+//! It allocates freely and favours the obvious way over the fast one, but no input costs more
+//! than a small multiple of its bytes, pictures with shared empty posts excepted.
+//!
+//! ```
+//! let wad = [*b"PWAD", [0; 4], [12, 0, 0, 0]].concat();
+//! assert_eq!(reader::directory(&wad).unwrap().count, 0);
+//! assert_eq!(reader::find_map(&wad, b"MAP01\0\0\0").unwrap_err().number, 11);
+//! ```
+#![forbid(unsafe_code)]
+#![deny(missing_docs)]
+
+mod blockmap;
+mod bytes;
+mod descent;
+mod graph;
+mod map;
+mod picture;
+mod record;
+mod reference;
+mod refusal;
+mod wad;
+
+pub use descent::{descend, Found};
+pub use map::{judge_map, reject_size, Accepted};
+pub use picture::{judge_picture, paint_picture, Picture};
+pub use record::{Linedef, Node, Sector, Seg, Sidedef, Subsector, Thing, Vertex};
+pub use refusal::Refusal;
+pub use wad::{directory, entry, find_map, is_map_name, is_name, lump, Directory};
+
+/// The sidedef number that means none.
+pub const NO_SIDEDEF: u16 = 65_535;
+
+/// The bit of a child word that marks a subsector.
+pub const SUBSECTOR_BIT: u16 = 0x8000;
+
+/// The flag of a linedef that needs a left side.
+pub const TWO_SIDED: u16 = 0x0004;

@@ -1,0 +1,117 @@
+//! The map check: the marker's run of lumps, their sizes, and then everything inside them.
+
+use crate::wad::{entries, find_marker, Directory, Entry};
+use crate::{blockmap, graph, reference, Refusal};
+
+/// A map that passed every check.
+#[derive(Clone, Copy, Debug, PartialEq, Eq)]
+pub struct Accepted {
+    /// The largest number of nodes on a route from the root to a subsector.
+    pub depth: usize,
+    /// The entry number of the map's marker.
+    pub marker: usize,
+}
+
+/// A row of the table of map lumps.
+struct Row {
+    name: &'static [u8; 8],
+    /// Bytes of a record, with the least and the largest count; `None` for REJECT and BLOCKMAP.
+    records: Option<(usize, usize, usize)>,
+}
+
+const fn row(name: &'static [u8; 8], size: usize, least: usize, most: usize) -> Row {
+    Row { name, records: Some((size, least, most)) }
+}
+
+/// Places 1 to 10.
+const TABLE: [Row; 10] = [
+    row(b"THINGS\0\0", 10, 0, 65_535),
+    row(b"LINEDEFS", 14, 1, 65_535),
+    row(b"SIDEDEFS", 30, 1, 65_535),
+    row(b"VERTEXES", 4, 1, 65_535),
+    row(b"SEGS\0\0\0\0", 12, 1, 65_535),
+    row(b"SSECTORS", 4, 1, 32_767),
+    row(b"NODES\0\0\0", 28, 0, 32_767),
+    row(b"SECTORS\0", 26, 1, 65_535),
+    Row { name: b"REJECT\0\0", records: None },
+    Row { name: b"BLOCKMAP", records: None },
+];
+
+const HEXEN: &[u8; 8] = b"BEHAVIOR";
+
+/// The ten lumps of a map, in place order.
+pub(crate) struct Lumps<'a> {
+    parts: [&'a [u8]; 10],
+}
+
+impl<'a> Lumps<'a> {
+    /// The lump at `place`, 1 to 10.
+    pub(crate) fn at(&self, place: usize) -> &'a [u8] {
+        self.parts[place - 1]
+    }
+
+    /// How many records the lump at `place`, 1 to 8, has.
+    pub(crate) fn count(&self, place: usize) -> usize {
+        TABLE[place - 1].records.map_or(0, |(size, _, _)| self.at(place).len() / size)
+    }
+}
+
+/// Judges the last map called `name`: refusals 1 to 6 and 10 to 31.
+///
+/// `words` must be at least four for each node. A refusal below 31 leaves them as found; 31 and
+/// acceptance leave the first four for each node zero and the later ones as found.
+pub fn judge_map(wad: &[u8], name: &[u8], words: &mut [u16]) -> Result<Accepted, Refusal> {
+    let (directory, marker) = find_marker(wad, name)?;
+    let lumps = run_of(wad, directory, marker)?;
+    judge_sizes(&lumps)?;
+    if lumps.at(9).len() != reject_size(lumps.count(8)) {
+        return Err(Refusal::new(22, 9, 0));
+    }
+    reference::judge(&lumps)?;
+    blockmap::judge(lumps.at(10), lumps.count(2))?;
+    let wanted = 4 * lumps.count(7);
+    if words.len() < wanted {
+        return Err(Refusal::new(30, 7, 0));
+    }
+    words[..wanted].fill(0);
+    let depth = graph::depth(lumps.at(7)).ok_or(Refusal::new(31, 7, 0))?;
+    Ok(Accepted { depth, marker })
+}
+
+/// Bytes of REJECT for a number of sectors: their square in bits, rounded up to whole bytes.
+pub fn reject_size(sectors: usize) -> usize {
+    (sectors * sectors).div_ceil(8)
+}
+
+/// The ten lumps after the marker: refusals 12 and 13.
+fn run_of(wad: &[u8], directory: Directory, marker: usize) -> Result<Lumps<'_>, Refusal> {
+    let run: Vec<Entry> = entries(wad, directory).skip(marker).take(12).collect();
+    if run[0].size != 0 {
+        return Err(Refusal::new(12, 0, 0));
+    }
+    for place in 1..=10 {
+        if run.get(place).map(|entry| entry.name) != Some(TABLE[place - 1].name) {
+            return Err(Refusal::new(12, place, 0));
+        }
+    }
+    if run.get(11).map(|entry| entry.name) == Some(HEXEN) {
+        return Err(Refusal::plain(13));
+    }
+    Ok(Lumps { parts: std::array::from_fn(|index| run[index + 1].lump(wad)) })
+}
+
+/// Whole records, and as many as the table allows, lump by lump: refusals 20 and 21.
+fn judge_sizes(lumps: &Lumps) -> Result<(), Refusal> {
+    for (place, row) in (1..).zip(&TABLE) {
+        let Some((size, least, most)) = row.records else { continue };
+        if !lumps.at(place).len().is_multiple_of(size) {
+            return Err(Refusal::new(20, place, 0));
+        }
+        let count = lumps.count(place);
+        let lone = place != 7 || count > 0 || lumps.count(6) == 1;
+        if !(least..=most).contains(&count) || !lone {
+            return Err(Refusal::new(21, place, 0));
+        }
+    }
+    Ok(())
+}

@@ -1,0 +1,172 @@
+//! The examples (a) to (l) of paper 01.
+
+use reader::*;
+
+const NAME: &[u8; 8] = b"MAP01\0\0\0";
+const ORDER: [&[u8; 8]; 10] = [
+    b"THINGS\0\0", b"LINEDEFS", b"SIDEDEFS", b"VERTEXES", b"SEGS\0\0\0\0", b"SSECTORS", b"NODES\0\0\0", b"SECTORS\0",
+    b"REJECT\0\0", b"BLOCKMAP",
+];
+
+fn words(words: &[u16]) -> Vec<u8> {
+    words.iter().flat_map(|word| word.to_le_bytes()).collect()
+}
+
+/// A node with the given children and a line of no direction.
+fn node(right: u16, left: u16) -> Vec<u8> {
+    let mut bytes = vec![0; Node::SIZE];
+    Node { right, left, ..Node::default() }.write(&mut bytes, 0).unwrap();
+    bytes
+}
+
+/// A file with one map: everything is there once, but for nodes, linedefs and the blockmap.
+fn wad(linedefs: usize, nodes: &[u8], blockmap: &[u8]) -> Vec<u8> {
+    let linedef = words(&[0, 0, 0, 0, 0, 0, NO_SIDEDEF]);
+    let lumps = [
+        vec![],
+        linedef.repeat(linedefs),
+        vec![0; 30],
+        vec![0; 4],
+        vec![0; 12],
+        words(&[1, 0]),
+        nodes.to_vec(),
+        vec![0; 26],
+        vec![0],
+        blockmap.to_vec(),
+    ];
+    let (mut data, mut directory) = (vec![], [&[0; 8][..], NAME].concat());
+    for (name, lump) in ORDER.iter().zip(&lumps) {
+        directory.extend((12 + data.len() as u32).to_le_bytes());
+        directory.extend((lump.len() as u32).to_le_bytes());
+        directory.extend(*name);
+        data.extend(lump);
+    }
+    let start = (12 + data.len() as u32).to_le_bytes();
+    [&b"PWAD"[..], &11u32.to_le_bytes(), &start, &data, &directory].concat()
+}
+
+/// A blockmap of one cell with the given list.
+fn one_cell(list: &[u16]) -> Vec<u8> {
+    words(&[&[0, 0, 1, 1, 5], list].concat())
+}
+
+fn judge(linedefs: usize, nodes: &[u8], list: &[u16]) -> Result<Accepted, Refusal> {
+    let mut lent = vec![7; 4 * nodes.len() / Node::SIZE + 1];
+    let verdict = judge_map(&wad(linedefs, nodes, &one_cell(list)), NAME, &mut lent);
+    let (last, first) = lent.split_last().unwrap();
+    let zeroed = verdict.is_ok() || verdict.unwrap_err().number == 31;
+    assert!(*last == 7 && first.iter().all(|&word| word == if zeroed { 0 } else { 7 }));
+    verdict
+}
+
+fn judge_nodes(nodes: &[u8]) -> Result<Accepted, Refusal> {
+    judge(1, nodes, &[0, 65535])
+}
+
+fn accepted(depth: usize) -> Result<Accepted, Refusal> {
+    Ok(Accepted { depth, marker: 0 })
+}
+
+#[test]
+fn a_reject_sizes() {
+    assert_eq!([1, 3, 10].map(reject_size), [1, 2, 13]);
+}
+
+#[test]
+fn b_demo1_is_a_name() {
+    assert_eq!([0x44, 0x45, 0x4D, 0x4F, 0x31, 0, 0, 0], *b"DEMO1\0\0\0");
+    assert!(is_name(b"DEMO1\0\0\0") && !is_name(b"DEMO1\0A\0") && !is_name(&[0; 8]));
+}
+
+/// Right is subsector 1, left is subsector 0.
+fn side(x: i16, y: i16, dx: i16, dy: i16, point: (i16, i16)) -> usize {
+    let mut bytes = vec![0; Node::SIZE];
+    let node = Node { x, y, dx, dy, right: 0x8001, left: 0x8000, ..Node::default() };
+    node.write(&mut bytes, 0).unwrap();
+    descend(&bytes, 2, point.0, point.1).unwrap().subsector
+}
+
+#[test]
+fn c_sides_of_a_line() {
+    let sides = [(1, 0), (0, 5), (-1, 0)].map(|point| side(0, 0, 0, 64, point));
+    assert_eq!(sides, [1, 0, 0]);
+}
+
+#[test]
+fn d_products_that_need_more_than_32_bits() {
+    let least = i16::MIN;
+    assert_eq!(side(least, least, least, least, (i16::MAX, i16::MAX)), 0);
+    assert_eq!(side(least, least, least, least, (i16::MAX - 1, i16::MAX)), 1);
+}
+
+#[test]
+fn e_child_words() {
+    assert_eq!(descend(&node(0x8000, 0x8000), 1, 0, 0), Ok(Found { subsector: 0, count: 1 }));
+    assert_eq!(descend(&node(0xFFFF, 0xFFFF), 32767, 0, 0), Err(Refusal::plain(42)));
+    assert_eq!(judge_nodes(&node(0x8000, 0xFFFF)), Err(Refusal::new(27, 7, 0)));
+}
+
+#[test]
+fn f_no_nodes() {
+    assert_eq!(judge_nodes(&[]), accepted(0));
+    assert_eq!(descend(&[], 1, 3, 4), Ok(Found { subsector: 0, count: 0 }));
+    assert_eq!(descend(&[], 2, 3, 4), Err(Refusal::plain(41)));
+}
+
+#[test]
+fn g_one_node() {
+    assert_eq!(judge_nodes(&node(0x8000, 0x8000)), accepted(1));
+}
+
+#[test]
+fn h_its_own_child() {
+    let refused = Err(Refusal::new(31, 7, 0));
+    assert_eq!(judge_nodes(&node(0x8000, 0)), refused);
+    assert_eq!(judge_nodes(&node(0, 0x8000)), refused);
+    assert_eq!(descend(&node(0x8000, 0), 1, 0, 0), Err(Refusal::plain(43)));
+}
+
+#[test]
+fn i_a_loop_that_no_route_reaches() {
+    assert_eq!(judge_nodes(&[node(0, 0x8000), node(0x8000, 0x8000)].concat()), accepted(1));
+}
+
+#[test]
+fn j_children_above_their_parents() {
+    let nodes = [node(1, 0x8000), node(0x8000, 0x8000), node(0x8000, 0)].concat();
+    assert_eq!(judge_nodes(&nodes), accepted(3));
+}
+
+#[test]
+fn k_lists() {
+    let three = [0, 330, 331, 333, 65535];
+    assert_eq!(judge(1, &[], &[0, 65535]), accepted(0));
+    assert_eq!(judge(334, &[], &three), accepted(0));
+    assert_eq!(judge(333, &[], &three), Err(Refusal::new(28, 10, 0)));
+    assert_eq!(judge(334, &[], &three[1..]), Err(Refusal::new(28, 10, 0)));
+}
+
+#[test]
+fn l_a_picture() {
+    let lump = [1, 0, 3, 0, 0, 0, 0, 0, 12, 0, 0, 0, 1, 1, 0, 7, 0, 255];
+    let picture = Picture { width: 1, height: 3, left: 0, top: 0 };
+    let (mut colour, mut cover) = ([9; 4], [9; 4]);
+    assert_eq!(judge_picture(&lump), Ok(picture));
+    assert_eq!(paint_picture(&lump, &mut colour, &mut cover), Ok(picture));
+    assert_eq!((colour, cover), ([0, 7, 0, 9], [0, 1, 0, 9]));
+    let (mut colour, mut cover) = ([9; 3], [9; 2]);
+    assert_eq!(paint_picture(&lump, &mut colour, &mut cover), Err(Refusal::plain(55)));
+    assert_eq!((colour, cover), ([9; 3], [9; 2]));
+}
+
+#[test]
+fn records_are_written_inside_only() {
+    let mut lump = [1; 13];
+    let linedef = Linedef { start: 1, left: NO_SIDEDEF, ..Linedef::default() };
+    assert_eq!(linedef.write(&mut lump, 0), Err(Refusal::plain(60)));
+    assert_eq!(Vertex { x: -1, y: 2 }.write(&mut lump, 2), Ok(()));
+    assert_eq!(Vertex::read(&lump, 2), Ok(Vertex { x: -1, y: 2 }));
+    assert_eq!(lump, [1, 1, 1, 1, 1, 1, 1, 1, 255, 255, 2, 0, 1]);
+    assert_eq!(Vertex::read(&lump, 3), Err(Refusal::plain(60)));
+    assert_eq!(Vertex::read(&lump, usize::MAX), Err(Refusal::plain(60)));
+}
