@@ -12,4 +12,3 @@ pub mod Tall
 pub mod Searching
 pub mod Looks
 pub mod Words
-pub mod Examples

@@ -9,4 +9,3 @@ pub mod Walks
 pub mod Promises
 pub mod Looks
 pub mod Searching
-pub mod Examples

@@ -5,3 +5,4 @@ pub mod Files
 pub mod Maps
 pub mod Pictures
 pub mod Records
+pub mod Examples

@@ -5,4 +5,3 @@ pub mod Posts
 pub mod Strokes
 pub mod Painting
 pub mod Planes
-pub mod Examples

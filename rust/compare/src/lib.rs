@@ -5,10 +5,8 @@
 #![deny(missing_docs)]
 
 mod ask;
-mod shrink;
 
 pub use ask::{ask_library, ask_reader, Outcome};
-pub use shrink::shrunk;
 
 use generator::{Case, Expected};
 

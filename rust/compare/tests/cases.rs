@@ -1,7 +1,7 @@
 //! Library and reader on generated cases: 200,000 by default, any number by MESHPIGEON_CASES, from MESHPIGEON_SEED.
 
-use compare::{fault, shrunk};
-use generator::{all_picture_damages, case, limits, Case};
+use compare::fault;
+use generator::{all_picture_damages, case, limits, shrink, Case};
 use std::env;
 use std::thread;
 
@@ -15,7 +15,7 @@ fn number(name: &str, default: u64) -> u64 {
 /// Stops at the first fault, with the case shrunk and written to a file.
 fn hold(case: &Case, origin: &str) {
     let Some(words) = fault(case) else { return };
-    let small = shrunk(case, |it| fault(it).is_some());
+    let small = shrink(case, |it| fault(it).is_some());
     let file = env::temp_dir().join(format!("meshpigeon-difference-{}.txt", std::process::id()));
     let text = format!("{origin}\n{words}\n\nshrunk:\n{small:?}\n{}\n", fault(&small).unwrap_or_default());
     std::fs::write(&file, text).expect("the case is written");

@@ -1,8 +1,26 @@
 //! A deterministic generator of WAD files, maps, pictures, records and descents, good and bad.
 //!
-//! Everything is built from named fields, with what is known of the answer beside it.
-//! [`case`] gives any number of small cases from a seed and an index; [`damages`], the pairs and
-//! the limits are finite lists; the large inputs of a benchmark have a function each.
+//! Everything is built from named fields, with what is known of the answer beside it:
+//!
+//! - [`case`] gives any number of small cases, each from a seed and an index;
+//! - [`single_case`] and [`pair_case`] go through [`damages`] and all pairs of them,
+//!   [`all_picture_damages`] does so for pictures;
+//! - [`limits`] lists both sides of every limit, each case built when asked for;
+//! - [`MapSpec`], [`Plan`], [`BlockmapSpec`] and [`PictureSpec`] build inputs by hand;
+//! - [`ordinary_map`], [`largest_map`], [`directory_of`], [`chain`], [`hostile_blockmap`],
+//!   [`hostile_picture`], [`picture`] and [`halving_nodes`] are the inputs of a benchmark;
+//! - [`shrink`] makes a failing case smaller.
+//!
+//! ```
+//! use generator::{case, Expected, Question};
+//!
+//! let case = case(1, 12);
+//! assert_eq!(case.label, "good picture");
+//! if let Question::PaintPicture { mut colour, mut cover } = case.question {
+//!     assert!(reader::paint_picture(&case.bytes, &mut colour, &mut cover).is_ok());
+//! }
+//! assert_eq!(case.expected, Expected::Accepted);
+//! ```
 #![forbid(unsafe_code)]
 #![deny(missing_docs)]
 
@@ -27,6 +45,7 @@ mod plan;
 mod record;
 mod record_case;
 mod rng;
+mod shrink;
 mod valid;
 
 pub use bench::{
@@ -49,4 +68,5 @@ pub use plan::{Content, EntryPlan, Plan, LUMP_NAMES, MAP_NAME};
 pub use record::{Encode, Kind, Record};
 pub use record_case::record_case;
 pub use rng::Rng;
+pub use shrink::shrink;
 pub use valid::{any_plan, map_case, sound_plan, valid_case, verdict};

@@ -3,8 +3,17 @@
 mod common;
 
 use common::check;
-use generator::{all_picture_damages, case, damages, pair_case, pair_count, single_case};
-use std::collections::BTreeMap;
+use generator::{all_picture_damages, case, damages, pair_case, pair_count, single_case, PICTURE_DAMAGES};
+use std::collections::{BTreeMap, BTreeSet};
+
+#[test]
+fn every_number_of_the_map_check_has_a_damage() {
+    let numbers: BTreeSet<u32> = damages().iter().map(|damage| damage.number).collect();
+    let wanted = (1..=6).chain(10..=13).chain(20..=28).chain(30..=31);
+    assert_eq!(numbers, wanted.collect());
+    let numbers: BTreeSet<u32> = PICTURE_DAMAGES.iter().map(|damage| damage.number).collect();
+    assert_eq!(numbers, (50..=55).collect());
+}
 
 #[test]
 fn every_single_damage_yields_its_number() {
@@ -29,11 +38,32 @@ fn every_picture_damage_and_pair() {
     }
 }
 
+/// Says which case it was when a check fails.
+struct Place {
+    seed: u64,
+    index: u64,
+}
+
+impl Drop for Place {
+    fn drop(&mut self) {
+        if std::thread::panicking() {
+            eprintln!("case({}, {})", self.seed, self.index);
+        }
+    }
+}
+
+/// A number out of the environment.
+fn number(name: &str, usual: u64) -> u64 {
+    std::env::var(name).map_or(usual, |text| text.parse().expect(name))
+}
+
 #[test]
 fn cases_of_all_families() {
+    let (seed, count) = (number("MESHPIGEON_SEED", 3), number("MESHPIGEON_CASES", 60_000));
     let mut met = BTreeMap::new();
-    for index in 0..60_000 {
-        let number = check(&case(3, index));
+    for index in 0..count {
+        let _place = Place { seed, index };
+        let number = check(&case(seed, index));
         *met.entry(number).or_insert(0) += 1;
     }
     println!("{met:?}");

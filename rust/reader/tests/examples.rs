@@ -160,6 +160,16 @@ fn l_a_picture() {
 }
 
 #[test]
+fn sizes_and_places_of_the_table() {
+    let places = [Thing::PLACE, Linedef::PLACE, Sidedef::PLACE, Vertex::PLACE];
+    let more_places = [Seg::PLACE, Subsector::PLACE, Node::PLACE, Sector::PLACE];
+    assert_eq!((places, more_places), ([1, 2, 3, 4], [5, 6, 7, 8]));
+    let sizes = [Thing::SIZE, Linedef::SIZE, Sidedef::SIZE, Vertex::SIZE];
+    let more_sizes = [Seg::SIZE, Subsector::SIZE, Node::SIZE, Sector::SIZE];
+    assert_eq!((sizes, more_sizes), ([10, 14, 30, 4], [12, 4, 28, 26]));
+}
+
+#[test]
 fn records_are_written_inside_only() {
     let mut lump = [1; 13];
     let linedef = Linedef { start: 1, left: NO_SIDEDEF, ..Linedef::default() };

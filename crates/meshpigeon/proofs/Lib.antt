@@ -1,0 +1,3 @@
+-- The examples of 01. Assumes nothing.
+
+pub mod Examples

@@ -1,0 +1,85 @@
+-- The examples of 01, "Examples", (a) to (l), of the definitions. The proof is proofs/Examples.antt. Assumes nothing.
+use Prim.Native.Nat.{ℕ, _≤_}
+use mathlib.Core.Bool.{true, false, _&&_}
+use mathlib.Core.List.{List, [], _∷_, _++_}
+use mathlib.Core.Path.{_≡_}
+use lib.Dec.{ltb}
+use lib.IntN.{ℤ, pos, negsuc, _-ℤ_, _*ℤ_}
+use lib.ListN.{replicate}
+use Rattle.endian.specs.Unsigned.{u16Bytes}
+use Rattle.refusal.specs.declared.Check.the-variants.{Pass}
+use Rattle.wad.specs.Name.{nameOk, sameName}
+use Rattle.bsp.specs.declared.Choice.the-variants.{Right, Left}
+use Rattle.bsp.specs.declared.Descent.the-variants.{Found}
+use Rattle.bsp.specs.declared.Graph.{Graph}
+use Rattle.bsp.specs.Nodes.{subsectorBit, childOk}
+use Rattle.bsp.specs.Heights.{graphVerdict}
+use Rattle.bsp.specs.Side.{side}
+use Rattle.bsp.specs.Walks.{descent}
+use Rattle.level.specs.Sizes.{rejectSize}
+use Rattle.level.specs.Blockmap.{listOk}
+use Rattle.picture.specs.Judging.{paintCheck}
+use Rattle.picture.specs.Pixels.{planeOf, byColour, byCover}
+
+-- (b)'s bytes, and the letters D E M O 1
+abbrev demo1 : List ℕ
+demo1 = 0x44 ∷ 0x45 ∷ 0x4D ∷ 0x4F ∷ 0x31 ∷ 0x00 ∷ 0x00 ∷ 0x00 ∷ []
+
+abbrev letters : List ℕ
+letters = 68 ∷ 69 ∷ 77 ∷ 79 ∷ 49 ∷ 0 ∷ 0 ∷ 0 ∷ []
+
+-- -32,768
+abbrev lowest : ℤ
+lowest = negsuc 32767
+
+-- a node of the two children, all else 0
+abbrev node : ℕ → ℕ → List ℕ
+node right left = replicate 24 0 ++ u16Bytes right ++ u16Bytes left
+
+-- a BLOCKMAP of two cells, whose lists are `0 65535` at word 6 and `0 330 331 333 65535` at word 8
+abbrev blockmap : List ℕ
+blockmap =
+    u16Bytes 0 ++ u16Bytes 0 ++ u16Bytes 2 ++ u16Bytes 1 ++ u16Bytes 6 ++ u16Bytes 8
+    ++ u16Bytes 0 ++ u16Bytes 65535
+    ++ u16Bytes 0 ++ u16Bytes 330 ++ u16Bytes 331 ++ u16Bytes 333 ++ u16Bytes 65535
+
+-- (l)'s picture
+abbrev picture : List ℕ
+picture =
+    0x01 ∷ 0x00 ∷ 0x03 ∷ 0x00 ∷ 0x00 ∷ 0x00 ∷ 0x00 ∷ 0x00 ∷ 0x0C ∷ 0x00 ∷ 0x00 ∷ 0x00
+    ∷ 0x01 ∷ 0x01 ∷ 0x00 ∷ 0x07 ∷ 0x00 ∷ 0xFF ∷ []
+
+pub record Examples : Type 0 where
+  -- (a) REJECT for 1, 3 and 10 sectors
+  pub a : (rejectSize 1 ≡ 1) × ((rejectSize 3 ≡ 2) × (rejectSize 10 ≡ 13))
+  -- (b) 44 45 4D 4F 31 00 00 00 is a name, and is DEMO1
+  pub b : (nameOk demo1 ≡ true) × (sameName demo1 letters ≡ true)
+  -- (c) start (0, 0), direction (0, 64): (1, 0) right, (0, 5) and (-1, 0) left
+  pub c-right : side (pos 1) (pos 0) (pos 0) (pos 0) (pos 0) (pos 64) ≡ Right
+  pub c-on : side (pos 0) (pos 5) (pos 0) (pos 0) (pos 0) (pos 64) ≡ Left
+  pub c-left : side (negsuc 0) (pos 0) (pos 0) (pos 0) (pos 0) (pos 64) ≡ Left
+  -- (d) start and direction (-32768, -32768), point (32767, 32767): both products are -2,147,450,880, so left
+  pub d-product : (pos 32767 -ℤ lowest) *ℤ lowest ≡ negsuc 2147450879
+  pub d-left : side (pos 32767) (pos 32767) lowest lowest lowest lowest ≡ Left
+  -- (e) 0x8000 is subsector 0, and 0xFFFF is never in range
+  pub e-first : 0x8000 ≡ subsectorBit
+  pub e-never : (count subsectors : ℕ) → subsectors ≤ 32767 → childOk count subsectors 0xFFFF ≡ false
+  -- (f) no nodes, one subsector: depth 0, answer 0, count 0
+  pub f-depth : graphVerdict [] ≡ Graph.Depth 0
+  pub f-descent : (x y : ℤ) → descent [] 1 x y ≡ Found 0 0
+  -- (g) one node, both children subsector 0: depth 1
+  pub g : graphVerdict (node 0x8000 0x8000) ≡ Graph.Depth 1
+  -- (h) one node whose left child is itself: a loop
+  pub h : graphVerdict (node 0x8000 0) ≡ Graph.Loop
+  -- (i) two nodes, node 0 its own child, the root's children both subsectors: depth 1
+  pub i : graphVerdict (node 0 0x8000 ++ node 0x8000 0x8000) ≡ Graph.Depth 1
+  -- (j) three nodes, root 2 has node 0, node 0 has node 1, all else subsectors: depth 3
+  pub j : graphVerdict (node 1 0x8000 ++ node 0x8000 0x8000 ++ node 0 0x8000) ≡ Graph.Depth 3
+  -- (k) the first list is good however few linedefs there are, so it names none; the second names 330, 331 and 333
+  pub k-none : (linedefs : ℕ) → listOk blockmap linedefs 6 ≡ true
+  pub k-three : (linedefs : ℕ)
+      → listOk blockmap linedefs 8 ≡ (ltb 330 linedefs && (ltb 331 linedefs && (ltb 333 linedefs && true)))
+  -- (l) colour 0 7 0, cover 0 1 0
+  pub l-accepted : paintCheck picture 3 3 ≡ Pass
+  pub l-colour : planeOf byColour picture ≡ 0 ∷ 7 ∷ 0 ∷ []
+  pub l-cover : planeOf byCover picture ≡ 0 ∷ 1 ∷ 0 ∷ []
