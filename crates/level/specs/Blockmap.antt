@@ -36,7 +36,8 @@ headerOk lump =
 abbrev pub listEnd : ℕ
 listEnd = 65535
 
--- the last `left` words of the lump begin with linedef numbers below `linedefs` and then the mark
+-- the last `left` words of the lump, from word `wordsOf lump - left` on, begin with linedef numbers below `linedefs` and then the
+-- mark; without a mark they run off the end
 unfoldable pub endsWell : List ℕ → ℕ → ℕ → Bool
 endsWell lump linedefs zero = false
 endsWell lump linedefs (suc left) =

@@ -6,7 +6,35 @@ use lib.ListN.{length, getD}
 use Rattle.wad.specs.Lump.{lumpAt}
 use Rattle.record.specs.Lumps.{sizeOf}
 
--- the rows of the table of lumps
+-- the rows by the lumps' names
+abbrev pub LINEDEFS : ℕ
+LINEDEFS = 1
+
+abbrev pub SIDEDEFS : ℕ
+SIDEDEFS = 2
+
+abbrev pub VERTEXES : ℕ
+VERTEXES = 3
+
+abbrev pub SEGS : ℕ
+SEGS = 4
+
+abbrev pub SSECTORS : ℕ
+SSECTORS = 5
+
+abbrev pub NODES : ℕ
+NODES = 6
+
+abbrev pub SECTORS : ℕ
+SECTORS = 7
+
+abbrev pub REJECT : ℕ
+REJECT = 8
+
+abbrev pub BLOCKMAP : ℕ
+BLOCKMAP = 9
+
+-- all ten; THINGS is row 0
 abbrev pub rows : List ℕ
 rows = 0 ∷ 1 ∷ 2 ∷ 3 ∷ 4 ∷ 5 ∷ 6 ∷ 7 ∷ 8 ∷ 9 ∷ []
 

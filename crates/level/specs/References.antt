@@ -16,7 +16,7 @@ use Rattle.record.specs.Sidedefs.{sidedefOf}
 use Rattle.record.specs.Segs.{segOf}
 use Rattle.record.specs.Subsectors.{subsectorOf}
 use Rattle.bsp.specs.Nodes.{nodeOk}
-use Rattle.level.specs.Lumps.{lumpOf, countOf}
+use Rattle.level.specs.Lumps.{lumpOf, countOf, LINEDEFS, SIDEDEFS, VERTEXES, SEGS, SSECTORS, NODES, SECTORS}
 
 -- a linedef without a left side says this number
 abbrev pub noSidedef : ℕ
@@ -26,7 +26,8 @@ noSidedef = 65535
 abbrev pub twoSided : ℕ → Bool
 twoSided flags = eqb (flags / 4 % 2) 1
 
--- both vertices in range; a right side in range; a left side none or in range, and there where the linedef is two-sided
+-- both vertices in range; a right side in range (which 65,535 never is, since there are at most 65,535 sidedefs); a left side
+-- none or in range, and there where the linedef is two-sided
 abbrev pub linedefOk : ℕ → ℕ → Linedef → Bool
 linedefOk vertices sidedefs l =
     ltb (l .start) vertices && ltb (l .end) vertices && ltb (l .right) sidedefs
@@ -69,19 +70,19 @@ nodeCheck nodes subsectors i = unless (nodeOk nodes subsectors i) (NodeReference
 
 -- each over all records of its lump in turn
 abbrev pub linedefsCheck : List (List ℕ) → Check
-linedefsCheck lumps = each (linedefCheck (lumpOf lumps 1) (countOf lumps 3) (countOf lumps 2)) (countOf lumps 1)
+linedefsCheck lumps = each (linedefCheck (lumpOf lumps LINEDEFS) (countOf lumps VERTEXES) (countOf lumps SIDEDEFS)) (countOf lumps LINEDEFS)
 
 abbrev pub sidedefsCheck : List (List ℕ) → Check
-sidedefsCheck lumps = each (sidedefCheck (lumpOf lumps 2) (countOf lumps 7)) (countOf lumps 2)
+sidedefsCheck lumps = each (sidedefCheck (lumpOf lumps SIDEDEFS) (countOf lumps SECTORS)) (countOf lumps SIDEDEFS)
 
 abbrev pub segsCheck : List (List ℕ) → Check
-segsCheck lumps = each (segCheck (lumpOf lumps 4) (lumpOf lumps 1) (countOf lumps 3)) (countOf lumps 4)
+segsCheck lumps = each (segCheck (lumpOf lumps SEGS) (lumpOf lumps LINEDEFS) (countOf lumps VERTEXES)) (countOf lumps SEGS)
 
 abbrev pub subsectorsCheck : List (List ℕ) → Check
-subsectorsCheck lumps = each (subsectorCheck (lumpOf lumps 5) (countOf lumps 4)) (countOf lumps 5)
+subsectorsCheck lumps = each (subsectorCheck (lumpOf lumps SSECTORS) (countOf lumps SEGS)) (countOf lumps SSECTORS)
 
 abbrev pub nodesCheck : List (List ℕ) → Check
-nodesCheck lumps = each (nodeCheck (lumpOf lumps 6) (countOf lumps 5)) (countOf lumps 6)
+nodesCheck lumps = each (nodeCheck (lumpOf lumps NODES) (countOf lumps SSECTORS)) (countOf lumps NODES)
 
 -- 23 to 27
 abbrev pub referencesCheck : List (List ℕ) → Check

@@ -8,15 +8,15 @@ use Rattle.refusal.specs.declared.Check.{Check}
 use Rattle.refusal.specs.declared.Refusal.the-variants.{RecordSize, RecordCount, RejectLength}
 use Rattle.refusal.specs.Checks.{unless, _andThen_, each}
 use Rattle.record.specs.Lumps.{sizeOf, leastOf, mostOf}
-use Rattle.level.specs.Lumps.{lumpOf, countOf}
+use Rattle.level.specs.Lumps.{lumpOf, countOf, SSECTORS, NODES, SECTORS, REJECT}
 
 -- the lump of row `i` has whole records only
 abbrev pub wholeOk : List (List ℕ) → ℕ → Bool
 wholeOk lumps i = eqb (length (lumpOf lumps i) % sizeOf i) 0
 
--- where NODES (row 6) has none, SSECTORS (row 5) has exactly one
+-- where NODES has none, SSECTORS has exactly one
 abbrev pub aloneOk : List (List ℕ) → ℕ → Bool
-aloneOk lumps i = not (eqb i 6) || ltb 0 (countOf lumps 6) || eqb (countOf lumps 5) 1
+aloneOk lumps i = not (eqb i NODES) || ltb 0 (countOf lumps NODES) || eqb (countOf lumps SSECTORS) 1
 
 -- the count of row `i` is one that the table allows
 abbrev pub countOk : List (List ℕ) → ℕ → Bool
@@ -32,7 +32,7 @@ rejectSize sectors = (sectors * sectors + 7) / 8
 
 -- 22
 abbrev pub rejectCheck : List (List ℕ) → Check
-rejectCheck lumps = unless (eqb (length (lumpOf lumps 8)) (rejectSize (countOf lumps 7))) RejectLength
+rejectCheck lumps = unless (eqb (length (lumpOf lumps REJECT)) (rejectSize (countOf lumps SECTORS))) RejectLength
 
 -- 20 and 21 lump by lump, then 22
 abbrev pub sizesCheck : List (List ℕ) → Check

@@ -21,7 +21,7 @@ use Rattle.bsp.specs.Heights.{graphVerdict}
 use Rattle.bsp.specs.Judging.{cleared}
 use Rattle.level.specs.declared.Verdict.{Verdict}
 use Rattle.level.specs.declared.Verdict.the-variants.{Accepted, Refused as NotAccepted}
-use Rattle.level.specs.Lumps.{mapLumps, lumpOf, countOf}
+use Rattle.level.specs.Lumps.{mapLumps, lumpOf, countOf, LINEDEFS, SSECTORS, NODES, BLOCKMAP}
 use Rattle.level.specs.Run.{runCheck}
 use Rattle.level.specs.Sizes.{sizesCheck}
 use Rattle.level.specs.References.{referencesCheck}
@@ -29,19 +29,19 @@ use Rattle.level.specs.Blockmap.{blockmapCheck}
 
 -- 30: fewer than four work words for each node
 abbrev pub workCheck : List (List ℕ) → ℕ → Check
-workCheck lumps words = unless (leb (4 * countOf lumps 6) words) WorkWords
+workCheck lumps lent = unless (leb (4 * countOf lumps NODES) lent) WorkWords
 
--- 20 to 30, which look at the map's own lumps and at how many words are lent
+-- 20 to 30, which look at the map's own lumps and at how many words are lent, `lent`
 abbrev pub lumpsCheck : List (List ℕ) → ℕ → Check
-lumpsCheck lumps words =
+lumpsCheck lumps lent =
     sizesCheck lumps
     andThen referencesCheck lumps
-    andThen blockmapCheck (lumpOf lumps 9) (countOf lumps 1)
-    andThen workCheck lumps words
+    andThen blockmapCheck (lumpOf lumps BLOCKMAP) (countOf lumps LINEDEFS)
+    andThen workCheck lumps lent
 
 -- 12 to 30, of the map whose marker is entry `marker` of a directory of `count` entries
 abbrev pub mapCheck : List ℕ → ℕ → ℕ → List (List ℕ) → ℕ → Check
-mapCheck dir count marker lumps words = runCheck dir count marker andThen lumpsCheck lumps words
+mapCheck dir count marker lumps lent = runCheck dir count marker andThen lumpsCheck lumps lent
 
 -- 31, or accepted
 abbrev pub graphAnswer : Graph → ℕ → Verdict
@@ -60,15 +60,15 @@ wordsBy (Refused r) nodes words = words
 
 -- the check of the map at entry `marker` of a file
 abbrev pub checkAt : List ℕ → ℕ → ℕ → Check
-checkAt wad marker words =
-    mapCheck (directoryOf wad) (entriesOf (headOf wad)) marker (mapLumps wad (directoryOf wad) marker) words
+checkAt wad marker lent =
+    mapCheck (directoryOf wad) (entriesOf (headOf wad)) marker (mapLumps wad (directoryOf wad) marker) lent
 
 -- its NODES lump, and its count of subsectors
 abbrev pub nodesAt : List ℕ → ℕ → List ℕ
-nodesAt wad marker = lumpOf (mapLumps wad (directoryOf wad) marker) 6
+nodesAt wad marker = lumpOf (mapLumps wad (directoryOf wad) marker) NODES
 
 abbrev pub subsectorsAt : List ℕ → ℕ → ℕ
-subsectorsAt wad marker = countOf (mapLumps wad (directoryOf wad) marker) 5
+subsectorsAt wad marker = countOf (mapLumps wad (directoryOf wad) marker) SSECTORS
 
 -- 1 to 11 by the search for the marker, then the rest
 abbrev pub verdictBy : List ℕ → List ℕ → Marker → Verdict

@@ -2,7 +2,6 @@
 //
 // The good file has 12 bytes of header, 4 of data (bytes 12 to 15) and four entries: MAP01 (size 0), DATA (12, 4), A[]-_\9Z
 // (14, 2) and MAP01 again (size 0).
-use crate::print;
 use wad::Directory;
 use wad::Entry;
 use wad::Marker;

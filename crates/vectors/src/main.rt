@@ -3,7 +3,6 @@ mod files;
 mod named_records;
 mod nodes;
 mod pictures;
-mod print;
 mod records;
 
 fn main() {

@@ -1,6 +1,5 @@
 // The kinds of map record with names or boxes in them: the last of a lump, the one past it, a lump cut inside it; written
 // back, written changed, and written past the end.
-use crate::print;
 use crate::records;
 use record::Node;
 use record::Sector;

@@ -1,6 +1,5 @@
 // The kinds of map record that are numbers alone: the last of a lump, the one past it, a lump cut inside it; written
 // back, written changed, and written past the end.
-use crate::print;
 use record::Linedef;
 use record::Seg;
 use record::Subsector;

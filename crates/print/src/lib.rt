@@ -1,4 +1,4 @@
-// Answers as lines of text on standard output.
+// Answers as lines of text on standard output, for the programs that run vectors.
 use refusal::Check;
 use refusal::Refusal;
 

@@ -1,10 +1,10 @@
--- `vectors::print::bytes` reads inside its slice, and ends: the measure is what is left of the slice. Assumes nothing.
+-- `print::bytes` reads inside its slice, and ends: the measure is what is left of the slice. Assumes nothing.
 use Prim.Native.Nat.{_≤_, _-_}
 use mathlib.Core.Path.{_≡_}
 use borrow.Author.Needs.{needs}
 use lib.ListN.{length}
-use Rattle.vectors.proofs.print.bytes.Statement.{statement}
-use Rattle.vectors.proofs.print.bytes.Tie as tie
+use Rattle.print.proofs.bytes.Statement.{statement}
+use Rattle.print.proofs.bytes.Tie as tie
 
 abbrev Inv-loop : tie.InvT-loop
 Inv-loop s i₀ i-end i = (i ≤ length s) × (i-end ≡ length s)
