@@ -27,6 +27,8 @@ mod plan;
 mod record;
 mod record_case;
 mod rng;
+mod rooms;
+mod sample;
 mod valid;
 
 pub use bench::{
@@ -49,4 +51,6 @@ pub use plan::{Content, EntryPlan, Plan, LUMP_NAMES, MAP_NAME};
 pub use record::{Encode, Kind, Record};
 pub use record_case::record_case;
 pub use rng::Rng;
+pub use rooms::rooms;
+pub use sample::{samples, Sample};
 pub use valid::{any_plan, map_case, sound_plan, valid_case, verdict};
