@@ -59,7 +59,7 @@ impl Refusal {
         match self.number {
             1 => write!(out, "the file is too short or too long: a WAD file has 12 to 16,777,216 bytes"),
             2 => write!(out, "this is no WAD file: it does not begin with IWAD or PWAD"),
-            3 => write!(out, "the header's count of lumps is wrong: it is 0 to 4,096"),
+            3 => write!(out, "the header's count of lumps is wrong: 0 to 4,096 are allowed"),
             4 => write!(
                 out,
                 "the directory does not lie inside the file: it starts at byte 12 or later and has 16 bytes for each lump"
@@ -93,17 +93,14 @@ impl Refusal {
         let lump = self.lump().unwrap_or("a lump");
         let size = SIZES.get(self.place).unwrap_or(&0);
         match (self.number, self.place) {
-            (20, _) => write!(out, "{lump} is cut off inside a record: its size is a multiple of {size} bytes"),
+            (20, _) => write!(out, "{lump} is cut off inside a record: its size must be a multiple of {size} bytes"),
             (21, 1) => write!(out, "there are too many things: a map has 0 to 65,535"),
             (21, 6) => write!(out, "there are too few or too many subsectors: a map has 1 to 32,767"),
             (21, 7) => {
                 write!(out, "the count of nodes is wrong: a map has 0 to 32,767, and none only if it has a single subsector")
             }
             (21, _) => write!(out, "{lump} has too few or too many records: a map has 1 to 65,535"),
-            _ => write!(
-                out,
-                "REJECT has the wrong length: it has one bit for each sector as seen from each sector, rounded up to whole bytes"
-            ),
+            _ => write!(out, "REJECT has the wrong length: it must have sectors times sectors bits, rounded up to whole bytes"),
         }
     }
 
@@ -156,7 +153,7 @@ impl Refusal {
         let record = self.record;
         match self.number {
             50 => write!(out, "the picture is too short: its header alone has 8 bytes"),
-            51 => write!(out, "the picture's size is wrong: it is 1 to 320 across and 1 to 200 down"),
+            51 => write!(out, "the picture's size is wrong: 1 to 320 across and 1 to 200 down are allowed"),
             52 => write!(out, "the picture's column offsets run past its end: there are four bytes for each column"),
             53 => write!(
                 out,

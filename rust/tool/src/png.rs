@@ -44,7 +44,7 @@ fn stored(data: &[u8]) -> Vec<u8> {
 
 /// The check of a chunk, bit by bit from the least.
 fn crc32(data: &[u8]) -> u32 {
-    let step = |crc: u32| if crc & 1 == 1 { crc >> 1 ^ 0xEDB8_8320 } else { crc >> 1 };
+    let step = |crc: u32| if crc & 1 == 1 { (crc >> 1) ^ 0xEDB8_8320 } else { crc >> 1 };
     !data.iter().fold(u32::MAX, |crc, &byte| (0..8).fold(crc ^ u32::from(byte), |crc, _| step(crc)))
 }
 
@@ -55,7 +55,7 @@ fn adler32(data: &[u8]) -> u32 {
         low = (low + u32::from(byte)) % 65_521;
         high = (high + low) % 65_521;
     }
-    high << 16 | low
+    (high << 16) | low
 }
 
 #[cfg(test)]

@@ -40,11 +40,10 @@ struct Tally {
 }
 
 impl Report {
-    /// A report with nothing said. Colour is for terminals, and never with NO_COLOR.
+    /// A report with nothing said. Colour is for terminals, and never with NO_COLOR, whatever it holds.
     pub fn new(json: bool, quiet: bool) -> Self {
         let output = io::stdout();
-        let plain = std::env::var_os("NO_COLOR").is_some_and(|it| !it.is_empty());
-        let colour = output.is_terminal() && !plain;
+        let colour = output.is_terminal() && std::env::var_os("NO_COLOR").is_none();
         Self { json, quiet, colour, output, broken: None, status: 0, tally: Tally::default() }
     }
 

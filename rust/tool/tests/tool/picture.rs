@@ -49,7 +49,7 @@ fn the_largest_picture_takes_several_blocks() {
     folder.run(&["picture", "a.wad", "TITLEPIC", "-o", "out.png", "-q"]).is(0, &[]);
     let png = png_reader::read(&fs::read(folder.file("out.png")).expect("the picture"));
     assert_eq!((png.width, png.height, png.pixels.len()), (320, 200, 64_000));
-    assert!(png.pixels.iter().any(|it| *it == CLEAR) && png.pixels.iter().any(|it| it[3] == 255));
+    assert!(png.pixels.contains(&CLEAR) && png.pixels.iter().any(|it| it[3] == 255));
 }
 
 #[test]

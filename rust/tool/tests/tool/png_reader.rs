@@ -54,7 +54,7 @@ fn crc32(bytes: &[u8]) -> u32 {
     let mut crc = u32::MAX;
     for bit in bytes.iter().flat_map(|byte| (0..8).map(move |at| u32::from(byte >> at & 1))) {
         let out = (crc ^ bit) & 1;
-        crc = crc >> 1 ^ 0xEDB8_8320 * out;
+        crc = (crc >> 1) ^ (0xEDB8_8320 * out);
     }
     !crc
 }
@@ -64,5 +64,5 @@ fn adler32(bytes: &[u8]) -> u32 {
     let low: u64 = 1 + bytes.iter().map(|&byte| u64::from(byte)).sum::<u64>();
     let count = bytes.len() as u64;
     let high: u64 = count + (0..).zip(bytes).map(|(at, &byte)| (count - at) * u64::from(byte)).sum::<u64>();
-    ((high % 65_521) << 16 | low % 65_521) as u32
+    (((high % 65_521) << 16) | (low % 65_521)) as u32
 }
