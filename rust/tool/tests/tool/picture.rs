@@ -33,6 +33,16 @@ fn a_picture_has_the_files_own_colours() {
 }
 
 #[test]
+fn the_last_lump_and_the_last_palette_of_a_name_count() {
+    let (black, blank) = (vec![0; 768], PictureSpec::blank(1, 1).encode());
+    let entries = [(b"PLAYPAL\0", black), (b"SMALL\0\0\0", blank), (b"SMALL\0\0\0", small()), (b"PLAYPAL\0", palette())];
+    let folder = Folder::with("a.wad", &lumps(&entries));
+    folder.run(&["picture", "a.wad", "SMALL", "-o", "out.png", "-q"]).is(0, &[]);
+    let png = png_reader::read(&fs::read(folder.file("out.png")).expect("the picture"));
+    assert_eq!(png.pixels[2..3], [[107, 193, 7, 255]]);
+}
+
+#[test]
 fn without_a_whole_palette_it_is_grey() {
     let short = (b"PLAYPAL\0", palette()[..767].to_vec());
     for entries in [vec![(b"SMALL\0\0\0", small())], vec![short, (b"SMALL\0\0\0", small())]] {
