@@ -21,3 +21,24 @@ fn the_lump_is_named_where_a_place_is() {
     assert_eq!(lump(22, 9), Some("REJECT"));
     assert_eq!(lump(5, 0), None);
 }
+
+#[test]
+fn the_whereabouts_are_lump_and_record() {
+    let whereabouts = |number, place, record| Refusal { number, place, record }.whereabouts();
+    assert_eq!(whereabouts(31, 7, 0).as_deref(), Some("NODES"));
+    assert_eq!(whereabouts(23, 2, 17).as_deref(), Some("LINEDEFS 17"));
+    assert_eq!(whereabouts(5, 0, 3).as_deref(), Some("entry 3"));
+    assert_eq!(whereabouts(53, 0, 4).as_deref(), Some("column 4"));
+    assert_eq!(whereabouts(42, 0, 8).as_deref(), Some("node 8"));
+    assert_eq!(whereabouts(1, 0, 0), None);
+}
+
+#[test]
+fn sizes_are_told_lump_by_lump() {
+    let said = |number, place| Refusal { number, place, record: 0 }.to_string();
+    assert!(said(20, 7).contains("NODES") && said(20, 7).contains("28 bytes"));
+    assert!(said(21, 1).contains("0 to 65,535"));
+    assert!(said(21, 4).contains("VERTEXES") && said(21, 4).contains("1 to 65,535"));
+    assert!(said(21, 6).contains("1 to 32,767"));
+    assert!(said(21, 7).contains("0 to 32,767"));
+}

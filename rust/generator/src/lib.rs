@@ -45,6 +45,8 @@ mod plan;
 mod record;
 mod record_case;
 mod rng;
+mod rooms;
+mod sample;
 mod shrink;
 mod valid;
 
@@ -68,5 +70,7 @@ pub use plan::{Content, EntryPlan, Plan, LUMP_NAMES, MAP_NAME};
 pub use record::{Encode, Kind, Record};
 pub use record_case::record_case;
 pub use rng::Rng;
+pub use rooms::rooms;
+pub use sample::{samples, Sample};
 pub use shrink::shrink;
 pub use valid::{any_plan, map_case, sound_plan, valid_case, verdict};

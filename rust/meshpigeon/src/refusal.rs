@@ -1,11 +1,16 @@
 //! A refusal: the papers' three numbers, and what they say in words.
 
+use crate::{Linedef, Node, Sector, Seg, Sidedef, Subsector, Thing, Vertex};
 use std::error::Error;
 use std::fmt;
 
 /// The lumps of a map by place; place 0 is the marker.
 const LUMPS: [&str; 11] =
     ["the marker", "THINGS", "LINEDEFS", "SIDEDEFS", "VERTEXES", "SEGS", "SSECTORS", "NODES", "SECTORS", "REJECT", "BLOCKMAP"];
+
+/// Bytes of a record by place, for the lumps that hold records.
+const SIZES: [usize; 9] =
+    [0, Thing::SIZE, Linedef::SIZE, Sidedef::SIZE, Vertex::SIZE, Seg::SIZE, Subsector::SIZE, Node::SIZE, Sector::SIZE];
 
 /// Why something was refused.
 #[derive(Clone, Copy, Debug, PartialEq, Eq)]
@@ -27,51 +32,159 @@ impl Refusal {
         }
     }
 
+    /// Whether the record part has a meaning for this number.
+    pub fn names_record(&self) -> bool {
+        matches!(self.number, 5 | 6 | 23..=28 | 42 | 53 | 54)
+    }
+
+    /// Where the fault is, in a word or two, for the numbers that name a place or a record: `NODES`, `LINEDEFS 17`, `entry 3`.
+    pub fn whereabouts(&self) -> Option<String> {
+        let part = match self.number {
+            5 | 6 => "entry",
+            42 => "node",
+            53 | 54 => "column",
+            _ => self.lump()?,
+        };
+        Some(if self.names_record() { format!("{part} {}", self.record) } else { part.to_string() })
+    }
+
     /// Whether the caller's loan or question is at fault, and not the file: too few words, a short buffer, a number or a name that
     /// cannot be asked for.
     pub fn is_callers(&self) -> bool {
         matches!(self.number, 7 | 10 | 30 | 41 | 55 | 60)
     }
+
+    fn say_of_file(&self, out: &mut fmt::Formatter<'_>) -> fmt::Result {
+        let record = self.record;
+        match self.number {
+            1 => write!(out, "the file is too short or too long: a WAD file has 12 to 16,777,216 bytes"),
+            2 => write!(out, "this is no WAD file: it does not begin with IWAD or PWAD"),
+            3 => write!(out, "the header's count of lumps is wrong: 0 to 4,096 are allowed"),
+            4 => write!(
+                out,
+                "the directory does not lie inside the file: it starts at byte 12 or later and has 16 bytes for each lump"
+            ),
+            5 => write!(
+                out,
+                "entry {record} claims bytes outside the file: a lump starts at byte 12 or later, and its offset and size end \
+                 inside the file"
+            ),
+            6 => write!(out, "entry {record} has a bad name: one to eight of A-Z, 0-9, [ ] - _ \\ and then zeros only"),
+            _ => write!(out, "there is no entry of that number"),
+        }
+    }
+
+    fn say_of_marker(&self, out: &mut fmt::Formatter<'_>) -> fmt::Result {
+        match self.number {
+            10 => write!(out, "that is no map's name: maps are called E1M1 to E9M9, or MAP01 to MAP99"),
+            11 => write!(out, "the file has no map of that name"),
+            12 if self.place == 0 => write!(out, "the map's marker is not empty: a marker has size 0"),
+            12 => write!(
+                out,
+                "{} is missing or misnamed: after the marker come THINGS, LINEDEFS, SIDEDEFS, VERTEXES, SEGS, SSECTORS, NODES, \
+                 SECTORS, REJECT and BLOCKMAP, in this order",
+                self.lump().unwrap_or("a lump")
+            ),
+            _ => write!(out, "this is a Hexen map, as BEHAVIOR follows its ten lumps: only Doom maps are judged"),
+        }
+    }
+
+    fn say_of_sizes(&self, out: &mut fmt::Formatter<'_>) -> fmt::Result {
+        let lump = self.lump().unwrap_or("a lump");
+        let size = SIZES.get(self.place).unwrap_or(&0);
+        match (self.number, self.place) {
+            (20, _) => write!(out, "{lump} is cut off inside a record: its size must be a multiple of {size} bytes"),
+            (21, 1) => write!(out, "there are too many things: a map has 0 to 65,535"),
+            (21, 6) => write!(out, "there are too few or too many subsectors: a map has 1 to 32,767"),
+            (21, 7) => {
+                write!(out, "the count of nodes is wrong: a map has 0 to 32,767, and none only if it has a single subsector")
+            }
+            (21, _) => write!(out, "{lump} has too few or too many records: a map has 1 to 65,535"),
+            _ => write!(out, "REJECT has the wrong length: it must have sectors times sectors bits, rounded up to whole bytes"),
+        }
+    }
+
+    fn say_of_reference(&self, out: &mut fmt::Formatter<'_>) -> fmt::Result {
+        let record = self.record;
+        match self.number {
+            23 => write!(
+                out,
+                "linedef {record} names a vertex or a sidedef that is not there, or is two-sided without a left side: both ends and \
+                 the right side must be there, and the left side if it has one"
+            ),
+            24 => write!(out, "sidedef {record} names a sector that is not there: every sidedef faces a sector of the map"),
+            25 => write!(
+                out,
+                "seg {record} names a vertex or a linedef that is not there, or a side that its linedef does not have: its direction \
+                 is 0 for the right side, or 1 for a left side that is there"
+            ),
+            26 => write!(out, "subsector {record} has no seg, or segs past the last one: it has one or more, all of them in SEGS"),
+            _ => write!(
+                out,
+                "node {record} has a child that is not there: a child is a node of the map, or 32,768 and a subsector of the map"
+            ),
+        }
+    }
+
+    fn say_of_blockmap(&self, out: &mut fmt::Formatter<'_>) -> fmt::Result {
+        match self.record {
+            0 => write!(
+                out,
+                "BLOCKMAP is broken in its header or at cell 0: it has 1 to 512 columns and rows, an offset to each cell, "
+            )?,
+            cell => write!(out, "BLOCKMAP is broken at cell {cell}: its offset leads behind the offsets and into the lump, ")?,
+        }
+        write!(out, "and a cell's list is 0, linedefs that are there, and 65,535")
+    }
+
+    fn say_of_descent(&self, out: &mut fmt::Formatter<'_>) -> fmt::Result {
+        match self.number {
+            40 => write!(out, "these are no nodes: a multiple of 28 bytes, and at most 32,767 nodes"),
+            41 => write!(out, "the count of subsectors is not 1 to 32,767, or not 1 where there are no nodes"),
+            42 => write!(out, "the descent came to node {}, whose child on that side is not there", self.record),
+            _ => write!(
+                out,
+                "the descent passed as many nodes as there are and is still on a node: the nodes turn back on themselves"
+            ),
+        }
+    }
+
+    fn say_of_picture(&self, out: &mut fmt::Formatter<'_>) -> fmt::Result {
+        let record = self.record;
+        match self.number {
+            50 => write!(out, "the picture is too short: its header alone has 8 bytes"),
+            51 => write!(out, "the picture's size is wrong: 1 to 320 across and 1 to 200 down are allowed"),
+            52 => write!(out, "the picture's column offsets run past its end: there are four bytes for each column"),
+            53 => write!(
+                out,
+                "column {record} starts before the end of the column offsets, or runs past the picture's end: a column is posts \
+                 and then the byte 255, all of them inside"
+            ),
+            54 => write!(
+                out,
+                "column {record} has a post that starts above the end of the one before it, or ends below the picture's last row: \
+                 posts go downward and do not overlap"
+            ),
+            _ => write!(out, "a pixel buffer is shorter than width times height"),
+        }
+    }
 }
 
 impl fmt::Display for Refusal {
     fn fmt(&self, out: &mut fmt::Formatter<'_>) -> fmt::Result {
-        let record = self.record;
-        let lump = self.lump().unwrap_or("a lump");
         match self.number {
-            1 => write!(out, "the file's length is not 12 to 16,777,216 bytes"),
-            2 => write!(out, "the file does not begin with IWAD or PWAD"),
-            3 => write!(out, "the count of lumps is not 0 to 4,096"),
-            4 => write!(out, "the directory does not lie between byte 12 and the file's end"),
-            5 => write!(out, "entry {record} names bytes outside the file: its offset is at least 12, and offset and size end inside the file"),
-            6 => write!(out, "entry {record} has a bad name: one to eight of A-Z, 0-9, [ ] - _ \\ and then zeros only"),
-            7 => write!(out, "there is no entry of that number"),
-            10 => write!(out, "that is no map's name: E1M1 to E9M9, or MAP01 to MAP99"),
-            11 => write!(out, "the file has no map of that name"),
-            12 if self.place == 0 => write!(out, "the map's marker is not empty: a marker has size 0"),
-            12 => write!(out, "{lump} is missing or misnamed: the ten lumps follow the marker in their order"),
-            13 => write!(out, "this is a Hexen map: BEHAVIOR follows its lumps"),
-            20 => write!(out, "the size of {lump} is no multiple of its record's size"),
-            21 => write!(out, "{lump} has too few or too many records"),
-            22 => write!(out, "REJECT has the wrong length: one bit for each pair of sectors, rounded up to whole bytes"),
-            23 => write!(out, "linedef {record} names a vertex or a sidedef that is not there, or is two-sided without a left side"),
-            24 => write!(out, "sidedef {record} names a sector that is not there"),
-            25 => write!(out, "seg {record} names a vertex or a linedef that is not there, or runs along a side that is not there"),
-            26 => write!(out, "subsector {record} has no seg, or segs past the last one"),
-            27 => write!(out, "node {record} names a node or a subsector that is not there"),
-            28 => write!(out, "BLOCKMAP is broken at cell {record}, or in its header: each cell's list starts with 0, holds linedefs that are there and ends with 65,535"),
+            1..=7 => self.say_of_file(out),
+            10..=13 => self.say_of_marker(out),
+            20..=22 => self.say_of_sizes(out),
+            23..=27 => self.say_of_reference(out),
+            28 => self.say_of_blockmap(out),
             30 => write!(out, "too few work words were lent: four for each node"),
-            31 => write!(out, "the nodes turn back on themselves: some way down from the root never reaches a subsector"),
-            40 => write!(out, "these are no nodes: a multiple of 28 bytes, and at most 32,767 nodes"),
-            41 => write!(out, "the count of subsectors is not 1 to 32,767, or not 1 where there are no nodes"),
-            42 => write!(out, "node {record} names a child that is not there"),
-            43 => write!(out, "the descent passed as many nodes as there are and is still on a node"),
-            50 => write!(out, "a picture has at least 8 bytes"),
-            51 => write!(out, "the picture's size is not 1 to 320 across and 1 to 200 down"),
-            52 => write!(out, "the picture's column offsets run past its end"),
-            53 => write!(out, "column {record} starts too early, or runs past the picture's end"),
-            54 => write!(out, "column {record} has a post that overlaps the one before it, or runs past the picture's height"),
-            55 => write!(out, "a pixel buffer is shorter than width times height"),
+            31 => write!(
+                out,
+                "the nodes turn back on themselves: some way down from the root never ends, and every way must end at a subsector"
+            ),
+            40..=43 => self.say_of_descent(out),
+            50..=55 => self.say_of_picture(out),
             60 => write!(out, "that record does not lie wholly inside the lump"),
             number => write!(out, "refused with number {number}"),
         }

@@ -1,0 +1,104 @@
+//! The small files of samples/: one good map, one whose nodes turn back, one with a bad reference, and one picture.
+
+use crate::{rooms, Content, EntryPlan, PictureSpec, Plan, Post, MAP_NAME};
+
+/// A file's name and its bytes.
+pub type Sample = (&'static str, Vec<u8>);
+
+/// The pigeon, a character to a pixel; a space is not painted. What the others mean is [`PAINTS`].
+const PIGEON: [&str; 20] = [
+    "                          ", "                gggg      ", "               gggggg     ", "              gggkgggg    ",
+    "              gggoogggyy  ", "              ggggggggyyy ", "              vggggggg    ", "              vvvgggg     ",
+    "             gvvvvvv      ", "           ggggvvvvg      ", "        gggggggggggg      ", "      ggbbbbbbbbgggg      ",
+    "    ggbbbbbbbbbbgggg      ", "   gbbbkkkkkkbbbggg       ", "  gbbbbbbbbbbbggggg       ", " kkkbbkkkkkbbgggg         ",
+    "kkkk  gggggggggg          ", "kk       rr  rr           ", "         rr  rr           ", "        rrrrrrr           ",
+];
+
+/// Each character's place in the palette, and its red, green and blue.
+const PAINTS: [(u8, u8, [u8; 3]); 8] = [
+    (b'g', 96, [128, 136, 152]),
+    (b'b', 97, [88, 100, 128]),
+    (b'k', 98, [32, 32, 40]),
+    (b'o', 99, [240, 128, 32]),
+    (b'y', 100, [232, 200, 96]),
+    (b'v', 101, [72, 144, 112]),
+    (b'r', 102, [216, 88, 88]),
+    (b' ', 0, [0, 0, 0]),
+];
+
+/// All samples.
+pub fn samples() -> Vec<Sample> {
+    vec![
+        ("accepted.wad", accepted()),
+        ("loop.wad", turning_back()),
+        ("reference.wad", bad_reference()),
+        ("picture.wad", picture()),
+    ]
+}
+
+/// Four rooms in a row.
+fn accepted() -> Vec<u8> {
+    Plan::wad_of(rooms())
+}
+
+/// The eastern node has the root as its right child: a player in the last room freezes the machine.
+fn turning_back() -> Vec<u8> {
+    let mut map = rooms();
+    map.nodes[1].right = 2;
+    Plan::wad_of(map)
+}
+
+/// Linedef 5 shows a right side that is not there.
+fn bad_reference() -> Vec<u8> {
+    let mut map = rooms();
+    map.linedefs[5].right = map.sidedefs.len() as u16;
+    Plan::wad_of(map)
+}
+
+/// A palette and a picture, and no map.
+fn picture() -> Vec<u8> {
+    let mut plan = Plan::new(rooms(), MAP_NAME);
+    plan.entries = vec![
+        EntryPlan::new(*b"PLAYPAL\0", Content::Bytes(palette())),
+        EntryPlan::new(*b"PIGEON\0\0", Content::Bytes(pigeon().encode())),
+    ];
+    plan.wad()
+}
+
+/// Greys, but for the pigeon's own colours.
+fn palette() -> Vec<u8> {
+    let mut colours: Vec<[u8; 3]> = (0..=255).map(|grey| [grey; 3]).collect();
+    for (_, index, colour) in PAINTS {
+        colours[usize::from(index)] = colour;
+    }
+    colours.concat()
+}
+
+fn pigeon() -> PictureSpec {
+    let (width, height) = (PIGEON[0].len(), PIGEON.len());
+    let mut picture =
+        PictureSpec { left: width as i16 / 2, top: height as i16, ..PictureSpec::blank(width as u16, height as u16) };
+    picture.data.clear();
+    for column in 0..width {
+        let pixels: Vec<u8> = PIGEON.iter().map(|row| row.as_bytes()[column]).collect();
+        picture.give_column(column, &posts(&pixels));
+        picture.data.push(255);
+    }
+    picture
+}
+
+/// A post for each run of painted pixels. The ignored bytes repeat the nearest pixel, as the format's own tools write them.
+fn posts(pixels: &[u8]) -> Vec<Post> {
+    let mut posts: Vec<Post> = Vec::new();
+    for (row, paint) in pixels.iter().enumerate().filter(|(_, paint)| **paint != b' ') {
+        let index = PAINTS.iter().find(|(it, ..)| it == paint).map_or(0, |(_, index, _)| *index);
+        match posts.last_mut() {
+            Some(post) if usize::from(post.start) + post.pixels.len() == row => post.pixels.push(index),
+            _ => posts.push(Post { start: row as u8, pixels: vec![index], ignored: [index; 2] }),
+        }
+        if let Some(post) = posts.last_mut() {
+            post.ignored[1] = index;
+        }
+    }
+    posts
+}

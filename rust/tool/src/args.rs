@@ -1,0 +1,207 @@
+//! The command line, taken apart. Whatever is not understood is bad usage, and then nothing is judged.
+
+use std::ffi::{OsStr, OsString};
+use std::fmt;
+
+/// What is asked for, and how the answers are to look.
+#[derive(Debug, PartialEq, Eq)]
+pub struct Request {
+    /// What to do.
+    pub command: Command,
+    /// One JSON object a line.
+    pub json: bool,
+    /// Refusals only.
+    pub quiet: bool,
+}
+
+/// What to do.
+#[derive(Debug, PartialEq, Eq)]
+pub enum Command {
+    /// Print the help.
+    Help,
+    /// Print the version.
+    Version,
+    /// Judge the named maps of each file, or all of them.
+    Judge {
+        /// At least one.
+        files: Vec<OsString>,
+        /// Names as given; none for every map.
+        maps: Vec<OsString>,
+    },
+    /// List a directory.
+    List {
+        /// The file.
+        file: OsString,
+    },
+    /// Find a point's subsector.
+    Descend {
+        /// The file.
+        file: OsString,
+        /// The map's name as given.
+        map: OsString,
+        /// The point, eastward.
+        x: i16,
+        /// The point, northward.
+        y: i16,
+    },
+    /// Write a picture lump as PNG.
+    Picture {
+        /// The file.
+        file: OsString,
+        /// The lump's name as given.
+        lump: OsString,
+        /// Where it goes.
+        output: OsString,
+    },
+}
+
+/// Why a command line is not understood.
+#[derive(Debug, PartialEq, Eq)]
+pub struct Misuse(String);
+
+impl fmt::Display for Misuse {
+    fn fmt(&self, out: &mut fmt::Formatter<'_>) -> fmt::Result {
+        out.write_str(&self.0)
+    }
+}
+
+fn misuse<T>(words: impl Into<String>) -> Result<T, Misuse> {
+    Err(Misuse(words.into()))
+}
+
+/// The options and the other words, apart.
+#[derive(Default)]
+struct Parts {
+    words: Vec<OsString>,
+    maps: Vec<OsString>,
+    output: Option<OsString>,
+    json: bool,
+    quiet: bool,
+    help: bool,
+    version: bool,
+}
+
+/// Takes the arguments after the program's name apart.
+pub fn parse(arguments: Vec<OsString>) -> Result<Request, Misuse> {
+    let mut parts = split(arguments)?;
+    let (json, quiet) = (parts.json, parts.quiet);
+    let plain = |command| Ok(Request { command, json: false, quiet: false });
+    if parts.help {
+        return plain(Command::Help);
+    }
+    if parts.version {
+        return plain(Command::Version);
+    }
+    if parts.words.is_empty() {
+        return misuse("no command is given: judge, list, descend or picture");
+    }
+    let name = parts.words.remove(0);
+    let command = match name.to_str() {
+        Some("judge") => judge(&parts),
+        Some("list") => list(&parts),
+        Some("descend") => descend(&parts),
+        Some("picture") => picture(&parts),
+        _ => misuse(format!("'{}' is no command: judge, list, descend or picture", shown(&name))),
+    }?;
+    fits(&name, &parts)?;
+    Ok(Request { command, json, quiet })
+}
+
+/// Sorts options from words; `--` makes words of all that follows.
+fn split(arguments: Vec<OsString>) -> Result<Parts, Misuse> {
+    let mut parts = Parts::default();
+    let mut rest = arguments.into_iter();
+    while let Some(argument) = rest.next() {
+        match argument.to_str() {
+            Some("--") => parts.words.extend(rest.by_ref()),
+            Some("--json") => parts.json = true,
+            Some("--quiet" | "-q") => parts.quiet = true,
+            Some("--help" | "-h") => parts.help = true,
+            Some("--version" | "-V") => parts.version = true,
+            Some("--map") => parts.maps.push(value("--map", rest.next())?),
+            Some("-o") => put_output(&mut parts, value("-o", rest.next())?)?,
+            Some(text) if text.starts_with("--map=") => parts.maps.push(text["--map=".len()..].into()),
+            _ if is_option(&argument) => return misuse(format!("'{}' is no option", shown(&argument))),
+            _ => parts.words.push(argument),
+        }
+    }
+    Ok(parts)
+}
+
+fn value(option: &str, given: Option<OsString>) -> Result<OsString, Misuse> {
+    given.map_or_else(|| misuse(format!("{option} needs a value")), Ok)
+}
+
+fn put_output(parts: &mut Parts, output: OsString) -> Result<(), Misuse> {
+    match parts.output.replace(output) {
+        None => Ok(()),
+        Some(_) => misuse("-o is given twice"),
+    }
+}
+
+/// A word that begins with `-` is an option, but for `-` itself and negative numbers.
+fn is_option(argument: &OsStr) -> bool {
+    match argument.as_encoded_bytes() {
+        [b'-', next, ..] => !next.is_ascii_digit(),
+        _ => false,
+    }
+}
+
+/// Refuses options that the command does not know.
+fn fits(command: &OsStr, parts: &Parts) -> Result<(), Misuse> {
+    let takes = |commands: &[&str]| commands.iter().any(|it| command == *it);
+    let strange = if !parts.maps.is_empty() && !takes(&["judge"]) {
+        "--map"
+    } else if parts.output.is_some() && !takes(&["picture"]) {
+        "-o"
+    } else if parts.quiet && !takes(&["judge", "picture"]) {
+        "--quiet"
+    } else {
+        return Ok(());
+    };
+    misuse(format!("{} does not take {strange}", shown(command)))
+}
+
+fn judge(parts: &Parts) -> Result<Command, Misuse> {
+    let files = parts.words.clone();
+    if files.is_empty() {
+        return misuse("judge needs a file");
+    }
+    if files.iter().filter(|file| *file == "-").count() > 1 {
+        return misuse("standard input can be judged once only");
+    }
+    Ok(Command::Judge { files, maps: parts.maps.clone() })
+}
+
+fn list(parts: &Parts) -> Result<Command, Misuse> {
+    let [file] = words(parts, "list needs FILE")?;
+    Ok(Command::List { file })
+}
+
+fn descend(parts: &Parts) -> Result<Command, Misuse> {
+    let [file, map, x, y] = words(parts, "descend needs FILE MAP X Y")?;
+    let (x, y) = (coordinate(&x)?, coordinate(&y)?);
+    Ok(Command::Descend { file, map, x, y })
+}
+
+fn picture(parts: &Parts) -> Result<Command, Misuse> {
+    let needs = "picture needs FILE LUMP -o OUT.png";
+    let [file, lump] = words(parts, needs)?;
+    match parts.output.clone() {
+        Some(output) => Ok(Command::Picture { file, lump, output }),
+        None => misuse(needs),
+    }
+}
+
+fn words<const N: usize>(parts: &Parts, needs: &str) -> Result<[OsString; N], Misuse> {
+    parts.words.clone().try_into().or_else(|_| misuse(needs))
+}
+
+fn coordinate(word: &OsStr) -> Result<i16, Misuse> {
+    let number = word.to_str().and_then(|text| text.parse().ok());
+    number.map_or_else(|| misuse(format!("'{}' is no coordinate: -32768 to 32767", shown(word))), Ok)
+}
+
+fn shown(word: &OsStr) -> String {
+    crate::name::shown(&word.to_string_lossy())
+}

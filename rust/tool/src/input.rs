@@ -1,0 +1,41 @@
+//! Files and standard input, never more of them than the largest WAD file and one byte.
+
+use meshpigeon::Refusal;
+use std::ffi::OsStr;
+use std::fs::File;
+use std::io::{self, Read};
+
+/// The largest WAD file there may be.
+const MOST_BYTES: u64 = 16_777_216;
+
+/// The refusal of a file by its length.
+const TOO_LONG: Refusal = Refusal { number: 1, place: 0, record: 0 };
+
+/// Why there is nothing to ask about.
+#[derive(Debug)]
+pub enum Fault {
+    /// The file could not be read.
+    Unread(io::Error),
+    /// The file is refused as a whole.
+    Refused(Refusal),
+}
+
+/// All bytes of a file, or of standard input for `-`. A file that its length alone refuses is not read.
+pub fn read(file: &OsStr) -> Result<Vec<u8>, Fault> {
+    if file == "-" {
+        return most_of(io::stdin().lock()).map_err(Fault::Unread);
+    }
+    let opened = File::open(file).map_err(Fault::Unread)?;
+    let about = opened.metadata().map_err(Fault::Unread)?;
+    if about.is_file() && about.len() > MOST_BYTES {
+        return Err(Fault::Refused(TOO_LONG));
+    }
+    most_of(opened).map_err(Fault::Unread)
+}
+
+/// Everything, or as much as shows that it is too long.
+fn most_of(source: impl Read) -> io::Result<Vec<u8>> {
+    let mut bytes = Vec::new();
+    source.take(MOST_BYTES + 1).read_to_end(&mut bytes)?;
+    Ok(bytes)
+}

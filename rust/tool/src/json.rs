@@ -1,0 +1,77 @@
+//! JSON objects on one line, keys in the order in which they are put.
+
+use std::fmt::Write;
+
+/// An object under construction.
+#[derive(Default)]
+pub struct Object {
+    members: Vec<String>,
+}
+
+impl Object {
+    /// An object without members.
+    pub fn new() -> Self {
+        Self::default()
+    }
+
+    /// A string, or null.
+    pub fn text<'a>(self, key: &str, value: impl Into<Option<&'a str>>) -> Self {
+        self.member(key, value.into().map(quoted))
+    }
+
+    /// A whole number, or null.
+    pub fn number(self, key: &str, value: impl Into<Option<i64>>) -> Self {
+        self.member(key, value.into().map(|number| number.to_string()))
+    }
+
+    /// A count, or null.
+    pub fn count(self, key: &str, value: impl Into<Option<usize>>) -> Self {
+        self.member(key, value.into().map(|count| count.to_string()))
+    }
+
+    fn member(mut self, key: &str, value: Option<String>) -> Self {
+        let value = value.unwrap_or_else(|| "null".to_string());
+        self.members.push(format!("{}:{value}", quoted(key)));
+        self
+    }
+
+    /// The object as text.
+    pub fn close(self) -> String {
+        format!("{{{}}}", self.members.join(","))
+    }
+}
+
+/// A JSON string: quotes, backslashes and control characters escaped.
+fn quoted(text: &str) -> String {
+    let mut out = String::from("\"");
+    for it in text.chars() {
+        match it {
+            '"' | '\\' => out.extend(['\\', it]),
+            '\n' => out.push_str("\\n"),
+            '\r' => out.push_str("\\r"),
+            '\t' => out.push_str("\\t"),
+            it if it.is_control() => write!(out, "\\u{:04x}", u32::from(it)).expect("a string takes all text"),
+            it => out.push(it),
+        }
+    }
+    out.push('"');
+    out
+}
+
+#[cfg(test)]
+mod tests {
+    use super::*;
+
+    #[test]
+    fn strings_are_escaped() {
+        let object = Object::new().text("a\"b", "c\\d\n\u{1}\u{7f}é").text("none", None);
+        assert_eq!(object.close(), r#"{"a\"b":"c\\d\n\u0001\u007fé","none":null}"#);
+    }
+
+    #[test]
+    fn members_stay_in_order() {
+        let object = Object::new().number("z", -1).count("a", 2).count("m", None);
+        assert_eq!(object.close(), r#"{"z":-1,"a":2,"m":null}"#);
+        assert_eq!(Object::new().close(), "{}");
+    }
+}

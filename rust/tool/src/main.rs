@@ -1,0 +1,51 @@
+//! `meshpigeon`: judges Doom map files from the shell.
+//!
+//! Standard output has one line for each verdict, standard error the faults of reading and usage. The exit status is the worst
+//! of what happened: see `help.txt`, which `--help` prints. All judging is the proved library's; this program reads files, asks,
+//! and puts the answers into words.
+#![forbid(unsafe_code)]
+#![deny(missing_docs)]
+
+mod args;
+mod descend;
+mod input;
+mod json;
+mod judge;
+mod list;
+mod name;
+mod picture;
+mod png;
+mod report;
+mod verdict;
+mod wad;
+
+use args::{Command, Request};
+use report::Report;
+use std::process::ExitCode;
+
+/// What `--help` prints.
+const HELP: &str = include_str!("help.txt");
+
+fn main() -> ExitCode {
+    let request = match args::parse(std::env::args_os().skip(1).collect()) {
+        Ok(request) => request,
+        Err(misuse) => {
+            report::complain(&format!("{misuse}\nTry 'meshpigeon --help'."));
+            return ExitCode::from(report::BAD_USAGE);
+        }
+    };
+    let mut report = Report::new(request.json, request.quiet);
+    run(&request, &mut report);
+    ExitCode::from(report.finish())
+}
+
+fn run(request: &Request, report: &mut Report) {
+    match &request.command {
+        Command::Help => report.text(HELP.trim_end()),
+        Command::Version => report.text(concat!("meshpigeon ", env!("CARGO_PKG_VERSION"))),
+        Command::Judge { files, maps } => judge::run(files, maps, report),
+        Command::List { file } => list::run(file, report),
+        Command::Descend { file, map, x, y } => descend::run(file, map, (*x, *y), report),
+        Command::Picture { file, lump, output } => picture::run(file, lump, output, report),
+    }
+}

@@ -1,0 +1,92 @@
+//! `picture`: a picture lump as PNG.
+
+use crate::json::Object;
+use crate::name::{self, shown};
+use crate::png;
+use crate::report::Report;
+use crate::verdict::{Outcome, Subject, Verdict};
+use crate::wad::Wad;
+use meshpigeon::Picture;
+use std::ffi::OsStr;
+use std::fs;
+
+/// Pixels of the largest picture.
+const MOST_PIXELS: usize = 320 * 200;
+/// The lump of palettes, the first of which counts: red, green and blue for each of 256 colours.
+const PLAYPAL: &[u8; 8] = b"PLAYPAL\0";
+const PALETTE: usize = 3 * 256;
+
+/// Writes a picture lump to `output`, which is standard output for `-`.
+pub fn run(file: &OsStr, lump: &OsStr, output: &OsStr, report: &mut Report) {
+    if is_same(file, output) {
+        return report.misused("the picture would be written over the file that it comes from");
+    }
+    let wad = match Wad::open(file) {
+        Ok(wad) => wad,
+        Err(fault) => return report.fault(file, fault),
+    };
+    let name = name::padded(lump);
+    let Some(number) = wad.last(&name) else {
+        return report.trouble(file, &format!("there is no lump {}", shown(&name::text(&name))));
+    };
+    let (mut colour, mut cover) = (vec![0; MOST_PIXELS], vec![0; MOST_PIXELS]);
+    let (file, name) = (file.to_string_lossy(), name::text(&name));
+    match meshpigeon::paint_picture(wad.lump(number), &mut colour, &mut cover) {
+        Err(refusal) => {
+            report.verdict(&Verdict { file: file.to_string(), subject: Subject::Lump(name), outcome: Outcome::Refused(refusal) });
+        }
+        Ok(picture) => {
+            let pixels = pixels(&colour, &cover, &palette(&wad));
+            let bytes = png::encode(picture.width, picture.height, &pixels[..picture.width * picture.height]);
+            put(&bytes, output, report, |report| tell(&file, &name, picture, output, report));
+        }
+    }
+}
+
+/// Whether both names lead to one file; `-` is none.
+fn is_same(file: &OsStr, output: &OsStr) -> bool {
+    if file == "-" || output == "-" {
+        return false;
+    }
+    let (file, output) = (fs::canonicalize(file), fs::canonicalize(output));
+    matches!((file, output), (Ok(file), Ok(output)) if file == output)
+}
+
+/// The file's first palette, or greys.
+fn palette(wad: &Wad) -> Vec<u8> {
+    let own = wad.last(PLAYPAL).and_then(|number| wad.lump(number).get(..PALETTE));
+    own.map_or_else(|| (0..=255).flat_map(|grey| [grey; 3]).collect(), <[u8]>::to_vec)
+}
+
+/// Red, green, blue and opacity of each pixel.
+fn pixels(colour: &[u8], cover: &[u8], palette: &[u8]) -> Vec<[u8; 4]> {
+    let pixel = |(&colour, &cover): (&u8, &u8)| match (cover, &palette[3 * usize::from(colour)..][..3]) {
+        (1, [red, green, blue]) => [*red, *green, *blue, 255],
+        _ => [0; 4],
+    };
+    colour.iter().zip(cover).map(pixel).collect()
+}
+
+/// Writes the PNG, and then tells of it unless it went to standard output itself.
+fn put(bytes: &[u8], output: &OsStr, report: &mut Report, tell: impl FnOnce(&mut Report)) {
+    if output == "-" {
+        return report.bytes(bytes);
+    }
+    match fs::write(output, bytes) {
+        Ok(()) => tell(report),
+        Err(error) => report.trouble(output, &error.to_string()),
+    }
+}
+
+fn tell(file: &str, name: &str, picture: Picture, output: &OsStr, report: &mut Report) {
+    let Picture { width, height, left, top } = picture;
+    let output = output.to_string_lossy();
+    report.answer(
+        || shown(&format!("{file}:{name}: {width} x {height}, offsets {left} and {top}, written to {output}")),
+        || {
+            let object = Object::new().text("file", file).text("lump", name).number("number", 0);
+            let object = object.count("width", width).count("height", height);
+            object.number("left", i64::from(left)).number("top", i64::from(top)).text("output", output.as_ref()).close()
+        },
+    );
+}

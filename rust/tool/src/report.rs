@@ -1,0 +1,152 @@
+//! What the program says, and its exit status.
+
+use crate::input::Fault;
+use crate::name::shown;
+use crate::verdict::{counted, Outcome, Subject, Verdict};
+use std::ffi::OsStr;
+use std::io::{self, IsTerminal, Write};
+
+/// Something was refused.
+const REFUSED: u8 = 1;
+/// Something could not be read or written.
+const UNREAD: u8 = 2;
+/// The command line was not understood.
+pub const BAD_USAGE: u8 = 3;
+
+/// Says something on standard error, if it is open.
+pub fn complain(words: &str) {
+    let _ = writeln!(io::stderr(), "meshpigeon: {words}");
+}
+
+/// Standard output, and what is known so far.
+pub struct Report {
+    json: bool,
+    quiet: bool,
+    colour: bool,
+    output: io::Stdout,
+    broken: Option<io::Error>,
+    status: u8,
+    tally: Tally,
+}
+
+/// How many of each outcome.
+#[derive(Default)]
+struct Tally {
+    maps_accepted: usize,
+    maps_refused: usize,
+    files_refused: usize,
+    files_without: usize,
+    files_unread: usize,
+}
+
+impl Report {
+    /// A report with nothing said. Colour is for terminals, and never with NO_COLOR, whatever it holds.
+    pub fn new(json: bool, quiet: bool) -> Self {
+        let output = io::stdout();
+        let colour = output.is_terminal() && std::env::var_os("NO_COLOR").is_none();
+        Self { json, quiet, colour, output, broken: None, status: 0, tally: Tally::default() }
+    }
+
+    /// A verdict.
+    pub fn verdict(&mut self, verdict: &Verdict) {
+        self.count(verdict);
+        if self.quiet && !verdict.is_refusal() {
+            return;
+        }
+        let line = if self.json { verdict.json() } else { verdict.line(self.colour) };
+        self.text(&line);
+    }
+
+    /// A file that there is nothing to ask about.
+    pub fn fault(&mut self, file: &OsStr, fault: Fault) {
+        match fault {
+            Fault::Unread(error) => {
+                self.tally.files_unread += 1;
+                self.trouble(file, &error.to_string());
+            }
+            Fault::Refused(refusal) => {
+                let file = file.to_string_lossy().into_owned();
+                self.verdict(&Verdict { file, subject: Subject::File, outcome: Outcome::Refused(refusal) });
+            }
+        }
+    }
+
+    /// Something that could not be read or written, told on standard error.
+    pub fn trouble(&mut self, file: &OsStr, words: &str) {
+        self.worsen(UNREAD);
+        complain(&format!("{}: {words}", shown(&file.to_string_lossy())));
+    }
+
+    /// A command that was understood and must not be done.
+    pub fn misused(&mut self, words: &str) {
+        self.worsen(BAD_USAGE);
+        complain(words);
+    }
+
+    /// An answer that is no refusal, as text or as an object.
+    pub fn answer(&mut self, text: impl FnOnce() -> String, json: impl FnOnce() -> String) {
+        if !self.quiet {
+            let line = if self.json { json() } else { text() };
+            self.text(&line);
+        }
+    }
+
+    /// A line of standard output.
+    pub fn text(&mut self, line: &str) {
+        self.bytes(format!("{line}\n").as_bytes());
+    }
+
+    /// Bytes of standard output. After the first that cannot be written nothing more is tried, but judging goes on: the exit
+    /// status speaks of everything that was asked.
+    pub fn bytes(&mut self, bytes: &[u8]) {
+        if self.broken.is_none() {
+            self.broken = self.output.write_all(bytes).and_then(|()| self.output.flush()).err();
+        }
+    }
+
+    /// One line over all, where there were several files or maps.
+    pub fn summary(&mut self, files: usize) {
+        let maps = self.tally.maps_accepted + self.tally.maps_refused;
+        if !self.json && !self.quiet && (files > 1 || maps > 1) {
+            self.text(&format!("{}: {}", counted(files, "file"), self.tally.words()));
+        }
+    }
+
+    /// The exit status. A reader that has gone away is no fault; output that cannot be written otherwise is.
+    pub fn finish(mut self) -> u8 {
+        if let Some(error) = self.broken.take().filter(|it| it.kind() != io::ErrorKind::BrokenPipe) {
+            self.trouble(OsStr::new("standard output"), &error.to_string());
+        }
+        self.status
+    }
+
+    fn worsen(&mut self, status: u8) {
+        self.status = self.status.max(status);
+    }
+
+    fn count(&mut self, verdict: &Verdict) {
+        match (&verdict.outcome, &verdict.subject) {
+            (Outcome::Accepted(..), _) => self.tally.maps_accepted += 1,
+            (Outcome::Refused(_), Subject::File) => self.tally.files_refused += 1,
+            (Outcome::Refused(_), _) => self.tally.maps_refused += 1,
+            (Outcome::NoMap, _) => self.tally.files_without += 1,
+        }
+        if verdict.is_refusal() {
+            self.worsen(REFUSED);
+        }
+    }
+}
+
+impl Tally {
+    fn words(&self) -> String {
+        let parts = [
+            (self.maps_accepted, "map", "accepted"),
+            (self.maps_refused, "map", "refused"),
+            (self.files_refused, "file", "refused"),
+            (self.files_without, "file", "without a map"),
+            (self.files_unread, "file", "not read"),
+        ];
+        let said = parts.iter().filter(|(count, ..)| *count > 0);
+        said.map(|(count, thing, what)| format!("{} {what}", counted(*count, thing))).collect::<Vec<_>>().join(", ")
+    }
+}

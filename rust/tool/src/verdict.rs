@@ -1,0 +1,143 @@
+//! A verdict on a map, a picture or a whole file, as a line of text and as a JSON object.
+
+use crate::json::Object;
+use crate::name::shown;
+use meshpigeon::{Accepted, Refusal};
+
+/// What was judged, and what came of it.
+pub struct Verdict {
+    /// The file's name as given, lossy where it is not UTF-8.
+    pub file: String,
+    /// What in the file.
+    pub subject: Subject,
+    /// What came of it.
+    pub outcome: Outcome,
+}
+
+/// What in a file was judged.
+pub enum Subject {
+    /// The file itself: header and directory.
+    File,
+    /// A map of this name.
+    Map(String),
+    /// A lump of this name.
+    Lump(String),
+}
+
+/// What came of it.
+pub enum Outcome {
+    /// A good map, with its counts of nodes and subsectors.
+    Accepted(Accepted, usize, usize),
+    /// A refusal.
+    Refused(Refusal),
+    /// The file is good and has no map.
+    NoMap,
+}
+
+/// `1 node`, `2 nodes`.
+pub fn counted(count: usize, thing: &str) -> String {
+    format!("{count} {thing}{}", if count == 1 { "" } else { "s" })
+}
+
+impl Verdict {
+    /// Whether it is a refusal.
+    pub fn is_refusal(&self) -> bool {
+        matches!(self.outcome, Outcome::Refused(_))
+    }
+
+    /// The verdict on one line, coloured for a terminal if wished.
+    pub fn line(&self, colour: bool) -> String {
+        let outcome = match &self.outcome {
+            Outcome::Accepted(..) => self.text().replacen("accepted", &painted("accepted", 32, colour), 1),
+            Outcome::Refused(refusal) => {
+                let refused = painted(&format!("refused {}", refusal.number), 31, colour);
+                let at = refusal.whereabouts().map_or(String::new(), |place| format!(" at {place}"));
+                format!("{refused}{at}: {refusal}")
+            }
+            Outcome::NoMap => self.text(),
+        };
+        format!("{}: {outcome}", self.heading())
+    }
+
+    /// The verdict as an object; what has no meaning for it is null.
+    pub fn json(&self) -> String {
+        let (map, lump) = match &self.subject {
+            Subject::File => (None, None),
+            Subject::Map(name) => (Some(name.as_str()), None),
+            Subject::Lump(name) => (None, Some(name.as_str())),
+        };
+        let (refusal, accepted) = match &self.outcome {
+            Outcome::Accepted(accepted, ..) => (None, Some(accepted)),
+            Outcome::Refused(refusal) => (Some(refusal), None),
+            Outcome::NoMap => (None, None),
+        };
+        let named = refusal.and_then(Refusal::lump);
+        Object::new()
+            .text("file", self.file.as_str())
+            .text("map", map)
+            .number("number", refusal.map(|it| i64::from(it.number)).or(accepted.map(|_| 0)))
+            .count("place", refusal.filter(|_| named.is_some()).map(|it| it.place))
+            .text("lump", named.or(lump))
+            .count("record", refusal.filter(|it| it.names_record()).map(|it| it.record))
+            .count("depth", accepted.map(|it| it.depth))
+            .count("marker", accepted.map(|it| it.marker))
+            .text("text", self.text().as_str())
+            .close()
+    }
+
+    /// What was judged: `FILE`, `FILE:MAP01`.
+    fn heading(&self) -> String {
+        match &self.subject {
+            Subject::File => shown(&self.file),
+            Subject::Map(name) | Subject::Lump(name) => shown(&format!("{}:{name}", self.file)),
+        }
+    }
+
+    /// What came of it, without number and place.
+    fn text(&self) -> String {
+        match &self.outcome {
+            Outcome::Accepted(accepted, nodes, subsectors) => {
+                let (nodes, subsectors) = (counted(*nodes, "node"), counted(*subsectors, "subsector"));
+                format!("accepted, depth {}, {nodes}, {subsectors}", accepted.depth)
+            }
+            Outcome::Refused(refusal) => refusal.to_string(),
+            Outcome::NoMap => "no map".to_string(),
+        }
+    }
+}
+
+fn painted(text: &str, code: u8, colour: bool) -> String {
+    if colour {
+        format!("\x1b[{code}m{text}\x1b[0m")
+    } else {
+        text.to_string()
+    }
+}
+
+#[cfg(test)]
+mod tests {
+    use super::*;
+
+    fn refused(number: u32, place: usize, record: usize, subject: Subject) -> Verdict {
+        let refusal = Refusal { number, place, record };
+        Verdict { file: "a.wad".into(), subject, outcome: Outcome::Refused(refusal) }
+    }
+
+    #[test]
+    fn colour_is_around_the_verdict_only() {
+        let map = || Subject::Map("MAP01".into());
+        let outcome = Outcome::Accepted(Accepted { depth: 1, marker: 0 }, 1, 2);
+        let good = Verdict { file: "accepted.wad".into(), subject: map(), outcome };
+        assert_eq!(good.line(true), "accepted.wad:MAP01: \x1b[32maccepted\x1b[0m, depth 1, 1 node, 2 subsectors");
+        assert!(refused(31, 7, 0, map()).line(true).starts_with("a.wad:MAP01: \x1b[31mrefused 31\x1b[0m at NODES: "));
+    }
+
+    #[test]
+    fn places_and_records_stand_where_they_mean_something() {
+        assert!(refused(5, 0, 3, Subject::File).line(false).starts_with("a.wad: refused 5 at entry 3: "));
+        assert!(refused(1, 0, 0, Subject::File).line(false).starts_with("a.wad: refused 1: "));
+        assert!(refused(53, 0, 4, Subject::Lump("P".into())).line(false).starts_with("a.wad:P: refused 53 at column 4: "));
+        assert!(refused(23, 2, 17, Subject::Map("E1M1".into())).json().contains(r#""place":2,"lump":"LINEDEFS","record":17"#));
+        assert!(refused(13, 0, 0, Subject::Map("E1M1".into())).json().contains(r#""place":null,"lump":null,"record":null"#));
+    }
+}

@@ -1,0 +1,109 @@
+//! `--json`.
+
+use crate::flat_json::{object, Value};
+use crate::support::{changed, good, lumps, Folder, Said};
+use generator::{rooms, PictureSpec, Plan, MAP_NAME};
+use std::ffi::OsStr;
+
+const KEYS: [&str; 9] = ["file", "map", "number", "place", "lump", "record", "depth", "marker", "text"];
+
+/// The values of a verdict by its keys; its text is left out, but not empty.
+fn verdict(line: &str) -> Vec<Value> {
+    let (keys, mut values): (Vec<String>, Vec<Value>) = object(line).into_iter().unzip();
+    assert_eq!(keys, KEYS);
+    assert!(matches!(values.pop(), Some(Value::Text(text)) if !text.is_empty()));
+    values
+}
+
+fn verdicts(said: &Said) -> Vec<Vec<Value>> {
+    assert_eq!(said.err, "");
+    said.out.lines().map(verdict).collect()
+}
+
+fn text(it: &str) -> Value {
+    Value::Text(it.to_string())
+}
+
+use Value::{Null, Number};
+
+#[test]
+fn an_accepted_map_has_depth_and_marker() {
+    let mut plan = Plan::new(rooms(), MAP_NAME);
+    plan.entries.insert(0, generator::EntryPlan::empty(*b"OTHER\0\0\0"));
+    let said = Folder::with("a.wad", &plan.wad()).run(&["judge", "a.wad", "--json"]);
+    let expected = vec![text("a.wad"), text("MAP01"), Number(0), Null, Null, Null, Number(2), Number(1)];
+    assert_eq!((verdicts(&said), said.status), (vec![expected], 0));
+}
+
+#[test]
+fn a_refusal_has_place_lump_and_record_where_they_mean_something() {
+    let folder = Folder::with("loop.wad", &changed(|map| map.nodes[1].right = 2))
+        .and("seg.wad", &changed(|map| map.segs[0].linedef = 99))
+        .and("name.wad", &lumps(&[(b"GOOD\0\0\0\0", vec![]), (b"bad\0\0\0\0\0", vec![])]))
+        .and("none.wad", &lumps(&[]));
+    let said = folder.run(&["judge", "--json", "loop.wad", "seg.wad", "name.wad", "none.wad"]);
+    let expected = vec![
+        vec![text("loop.wad"), text("MAP01"), Number(31), Number(7), text("NODES"), Null, Null, Null],
+        vec![text("seg.wad"), text("MAP01"), Number(25), Number(5), text("SEGS"), Number(0), Null, Null],
+        vec![text("name.wad"), Null, Number(6), Null, Null, Number(1), Null, Null],
+        vec![text("none.wad"), Null, Null, Null, Null, Null, Null, Null],
+    ];
+    assert_eq!((verdicts(&said), said.status), (expected, 1));
+}
+
+#[test]
+fn quiet_leaves_the_refusals() {
+    let folder = Folder::with("a.wad", &good()).and("b.wad", &changed(|map| map.reject.push(0)));
+    let said = folder.run(&["judge", "--json", "--quiet", "a.wad", "b.wad"]);
+    assert_eq!(verdicts(&said), [vec![text("b.wad"), text("MAP01"), Number(22), Number(9), text("REJECT"), Null, Null, Null]]);
+}
+
+#[test]
+fn a_refused_picture_is_the_lump() {
+    let mut picture = PictureSpec::blank(3, 3);
+    picture.offsets[2] = 0;
+    let folder = Folder::with("a.wad", &lumps(&[(b"BAD\0\0\0\0\0", picture.encode())]));
+    let said = folder.run(&["picture", "a.wad", "BAD", "-o", "out.png", "--json"]);
+    assert_eq!(verdicts(&said), [vec![text("a.wad"), Null, Number(53), Null, text("BAD"), Number(2), Null, Null]]);
+}
+
+#[test]
+fn other_answers_are_objects_too() {
+    let picture = PictureSpec::blank(3, 2).encode();
+    let folder = Folder::with("a.wad", &good()).and("b.wad", &lumps(&[(b"P\0\0\0\0\0\0\0", picture)]));
+    let lines = [
+        (vec!["list", "b.wad", "--json"], r#"{"file":"b.wad","entry":0,"name":"P","offset":12,"size":21}"#),
+        (
+            vec!["descend", "a.wad", "MAP01", "300", "-1", "--json"],
+            r#"{"file":"a.wad","map":"MAP01","number":0,"x":300,"y":-1,"subsector":1,"count":2}"#,
+        ),
+        (
+            vec!["picture", "b.wad", "p", "-o", "o.png", "--json"],
+            r#"{"file":"b.wad","lump":"P","number":0,"width":3,"height":2,"left":0,"top":0,"output":"o.png"}"#,
+        ),
+    ];
+    for (arguments, line) in lines {
+        object(line);
+        folder.run(&arguments).is(0, &[line]);
+    }
+}
+
+#[test]
+fn strange_file_names_are_escaped() {
+    let name = "a\"b\\c\n\u{1}é.wad";
+    let said = Folder::with(name, &good()).run(&["judge", "--json", name]);
+    assert_eq!(verdicts(&said)[0][0], text(name));
+    assert_eq!(said.out.lines().count(), 1);
+}
+
+#[test]
+#[cfg(unix)]
+fn file_names_that_are_not_utf_8_are_shown_as_far_as_can_be() {
+    use std::os::unix::ffi::OsStrExt;
+    let name = OsStr::from_bytes(b"a\xFFb.wad");
+    let folder = Folder::with(name, &good());
+    let said = folder.run(&[OsStr::new("judge"), OsStr::new("--json"), name]);
+    assert_eq!(verdicts(&said)[0][0], text("a\u{FFFD}b.wad"));
+    let said = folder.run(&[OsStr::new("judge"), name]);
+    assert!(said.out.starts_with("a\u{FFFD}b.wad:MAP01: accepted"), "{said:?}");
+}

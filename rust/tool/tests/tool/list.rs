@@ -1,0 +1,32 @@
+//! `list`.
+
+use crate::support::{good, lumps, Folder};
+
+#[test]
+fn each_entry_is_a_line() {
+    let wad = lumps(&[(b"FIRST\0\0\0", vec![1, 2, 3]), (b"EMPTY\0\0\0", vec![]), (b"A\\B[C]-_", vec![4])]);
+    let lines =
+        ["   0  FIRST           12         3", "   1  EMPTY            0         0", "   2  A\\B[C]-_        15         1"];
+    Folder::with("a.wad", &wad).run(&["list", "a.wad"]).is(0, &lines);
+}
+
+#[test]
+fn an_empty_directory_lists_nothing() {
+    Folder::with("a.wad", &lumps(&[])).run(&["list", "a.wad"]).is(0, &[]);
+}
+
+#[test]
+fn a_bad_directory_is_refused() {
+    let mut wad = good();
+    wad[0] = b'X';
+    let said = Folder::with("a.wad", &wad).run(&["list", "a.wad"]);
+    assert!(said.out.starts_with("a.wad: refused 2: "), "{said:?}");
+    assert_eq!(said.status, 1);
+}
+
+#[test]
+fn the_largest_directory_is_listed() {
+    let said = Folder::with("a.wad", &generator::directory_of(4096)).run(&["list", "a.wad"]);
+    assert_eq!((said.status, said.out.lines().count()), (0, 4096));
+    assert!(said.out.lines().last().is_some_and(|line| line.starts_with("4095  LUMP4095")), "{said:?}");
+}

@@ -1,0 +1,14 @@
+//! The built tool, run as a person would run it.
+#![forbid(unsafe_code)]
+
+mod descend;
+mod flat_json;
+mod input;
+mod json;
+mod judge;
+mod list;
+mod picture;
+mod png_reader;
+mod samples;
+mod support;
+mod usage;

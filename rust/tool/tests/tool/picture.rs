@@ -1,0 +1,111 @@
+//! `picture`.
+
+use crate::png_reader;
+use crate::support::{lumps, Folder};
+use generator::{PictureSpec, Post};
+use std::fs;
+use std::process::Stdio;
+
+/// Two columns of three rows: colours 7 and 9 in the middle of the first, nothing in the second.
+fn small() -> Vec<u8> {
+    let mut picture = PictureSpec { left: -3, top: 4, ..PictureSpec::blank(2, 3) };
+    picture.give_column(0, &[Post { start: 1, pixels: vec![7, 9], ignored: [0, 0] }]);
+    picture.data.push(255);
+    picture.encode()
+}
+
+/// A palette with red 100 + n, green 200 - n and blue n for colour n, as far as that goes.
+fn palette() -> Vec<u8> {
+    (0..=255_u8).flat_map(|it| [100_u8.wrapping_add(it), 200_u8.wrapping_sub(it), it]).collect()
+}
+
+const CLEAR: [u8; 4] = [0; 4];
+
+#[test]
+fn a_picture_has_the_files_own_colours() {
+    let folder = Folder::with("a.wad", &lumps(&[(b"PLAYPAL\0", palette()), (b"SMALL\0\0\0", small())]));
+    let said = folder.run(&["picture", "a.wad", "small", "-o", "out.png"]);
+    said.is(0, &["a.wad:SMALL: 2 x 3, offsets -3 and 4, written to out.png"]);
+    let png = png_reader::read(&fs::read(folder.file("out.png")).expect("the picture"));
+    assert_eq!((png.width, png.height), (2, 3));
+    assert_eq!(png.pixels, [CLEAR, CLEAR, [107, 193, 7, 255], CLEAR, [109, 191, 9, 255], CLEAR]);
+    assert_eq!(folder.names(), ["a.wad", "out.png"]);
+}
+
+#[test]
+fn the_last_lump_and_the_last_palette_of_a_name_count() {
+    let (black, blank) = (vec![0; 768], PictureSpec::blank(1, 1).encode());
+    let entries = [(b"PLAYPAL\0", black), (b"SMALL\0\0\0", blank), (b"SMALL\0\0\0", small()), (b"PLAYPAL\0", palette())];
+    let folder = Folder::with("a.wad", &lumps(&entries));
+    folder.run(&["picture", "a.wad", "SMALL", "-o", "out.png", "-q"]).is(0, &[]);
+    let png = png_reader::read(&fs::read(folder.file("out.png")).expect("the picture"));
+    assert_eq!(png.pixels[2..3], [[107, 193, 7, 255]]);
+}
+
+#[test]
+fn without_a_whole_palette_it_is_grey() {
+    let short = (b"PLAYPAL\0", palette()[..767].to_vec());
+    for entries in [vec![(b"SMALL\0\0\0", small())], vec![short, (b"SMALL\0\0\0", small())]] {
+        let folder = Folder::with("a.wad", &lumps(&entries));
+        assert_eq!(folder.run(&["picture", "a.wad", "SMALL", "-o", "out.png", "--quiet"]).status, 0);
+        let png = png_reader::read(&fs::read(folder.file("out.png")).expect("the picture"));
+        assert_eq!(png.pixels, [CLEAR, CLEAR, [7, 7, 7, 255], CLEAR, [9, 9, 9, 255], CLEAR]);
+    }
+}
+
+#[test]
+fn the_largest_picture_takes_several_blocks() {
+    let folder = Folder::with("a.wad", &lumps(&[(b"TITLEPIC", generator::picture(320, 200))]));
+    folder.run(&["picture", "a.wad", "TITLEPIC", "-o", "out.png", "-q"]).is(0, &[]);
+    let png = png_reader::read(&fs::read(folder.file("out.png")).expect("the picture"));
+    assert_eq!((png.width, png.height, png.pixels.len()), (320, 200, 64_000));
+    assert!(png.pixels.contains(&CLEAR) && png.pixels.iter().any(|it| it[3] == 255));
+}
+
+#[test]
+fn a_picture_goes_to_standard_output() {
+    let folder = Folder::with("a.wad", &lumps(&[(b"SMALL\0\0\0", small())]));
+    let output =
+        folder.command(&["picture", "a.wad", "SMALL", "-o", "-"]).stderr(Stdio::piped()).output().expect("the tool runs");
+    assert_eq!(png_reader::read(&output.stdout).pixels.len(), 6);
+    assert_eq!((output.status.code(), folder.names()), (Some(0), vec!["a.wad".to_string()]));
+}
+
+#[test]
+fn a_bad_picture_is_refused_and_nothing_written() {
+    let mut picture = PictureSpec::blank(2, 3);
+    picture.give_column(1, &[Post { start: 2, pixels: vec![1, 2], ignored: [0, 0] }]);
+    picture.data.push(255);
+    let folder = Folder::with("a.wad", &lumps(&[(b"BAD\0\0\0\0\0", picture.encode()), (b"MAP01\0\0\0", vec![])]));
+    let said = folder.run(&["picture", "a.wad", "BAD", "-o", "out.png"]);
+    assert!(said.out.starts_with("a.wad:BAD: refused 54 at column 1: column 1 has a post"), "{said:?}");
+    assert_eq!((said.status, folder.names()), (1, vec!["a.wad".to_string()]));
+    let said = folder.run(&["picture", "a.wad", "MAP01", "-o", "out.png"]);
+    assert!(said.out.starts_with("a.wad:MAP01: refused 50: "), "{said:?}");
+}
+
+#[test]
+fn a_lump_that_is_not_there_cannot_be_read() {
+    let folder = Folder::with("a.wad", &lumps(&[(b"SMALL\0\0\0", small())]));
+    for name in ["LARGE", "SMALLER", "SMALLSMALL"] {
+        let said = folder.run(&["picture", "a.wad", name, "-o", "out.png"]);
+        assert_eq!((said.status, said.out.as_str(), said.err), (2, "", format!("meshpigeon: a.wad: there is no lump {name}\n")));
+    }
+}
+
+#[test]
+fn a_place_that_cannot_be_written_is_told() {
+    let folder = Folder::with("a.wad", &lumps(&[(b"SMALL\0\0\0", small())]));
+    let said = folder.run(&["picture", "a.wad", "SMALL", "-o", "no/out.png"]);
+    assert!(said.err.starts_with("meshpigeon: no/out.png: "), "{said:?}");
+    assert_eq!((said.status, said.out.as_str()), (2, ""));
+}
+
+#[test]
+fn a_picture_is_never_written_over_its_file() {
+    let wad = lumps(&[(b"SMALL\0\0\0", small())]);
+    let folder = Folder::with("a.wad", &wad);
+    let said = folder.run(&["picture", "a.wad", "SMALL", "-o", "./a.wad"]);
+    assert_eq!((said.status, said.out.as_str()), (3, ""));
+    assert_eq!(fs::read(folder.file("a.wad")).expect("it is there"), wad);
+}

@@ -1,0 +1,30 @@
+//! The files of samples/, as `make run` judges them.
+
+use crate::png_reader;
+use crate::support::{Folder, GOOD};
+
+fn folder() -> Folder {
+    generator::samples().iter().fold(Folder::new(), |folder, (name, bytes)| folder.and(name, bytes))
+}
+
+#[test]
+fn each_sample_is_what_its_name_says() {
+    let said = folder().run(&["judge", "accepted.wad", "loop.wad", "picture.wad", "reference.wad"]);
+    let lines: Vec<&str> = said.out.lines().collect();
+    assert_eq!(lines[0], format!("accepted.wad:MAP01: {GOOD}"));
+    assert!(lines[1].starts_with("loop.wad:MAP01: refused 31 at NODES: "), "{said:?}");
+    assert_eq!(lines[2], "picture.wad: no map");
+    assert!(lines[3].starts_with("reference.wad:MAP01: refused 23 at LINEDEFS 5: "), "{said:?}");
+    assert_eq!(lines[4..], ["4 files: 1 map accepted, 2 maps refused, 1 file without a map"]);
+    assert_eq!((said.status, said.err.as_str()), (1, ""));
+}
+
+#[test]
+fn the_pigeon_is_painted() {
+    let folder = folder();
+    folder.run(&["picture", "picture.wad", "PIGEON", "-o", "out.png", "-q"]).is(0, &[]);
+    let png = png_reader::read(&std::fs::read(folder.file("out.png")).expect("the picture"));
+    assert_eq!((png.width, png.height), (26, 20));
+    assert_eq!(png.pixels[0], [0; 4]);
+    assert_eq!(png.pixels[3 * 26 + 17], [32, 32, 40, 255]);
+}

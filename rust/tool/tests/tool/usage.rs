@@ -1,0 +1,73 @@
+//! Bad usage, help and version.
+
+use crate::support::{good, Folder};
+
+/// Asserts that a command line is bad usage, and that nothing was said on standard output.
+fn misused(arguments: &[&str], words: &str) {
+    let said = Folder::with("a.wad", &good()).run(arguments);
+    assert!(said.err.starts_with(&format!("meshpigeon: {words}")), "{arguments:?}: {said:?}");
+    assert!(said.err.ends_with("Try 'meshpigeon --help'.\n"), "{arguments:?}: {said:?}");
+    assert_eq!((said.status, said.out.as_str()), (3, ""), "{arguments:?}");
+}
+
+#[test]
+fn commands_and_options_must_be_known() {
+    misused(&[], "no command is given");
+    misused(&["judje", "a.wad"], "'judje' is no command");
+    misused(&["judge", "a.wad", "--colour"], "'--colour' is no option");
+    misused(&["judge", "a.wad", "-x"], "'-x' is no option");
+    misused(&["judge", "a.wad", "--map"], "--map needs a value");
+    misused(&["picture", "a.wad", "P", "-o"], "-o needs a value");
+    misused(&["picture", "a.wad", "P", "-o", "a", "-o", "b"], "-o is given twice");
+}
+
+#[test]
+fn each_command_has_its_words() {
+    misused(&["judge"], "judge needs a file");
+    misused(&["judge", "-", "a.wad", "-"], "standard input can be judged once only");
+    misused(&["list"], "list needs FILE");
+    misused(&["list", "a.wad", "b.wad"], "list needs FILE");
+    misused(&["descend", "a.wad", "MAP01", "1"], "descend needs FILE MAP X Y");
+    misused(&["descend", "a.wad", "MAP01", "1", "2", "3"], "descend needs FILE MAP X Y");
+    misused(&["picture", "a.wad", "P"], "picture needs FILE LUMP -o OUT.png");
+    misused(&["picture", "a.wad", "-o", "b"], "picture needs FILE LUMP -o OUT.png");
+}
+
+#[test]
+fn each_command_has_its_options() {
+    misused(&["list", "a.wad", "--map", "MAP01"], "list does not take --map");
+    misused(&["judge", "a.wad", "-o", "b"], "judge does not take -o");
+    misused(&["list", "a.wad", "--quiet"], "list does not take --quiet");
+    misused(&["descend", "a.wad", "MAP01", "0", "0", "-q"], "descend does not take --quiet");
+}
+
+#[test]
+fn coordinates_are_signed_16_bit_numbers() {
+    for strange in ["32768", "-32769", "x", "1.5", ""] {
+        misused(&["descend", "a.wad", "MAP01", strange, "0"], &format!("'{strange}' is no coordinate"));
+        misused(&["descend", "a.wad", "MAP01", "0", strange], &format!("'{strange}' is no coordinate"));
+    }
+}
+
+#[test]
+fn help_and_version_are_given() {
+    let folder = Folder::new();
+    for arguments in [&["--help"][..], &["-h"], &["judge", "--help"], &["list", "a", "b", "-h"]] {
+        let said = folder.run(arguments);
+        assert!(said.out.contains("Usage:\n  meshpigeon judge FILE.. [--map NAME].."), "{said:?}");
+        assert_eq!((said.status, said.err.as_str()), (0, ""));
+    }
+    folder.run(&["--version"]).is(0, &[concat!("meshpigeon ", env!("CARGO_PKG_VERSION"))]);
+}
+
+#[test]
+fn the_help_fits_a_terminal() {
+    let said = Folder::new().run(&["--help"]);
+    assert!(said.out.lines().all(|line| line.len() <= 84), "{}", said.out);
+}
+
+#[test]
+fn two_dashes_make_names_of_options() {
+    let folder = Folder::with("--json", &good());
+    folder.run(&["judge", "--", "--json"]).is(0, &["--json:MAP01: accepted, depth 2, 3 nodes, 4 subsectors"]);
+}
