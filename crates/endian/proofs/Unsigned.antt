@@ -1,11 +1,11 @@
 -- Laws of unsigned numbers: reading what was written, and writing back what was read. Assumes nothing.
 use Prim.Native.Nat.{ℕ, _+_, _*_, _/_, _%_, _<_}
 use mathlib.Core.List.{List, [], _∷_}
-use mathlib.Core.Path.{_≡_}
+use mathlib.Core.Path.{_≡_, ap, _∙_}
 use native.Mathlib.Omega.{arith}
 use lib.ListN.{length, getD, set, length-set}
 use lib.Seq.{getD-set-same, getD-set-other, set-getD}
-use Rattle.endian.specs.Unsigned.{Bytes, u16At, u16Bytes, putU16}
+use Rattle.endian.specs.Unsigned.{Bytes, u16At, u32At, u16Bytes, putU16, putU32}
 
 pub low-byte : (a b : ℕ) → a < 256 → (a + 256 * b) % 256 ≡ a
 low-byte a b h = omega arith
@@ -48,3 +48,39 @@ putU16-u16At xs at h =
       high-byte (getD xs at 0) (getD xs (at + 1) 0) (h at),
       set-getD xs at 0,
     ) (set-getD xs (at + 1) 0)
+
+-- ---- the same for four bytes
+
+length-putU16 : (xs : List ℕ) (at n : ℕ) → length (putU16 xs at n) ≡ length xs
+length-putU16 xs at n = simp length-set
+
+-- two bytes before those that are written stay
+pub u16At-before : (xs : List ℕ) (at n i : ℕ) → i + 1 < at → u16At (putU16 xs at n) i ≡ u16At xs i
+u16At-before xs at n i h =
+    let low : (k : ℕ) → k < at → getD (putU16 xs at n) k 0 ≡ getD xs k 0 =
+    λ (k : ℕ) (l : k < at).
+    getD-set-other (set xs at (n % 256)) (at + 1) k (n / 256) 0 (λ (e : k ≡ at + 1). omega arith)
+    ∙ getD-set-other xs at k (n % 256) 0 (λ (e : k ≡ at). omega arith) in
+    rw (low i (omega arith), low (i + 1) h)
+
+pub u32At-putU32 : (xs : List ℕ) (at n : ℕ) → at + 3 < length xs → u32At (putU32 xs at n) at ≡ n
+u32At-putU32 xs at n h =
+    let ys = putU16 xs at (n % 65536) in
+    let long : at + 2 + 1 < length ys = rw (length-putU16 xs at (n % 65536)) (omega arith) in
+    rw (
+      u16At-before ys (at + 2) (n / 65536) at (omega arith),
+      u16At-putU16 xs at (n % 65536) (omega arith),
+      u16At-putU16 ys (at + 2) (n / 65536) long,
+    )
+    (omega arith)
+
+pub putU32-u32At : (xs : List ℕ) (at : ℕ) → Bytes xs → putU32 xs at (u32At xs at) ≡ xs
+putU32-u32At xs at h =
+    let a = u16At xs at in
+    let b = u16At xs (at + 2) in
+    let fits : a < 65536 = u16At-fits xs at h in
+    let low : (a + 65536 * b) % 65536 ≡ a = omega arith in
+    let high : (a + 65536 * b) / 65536 ≡ b = omega arith in
+    (λ i. putU16 (putU16 xs at (low i)) (at + 2) (high i))
+    ∙ ap (λ (ys : List ℕ). putU16 ys (at + 2) b) (putU16-u16At xs at h)
+    ∙ putU16-u16At xs (at + 2) h
