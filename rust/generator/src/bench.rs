@@ -36,22 +36,28 @@ pub fn map_of(scale: usize) -> Vec<u8> {
 /// The largest map that fits 16 MiB: most counts at their limits, the rest shared between
 /// REJECT and BLOCKMAP.
 pub fn largest_map() -> Vec<u8> {
+    largest_map_of(4)
+}
+
+/// A map with so many quarters of the largest map's records and bytes, 1 to 4.
+pub fn largest_map_of(quarters: usize) -> Vec<u8> {
     let mut rng = Rng::new(2);
+    let (most, fewer) = (65_535 * quarters / 4, 32_767 * quarters / 4);
     let sizes = Sizes {
-        things: 65_535,
-        linedefs: 65_535,
-        sidedefs: 65_535,
-        vertices: 65_535,
-        segs: 65_535,
-        subsectors: 32_767,
-        nodes: 32_767,
-        sectors: 8_000,
+        things: most,
+        linedefs: most,
+        sidedefs: most,
+        vertices: most,
+        segs: most,
+        subsectors: fewer,
+        nodes: fewer,
+        sectors: 2_000 * quarters,
         columns: 128,
         rows: 128,
     };
     let mut map = MapSpec::plain(sizes, &mut rng);
     many_lists(&mut map.blockmap, sizes.linedefs, &mut rng);
-    filled(map, MOST_BYTES, || rng.below(65_535) as u16)
+    filled(map, MOST_BYTES * quarters / 4, || rng.below(sizes.linedefs) as u16)
 }
 
 /// Gives the cells lists of any length as far as offsets reach.

@@ -52,7 +52,7 @@ mod valid;
 
 pub use bench::{
     chain, directory_of, halving_nodes, hostile_blockmap, hostile_blockmap_of, hostile_picture, hostile_picture_of, largest_map,
-    map_of, ordinary_map, picture, MOST_BYTES,
+    largest_map_of, map_of, ordinary_map, picture, MOST_BYTES,
 };
 pub use blockmap::{BlockmapSpec, Layout};
 pub use case::{Case, Expected, Question};

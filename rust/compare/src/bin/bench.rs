@@ -72,12 +72,7 @@ fn reader_descents(nodes: &[u8]) -> usize {
 fn inputs() -> Vec<Input> {
     vec![
         Input { name: "map of ordinary size", sized: |n| given::map_of(n), library: library_map, reader: reader_map },
-        Input {
-            name: "largest map in 16 MiB",
-            sized: |n| if n == 4 { given::largest_map() } else { given::map_of(16 * n) },
-            library: library_map,
-            reader: reader_map,
-        },
+        Input { name: "largest map in 16 MiB", sized: given::largest_map_of, library: library_map, reader: reader_map },
         Input {
             name: "4,096 directory entries",
             sized: |n| given::directory_of(1_024 * n),
