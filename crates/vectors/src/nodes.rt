@@ -1,6 +1,5 @@
 // The node graph and the descent: examples (c) to (j), far corners, refusals, loops and long rows of nodes. The word of
 // subsector n is 32768 + n.
-use super::print;
 use bsp::Descent;
 use bsp::Graph;
 ghost use mathlib.Core.Bool.{true};

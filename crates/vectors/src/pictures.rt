@@ -1,7 +1,6 @@
 // Pictures: example (l), pictures of every shape, each refusal, both sides of each limit. The planes hold 9 before.
 ghost use Prim.Native.Nat.{_+_, _*_, _≤_};
 ghost use lib.ListN.{length};
-use super::print;
 use picture::Judged;
 use picture::Picture;
 
