@@ -2,6 +2,7 @@
 use mathlib.Core.Path.{refl}
 use borrow.Author.Tests.{le-ltb}
 use Rattle.refusal.specs.Checks.{each}
+use Rattle.wad.specs.Map.{findMarker}
 use Rattle.bsp.specs.Heights.{stands, height, graphVerdict}
 use Rattle.bsp.specs.Walks.{descentFrom, descent}
 use Rattle.level.specs.Blockmap.{endsWell}
@@ -10,7 +11,7 @@ use Rattle.picture.specs.Pixels.{overPosts, listOf}
 use Rattle.meshpigeon.specs.Examples.{Examples}
 
 pub examples : Examples
-unfolding each stands height graphVerdict descentFrom descent endsWell postsCheck overPosts listOf
+unfolding each findMarker stands height graphVerdict descentFrom descent endsWell postsCheck overPosts listOf
 examples =
     record {
       a = (refl, (refl, refl));
@@ -25,6 +26,7 @@ examples =
       f-depth = refl;
       f-descent = λ x y. refl;
       g = refl;
+      g-accepted = refl;
       h = refl;
       i = refl;
       j = refl;

@@ -1,5 +1,5 @@
 -- The examples of 01, "Examples", (a) to (l), of the definitions. The proof is proofs/Examples.antt. Assumes nothing.
-use Prim.Native.Nat.{ℕ, _≤_}
+use Prim.Native.Nat.{ℕ, _/_, _%_, _≤_}
 use mathlib.Core.Bool.{true, false, _&&_}
 use mathlib.Core.List.{List, [], _∷_, _++_}
 use mathlib.Core.Path.{_≡_}
@@ -9,6 +9,7 @@ use lib.ListN.{replicate}
 use Rattle.endian.specs.Unsigned.{u16Bytes}
 use Rattle.refusal.specs.declared.Check.the-variants.{Pass}
 use Rattle.wad.specs.Name.{nameOk, sameName}
+use Rattle.record.specs.Lumps.{nameOf}
 use Rattle.bsp.specs.declared.Choice.the-variants.{Right, Left}
 use Rattle.bsp.specs.declared.Descent.the-variants.{Found}
 use Rattle.bsp.specs.declared.Graph.{Graph}
@@ -16,6 +17,8 @@ use Rattle.bsp.specs.Nodes.{subsectorBit, childOk}
 use Rattle.bsp.specs.Heights.{graphVerdict}
 use Rattle.bsp.specs.Side.{side}
 use Rattle.bsp.specs.Walks.{descent}
+use Rattle.level.specs.declared.Verdict.the-variants.{Accepted}
+use Rattle.level.specs.Verdict.{verdict}
 use Rattle.level.specs.Sizes.{rejectSize}
 use Rattle.level.specs.Blockmap.{listOk}
 use Rattle.picture.specs.Judging.{paintCheck}
@@ -35,6 +38,28 @@ lowest = negsuc 32767
 -- a node of the two children, all else 0
 abbrev node : ℕ → ℕ → List ℕ
 node right left = replicate 24 0 ++ u16Bytes right ++ u16Bytes left
+
+-- the smallest map with (g)'s node, whole: one linedef, sidedef, vertex, seg, subsector, node and sector, and one empty cell
+abbrev u32Bytes : ℕ → List ℕ
+u32Bytes n = u16Bytes (n % 65536) ++ u16Bytes (n / 65536)
+
+abbrev entry : ℕ → ℕ → List ℕ → List ℕ
+entry offset size name = u32Bytes offset ++ u32Bytes size ++ name
+
+abbrev map01 : List ℕ
+map01 = 77 ∷ 65 ∷ 80 ∷ 48 ∷ 49 ∷ 0 ∷ 0 ∷ 0 ∷ []
+
+abbrev smallest : List ℕ
+smallest =
+    (80 ∷ 87 ∷ 65 ∷ 68 ∷ []) ++ u32Bytes 11 ++ u32Bytes 145
+    ++ replicate 12 0 ++ u16Bytes 65535
+    ++ replicate 30 0 ++ replicate 4 0 ++ replicate 12 0
+    ++ u16Bytes 1 ++ u16Bytes 0
+    ++ node 0x8000 0x8000 ++ replicate 26 0 ++ replicate 1 0
+    ++ u16Bytes 0 ++ u16Bytes 0 ++ u16Bytes 1 ++ u16Bytes 1 ++ u16Bytes 5 ++ u16Bytes 0 ++ u16Bytes 65535
+    ++ entry 0 0 map01 ++ entry 0 0 (nameOf 0) ++ entry 12 14 (nameOf 1) ++ entry 26 30 (nameOf 2) ++ entry 56 4 (nameOf 3)
+    ++ entry 60 12 (nameOf 4) ++ entry 72 4 (nameOf 5) ++ entry 76 28 (nameOf 6) ++ entry 104 26 (nameOf 7)
+    ++ entry 130 1 (nameOf 8) ++ entry 131 14 (nameOf 9)
 
 -- a BLOCKMAP of two cells, whose lists are `0 65535` at word 6 and `0 330 331 333 65535` at word 8
 abbrev blockmap : List ℕ
@@ -69,6 +94,8 @@ pub record Examples : Type 0 where
   pub f-descent : (x y : ℤ) → descent [] 1 x y ≡ Found 0 0
   -- (g) one node, both children subsector 0: depth 1
   pub g : graphVerdict (node 0x8000 0x8000) ≡ Graph.Depth 1
+  -- and a whole map with that node is accepted, whatever the four lent words hold
+  pub g-accepted : verdict smallest map01 (7 ∷ 7 ∷ 7 ∷ 7 ∷ []) ≡ Accepted 1 0
   -- (h) one node whose left child is itself: a loop
   pub h : graphVerdict (node 0x8000 0) ≡ Graph.Loop
   -- (i) two nodes, node 0 its own child, the root's children both subsectors: depth 1
