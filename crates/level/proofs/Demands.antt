@@ -23,12 +23,12 @@ use Rattle.bsp.specs.Heights.{graphVerdict}
 use Rattle.bsp.specs.Routes.{Loop}
 use Rattle.bsp.proofs.Verdict.{verdict-holds}
 use Rattle.bsp.proofs.Descends.{descent-holds}
+use Rattle.blockmap.specs.Blockmap.{blockmapCheck}
 use Rattle.level.specs.declared.Verdict.the-variants.{Accepted, Refused as NotAccepted}
 use Rattle.level.specs.Lumps.{mapLumps, lumpOf, countOf}
 use Rattle.level.specs.Run.{runCheck}
 use Rattle.level.specs.Sizes.{sizesCheck}
 use Rattle.level.specs.References.{referencesCheck}
-use Rattle.level.specs.Blockmap.{blockmapCheck}
 use Rattle.level.specs.Verdict.{lumpsCheck, mapCheck, graphAnswer, judged, checkAt, nodesAt, subsectorsAt, verdictBy, verdict}
 use Rattle.level.specs.Demands.{SameMap, SameShortage, Frame, Below31, Demand3}
 use Rattle.level.proofs.Passing.{passed}

@@ -20,11 +20,12 @@ use Rattle.bsp.specs.Nodes.{nodesOf, nodeOk}
 use Rattle.bsp.specs.Judging.{Judgeable}
 use Rattle.bsp.specs.Promises.{Passed}
 use Rattle.bsp.proofs.Nodes.{nodes-ok, nodes-in-range}
+use Rattle.reference.specs.References.{nodeCheck}
+use Rattle.blockmap.specs.Blockmap.{blockmapCheck}
 use Rattle.level.specs.Lumps.{lumpOf, countOf}
 use Rattle.level.specs.Run.{namedOk, rowCheck, runCheck, behavior}
 use Rattle.level.specs.Sizes.{wholeOk, aloneOk, countOk, sizeCheck, rejectCheck, sizesCheck}
-use Rattle.level.specs.References.{linedefsCheck, sidedefsCheck, segsCheck, subsectorsCheck, nodeCheck, nodesCheck, referencesCheck}
-use Rattle.level.specs.Blockmap.{blockmapCheck}
+use Rattle.level.specs.References.{linedefsCheck, sidedefsCheck, segsCheck, subsectorsCheck, nodesCheck, referencesCheck}
 use Rattle.level.specs.Verdict.{workCheck, lumpsCheck}
 
 -- ---- 12: the ten lumps follow the marker

@@ -5,7 +5,5 @@ pub mod Lumps
 pub mod Run
 pub mod Sizes
 pub mod References
-pub mod Blockmap
-pub mod Noted
 pub mod Verdict
 pub mod Demands

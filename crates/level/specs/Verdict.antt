@@ -19,13 +19,13 @@ use Rattle.bsp.specs.declared.Graph.the-variants.{Loop, Depth}
 use Rattle.bsp.specs.Nodes.{nodesOf}
 use Rattle.bsp.specs.Heights.{graphVerdict}
 use Rattle.bsp.specs.Judging.{cleared}
+use Rattle.blockmap.specs.Blockmap.{blockmapCheck}
 use Rattle.level.specs.declared.Verdict.{Verdict}
 use Rattle.level.specs.declared.Verdict.the-variants.{Accepted, Refused as NotAccepted}
 use Rattle.level.specs.Lumps.{mapLumps, lumpOf, countOf, LINEDEFS, SSECTORS, NODES, BLOCKMAP}
 use Rattle.level.specs.Run.{runCheck}
 use Rattle.level.specs.Sizes.{sizesCheck}
 use Rattle.level.specs.References.{referencesCheck}
-use Rattle.level.specs.Blockmap.{blockmapCheck}
 
 -- 30: fewer than four work words for each node
 abbrev pub workCheck : List (List ℕ) → ℕ → Check

@@ -1,8 +1,5 @@
 // The map check: one map of a file, by its name, judged whole. The definitions are in specs/.
-mod blockmap;
-mod fields;
 mod lumps;
-mod references;
 mod run;
 mod sizes;
 

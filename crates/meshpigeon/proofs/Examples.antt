@@ -5,7 +5,7 @@ use Rattle.refusal.specs.Checks.{each}
 use Rattle.wad.specs.Map.{findMarker}
 use Rattle.bsp.specs.Heights.{stands, height, graphVerdict}
 use Rattle.bsp.specs.Walks.{descentFrom, descent}
-use Rattle.level.specs.Blockmap.{endsWell}
+use Rattle.blockmap.specs.Blockmap.{endsWell}
 use Rattle.picture.specs.Judging.{postsCheck}
 use Rattle.picture.specs.Pixels.{overPosts, listOf}
 use Rattle.meshpigeon.specs.Examples.{Examples}

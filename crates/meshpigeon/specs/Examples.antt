@@ -20,7 +20,7 @@ use Rattle.bsp.specs.Walks.{descent}
 use Rattle.level.specs.declared.Verdict.the-variants.{Accepted}
 use Rattle.level.specs.Verdict.{verdict}
 use Rattle.level.specs.Sizes.{rejectSize}
-use Rattle.level.specs.Blockmap.{listOk}
+use Rattle.blockmap.specs.Blockmap.{listOk}
 use Rattle.picture.specs.Judging.{paintCheck}
 use Rattle.picture.specs.Pixels.{planeOf, byColour, byCover}
 

@@ -64,19 +64,10 @@ directory-of-requires c κs = let e = c .before .before in file-header (now (e .
 entry-count-requires : tie.Need-entry-count-requires
 entry-count-requires c κs = let e = c .before .before .before in file-header (now (e .args .wad)) (e .pre .0)
 
-judge-below-requires : tie.Need-judge-below-requires
-judge-below-requires c κs = search needs
-
-enum-known-r : tie.Need-enum-known-r
-enum-known-r c = search needs
-
 returns : tie.Need-returns
 returns c =
     let e = c .before .before .before .before .before .before .before .before in
     answered-refused (now (e .args .wad)) (e .args .marker) (now (e .args .words)) (sym (below (c .before .before .before)) ∙ c .before .r .given .1)
-
-enum-told : tie.Need-enum-told
-enum-told c = search needs
 
 row-lump-requires : tie.Need-row-lump-requires
 row-lump-requires c κs =
@@ -94,9 +85,6 @@ judge-graph-requires c κs =
     let below31 = andThen-pass run (lumpsCheck lumps (length words)) (passes (r .before)) .1 in
     subst⁻¹ (λ (l : List ℕ). Judgeable l (nodesOf l) words) (nodes r) (judgeable lumps (length words) below31 words refl)
 
-same-length : tie.Need-same-length
-same-length c = search needs
-
 returns-2 : tie.Need-returns-2
 returns-2 c =
     let r = c .before .before .before .before in
@@ -111,14 +99,5 @@ returns-2 c =
 pub judge-at-spec : {M : Type 1} → statement M
 judge-at-spec =
     tie.close
-    (tie.spec
-    directory-of-requires
-    entry-count-requires
-    judge-below-requires
-    enum-known-r
-    returns
-    enum-told
-    row-lump-requires
-    judge-graph-requires
-    same-length
-    returns-2)
+    (tie.spec directory-of-requires entry-count-requires (λ c κs. search needs) (λ c. search needs)
+    returns (λ c. search needs) row-lump-requires judge-graph-requires (λ c. search needs) returns-2)

@@ -8,18 +8,9 @@ use borrow.Author.Needs.{needs}
 use Rattle.level.proofs.judge_below.Statement.{statement}
 use Rattle.level.proofs.judge_below.Tie as tie
 
-judge-run-requires : tie.Need-judge-run-requires
-judge-run-requires c κs = search needs
-
-enum-known-r : tie.Need-enum-known-r
-enum-known-r c = search needs
-
 returns : tie.Need-returns
 returns c =
     refused-then _ (sym (c .before .before .before .judge-run .ensures) ∙ c .before .r .given .1)
-
-enum-told : tie.Need-enum-told
-enum-told c = search needs
 
 check-lumps-requires : tie.Need-check-lumps-requires
 check-lumps-requires c κs =
@@ -36,4 +27,5 @@ returns-2 c =
 pub judge-below-spec : {M : Type 1} → statement M
 judge-below-spec =
     tie.close
-    (tie.spec judge-run-requires enum-known-r returns enum-told check-lumps-requires returns-2)
+    (tie.spec (λ c κs. search needs) (λ c. search needs) returns (λ c. search needs)
+    check-lumps-requires returns-2)

@@ -6,18 +6,6 @@ use borrow.Author.Needs.{needs}
 use Rattle.level.proofs.judge_graph.Statement.{statement}
 use Rattle.level.proofs.judge_graph.Tie as tie
 
-judge-requires : tie.Need-judge-requires
-judge-requires c κs = search needs
-
-enum-told : tie.Need-enum-told
-enum-told c = search needs
-
-enum-known-depth : tie.Need-enum-known-depth
-enum-known-depth c = search needs
-
-same-length : tie.Need-same-length
-same-length c = search needs
-
 returns : tie.Need-returns
 returns c =
     let e = c .before .before .before .before .before .before .before .before in
@@ -26,9 +14,6 @@ returns c =
       verdicts = ap (λ (a : Graph). graphAnswer a (e .args .marker)) (sym (c .enum-told .given .1) ∙ g .verdict);
       leaves = g .words;
     }
-
-same-length-2 : tie.Need-same-length-2
-same-length-2 c = search needs
 
 returns-2 : tie.Need-returns-2
 returns-2 c =
@@ -42,11 +27,5 @@ returns-2 c =
 pub judge-graph-spec : {M : Type 1} → statement M
 judge-graph-spec =
     tie.close
-    (tie.spec
-    judge-requires
-    enum-told
-    enum-known-depth
-    same-length
-    returns
-    same-length-2
-    returns-2)
+    (tie.spec (λ c κs. search needs) (λ c. search needs) (λ c. search needs) (λ c. search needs)
+    returns (λ c. search needs) returns-2)

@@ -6,15 +6,6 @@ use borrow.Author.Needs.{needs}
 use Rattle.level.proofs.judge_map.Statement.{statement}
 use Rattle.level.proofs.judge_map.Tie as tie
 
-find-map-requires : tie.Need-find-map-requires
-find-map-requires c κs = search needs
-
-enum-known-r : tie.Need-enum-known-r
-enum-known-r c = search needs
-
-enum-known-marker : tie.Need-enum-known-marker
-enum-known-marker c = search needs
-
 judge-at-requires : tie.Need-judge-at-requires
 judge-at-requires c κs =
     let e = c .before .before .before .before .before .before .before .before in
@@ -26,9 +17,6 @@ returns c =
     answered-none (now (e .args .wad)) (now (e .args .name)) (now (e .args .words))
     (sym (c .before .before .before .find-map .ensures) ∙ c .before .r .given .1)
 
-same-length : tie.Need-same-length
-same-length c = search needs
-
 returns-2 : tie.Need-returns-2
 returns-2 c =
     let m = c .before .before .before .before .before in
@@ -39,11 +27,5 @@ returns-2 c =
 pub judge-map-spec : {M : Type 1} → statement M
 judge-map-spec =
     tie.close
-    (tie.spec
-    find-map-requires
-    enum-known-r
-    enum-known-marker
-    judge-at-requires
-    returns
-    same-length
-    returns-2)
+    (tie.spec (λ c κs. search needs) (λ c. search needs) (λ c. search needs) judge-at-requires
+    returns (λ c. search needs) returns-2)

@@ -3,15 +3,6 @@ use borrow.Author.Needs.{needs}
 use Rattle.level.proofs.lumps.check_blockmap.Statement.{statement}
 use Rattle.level.proofs.lumps.check_blockmap.Tie as tie
 
-row-lump-requires : tie.Need-row-lump-requires
-row-lump-requires c κs = search needs
-
-row-count-requires : tie.Need-row-count-requires
-row-count-requires c κs = search needs
-
-judge-blockmap-requires : tie.Need-judge-blockmap-requires
-judge-blockmap-requires c κs = search needs
-
 returns : tie.Need-returns
 returns c =
     rw (
@@ -22,4 +13,5 @@ returns c =
 
 pub check-blockmap-spec : {M : Type 1} → statement M
 check-blockmap-spec =
-    tie.close (tie.spec row-lump-requires row-count-requires judge-blockmap-requires returns)
+    tie.close
+    (tie.spec (λ c κs. search needs) (λ c κs. search needs) (λ c κs. search needs) returns)

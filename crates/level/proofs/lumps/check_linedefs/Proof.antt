@@ -3,18 +3,6 @@ use borrow.Author.Needs.{needs}
 use Rattle.level.proofs.lumps.check_linedefs.Statement.{statement}
 use Rattle.level.proofs.lumps.check_linedefs.Tie as tie
 
-row-lump-requires : tie.Need-row-lump-requires
-row-lump-requires c κs = search needs
-
-row-count-requires : tie.Need-row-count-requires
-row-count-requires c κs = search needs
-
-row-count-requires-2 : tie.Need-row-count-requires-2
-row-count-requires-2 c κs = search needs
-
-judge-linedefs-requires : tie.Need-judge-linedefs-requires
-judge-linedefs-requires c κs = search needs
-
 returns : tie.Need-returns
 returns c =
     rw (
@@ -27,9 +15,5 @@ returns c =
 pub check-linedefs-spec : {M : Type 1} → statement M
 check-linedefs-spec =
     tie.close
-    (tie.spec
-    row-lump-requires
-    row-count-requires
-    row-count-requires-2
-    judge-linedefs-requires
-    returns)
+    (tie.spec (λ c κs. search needs) (λ c κs. search needs) (λ c κs. search needs)
+    (λ c κs. search needs) returns)

@@ -7,12 +7,6 @@ use borrow.Author.Needs.{needs}
 use Rattle.level.proofs.lumps.check_reject.Statement.{statement}
 use Rattle.level.proofs.lumps.check_reject.Tie as tie
 
-row-lump-requires : tie.Need-row-lump-requires
-row-lump-requires c κs = search needs
-
-row-count-requires : tie.Need-row-count-requires
-row-count-requires c κs = search needs
-
 judge-reject-requires : tie.Need-judge-reject-requires
 judge-reject-requires c κs =
     let e = c .before .before .before .before in
@@ -29,4 +23,4 @@ returns c =
 
 pub check-reject-spec : {M : Type 1} → statement M
 check-reject-spec =
-    tie.close (tie.spec row-lump-requires row-count-requires judge-reject-requires returns)
+    tie.close (tie.spec (λ c κs. search needs) (λ c κs. search needs) judge-reject-requires returns)

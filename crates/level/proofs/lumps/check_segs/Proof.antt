@@ -3,18 +3,6 @@ use borrow.Author.Needs.{needs}
 use Rattle.level.proofs.lumps.check_segs.Statement.{statement}
 use Rattle.level.proofs.lumps.check_segs.Tie as tie
 
-row-lump-requires : tie.Need-row-lump-requires
-row-lump-requires c κs = search needs
-
-row-lump-requires-2 : tie.Need-row-lump-requires-2
-row-lump-requires-2 c κs = search needs
-
-row-count-requires : tie.Need-row-count-requires
-row-count-requires c κs = search needs
-
-judge-segs-requires : tie.Need-judge-segs-requires
-judge-segs-requires c κs = search needs
-
 returns : tie.Need-returns
 returns c =
     rw (
@@ -27,4 +15,5 @@ returns c =
 pub check-segs-spec : {M : Type 1} → statement M
 check-segs-spec =
     tie.close
-    (tie.spec row-lump-requires row-lump-requires-2 row-count-requires judge-segs-requires returns)
+    (tie.spec (λ c κs. search needs) (λ c κs. search needs) (λ c κs. search needs)
+    (λ c κs. search needs) returns)

@@ -5,18 +5,9 @@ use borrow.Author.Needs.{needs}
 use Rattle.level.proofs.lumps.check_sizes.Statement.{statement}
 use Rattle.level.proofs.lumps.check_sizes.Tie as tie
 
-judge-sizes-requires : tie.Need-judge-sizes-requires
-judge-sizes-requires c κs = search needs
-
-enum-known-r : tie.Need-enum-known-r
-enum-known-r c = search needs
-
 returns : tie.Need-returns
 returns c =
     refused-then _ (sym (c .before .before .before .judge-sizes .ensures) ∙ c .before .r .given .1)
-
-enum-told : tie.Need-enum-told
-enum-told c = search needs
 
 check-reject-requires : tie.Need-check-reject-requires
 check-reject-requires c κs = (search needs, sym (c .before .before .judge-sizes .ensures) ∙ c .enum-told .given .1)
@@ -29,4 +20,5 @@ returns-2 c =
 pub check-sizes-spec : {M : Type 1} → statement M
 check-sizes-spec =
     tie.close
-    (tie.spec judge-sizes-requires enum-known-r returns enum-told check-reject-requires returns-2)
+    (tie.spec (λ c κs. search needs) (λ c. search needs) returns (λ c. search needs)
+    check-reject-requires returns-2)

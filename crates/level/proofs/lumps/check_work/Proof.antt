@@ -4,14 +4,8 @@ use borrow.Author.Needs.{needs}
 use Rattle.level.proofs.lumps.check_work.Statement.{statement}
 use Rattle.level.proofs.lumps.check_work.Tie as tie
 
-row-count-requires : tie.Need-row-count-requires
-row-count-requires c κs = search needs
-
-pass-if-requires : tie.Need-pass-if-requires
-pass-if-requires c κs = search needs
-
 returns : tie.Need-returns
 returns c = rw (c .pass-if .ensures, c .before .row-count .ensures, quarter)
 
 pub check-work-spec : {M : Type 1} → statement M
-check-work-spec = tie.close (tie.spec row-count-requires pass-if-requires returns)
+check-work-spec = tie.close (tie.spec (λ c κs. search needs) (λ c κs. search needs) returns)

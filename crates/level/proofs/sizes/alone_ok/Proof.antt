@@ -3,14 +3,8 @@ use borrow.Author.Needs.{needs}
 use Rattle.level.proofs.sizes.alone_ok.Statement.{statement}
 use Rattle.level.proofs.sizes.alone_ok.Tie as tie
 
-row-count-requires : tie.Need-row-count-requires
-row-count-requires c κs = search needs
-
-row-count-requires-2 : tie.Need-row-count-requires-2
-row-count-requires-2 c κs = search needs
-
 returns : tie.Need-returns
 returns c = rw (c .row-count2 .ensures, c .before .row-count .ensures)
 
 pub alone-ok-spec : {M : Type 1} → statement M
-alone-ok-spec = tie.close (tie.spec row-count-requires row-count-requires-2 returns)
+alone-ok-spec = tie.close (tie.spec (λ c κs. search needs) (λ c κs. search needs) returns)

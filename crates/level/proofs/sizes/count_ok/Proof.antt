@@ -3,18 +3,6 @@ use borrow.Author.Needs.{needs}
 use Rattle.level.proofs.sizes.count_ok.Statement.{statement}
 use Rattle.level.proofs.sizes.count_ok.Tie as tie
 
-row-count-requires : tie.Need-row-count-requires
-row-count-requires c κs = search needs
-
-least-of-requires : tie.Need-least-of-requires
-least-of-requires c κs = search needs
-
-most-of-requires : tie.Need-most-of-requires
-most-of-requires c κs = search needs
-
-alone-ok-requires : tie.Need-alone-ok-requires
-alone-ok-requires c κs = search needs
-
 returns : tie.Need-returns
 returns c =
     rw (
@@ -27,4 +15,5 @@ returns c =
 pub count-ok-spec : {M : Type 1} → statement M
 count-ok-spec =
     tie.close
-    (tie.spec row-count-requires least-of-requires most-of-requires alone-ok-requires returns)
+    (tie.spec (λ c κs. search needs) (λ c κs. search needs) (λ c κs. search needs)
+    (λ c κs. search needs) returns)

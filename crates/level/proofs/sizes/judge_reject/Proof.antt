@@ -12,11 +12,6 @@ mul-pass-if c = let h : c .args .sectors * c .args .sectors ≤ 65535 * 65535 = 
 add-pass-if : tie.Need-add-pass-if
 add-pass-if c = let h : c .args .sectors * c .args .sectors ≤ 65535 * 65535 = mul-le-mul (c .pre) (c .pre) in omega arith
 
-pass-if-requires : tie.Need-pass-if-requires
-pass-if-requires c κs = search needs
-
-returns : tie.Need-returns
-returns c = search needs
-
 pub judge-reject-spec : {M : Type 1} → statement M
-judge-reject-spec = tie.close (tie.spec mul-pass-if add-pass-if pass-if-requires returns)
+judge-reject-spec =
+    tie.close (tie.spec mul-pass-if add-pass-if (λ c κs. search needs) (λ c. search needs))

@@ -6,19 +6,11 @@ use borrow.Author.Needs.{needs}
 use Rattle.level.proofs.sizes.row_lump.Statement.{statement}
 use Rattle.level.proofs.sizes.row_lump.Tie as tie
 
-add-lump-at : tie.Need-add-lump-at
-add-lump-at c = search needs
-
-add-lump-at-2 : tie.Need-add-lump-at-2
-add-lump-at-2 c = search needs
-
-lump-at-requires : tie.Need-lump-at-requires
-lump-at-requires c κs = search needs
-
 returns : tie.Need-returns
 returns c =
     let e = c .before .before .before in
     c .lump-at .ensures ∙ sym (lumpOf-row (now (e .args .wad)) (now (e .args .dir)) (e .args .marker) (e .args .row) (e .pre .1))
 
 pub row-lump-spec : {M : Type 1} → statement M
-row-lump-spec = tie.close (tie.spec add-lump-at add-lump-at-2 lump-at-requires returns)
+row-lump-spec =
+    tie.close (tie.spec (λ c. search needs) (λ c. search needs) (λ c κs. search needs) returns)

@@ -1,0 +1,26 @@
+-- `blockmap::note_lists` meets its contract: all places up to the last word, or the last that an offset reaches, are noted.
+-- Assumes nothing.
+use Prim.Native.Nat.{ℕ, _≤_, zero-le}
+use mathlib.Core.Path.{_∙_}
+use native.Mathlib.Omega.{arith}
+use denote.Ref.{now}
+use Rattle.blockmap.specs.Blockmap.{wordsOf}
+use borrow.Author.Needs.{needs}
+use Rattle.blockmap.proofs.note_lists.Statement.{statement}
+use Rattle.blockmap.proofs.note_lists.Tie as tie
+
+returns : tie.Need-returns
+returns c =
+    let e = c .before .before .before .before .before .before .before .before in
+    let below = c .before .before .note-below in
+    let top = c .before .before .before .before .before .smaller .ensures in
+    record {
+      places = below .kept .1 .1 .1 .1 .0 ∙ e .pre;
+      noted = λ (i : ℕ) (low : i ≤ 65536) (inside : i ≤ wordsOf (now (e .args .lump))). below .ensures i zero-le (omega arith);
+    }
+
+pub note-lists-spec : {M : Type 1} → statement M
+note-lists-spec =
+    tie.close
+    (tie.spec (λ c κs. search needs) (λ c κs. search needs) (λ c κs. search needs)
+    (λ c. search needs) returns)

@@ -1,0 +1,3 @@
+-- What a linedef, a sidedef, a seg, a subsector and a node may refer to. Assumes nothing.
+
+pub mod References

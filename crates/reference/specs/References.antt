@@ -1,0 +1,68 @@
+-- The references of a record to others: 23 to 27 (01, "References"). Assumes nothing.
+use Prim.Native.Nat.{ℕ, _+_, _/_, _%_}
+use mathlib.Core.Bool.{Bool, not, _&&_, _||_}
+use mathlib.Core.List.{List}
+use lib.Dec.{leb, ltb, eqb}
+use lib.ListN.{length}
+use Rattle.refusal.specs.declared.Check.{Check}
+use Rattle.refusal.specs.declared.Refusal.the-variants.{LinedefReference, SidedefReference, SegReference, SubsectorReference, NodeReference}
+use Rattle.refusal.specs.Checks.{unless}
+use Rattle.record.specs.declared.linedef.Linedef.{Linedef}
+use Rattle.record.specs.declared.seg.Seg.{Seg}
+use Rattle.record.specs.declared.subsector.Subsector.{Subsector}
+use Rattle.record.specs.Records.{recordBytes}
+use Rattle.record.specs.Linedefs.{linedefOf}
+use Rattle.record.specs.Sidedefs.{sidedefOf}
+use Rattle.record.specs.Segs.{segOf}
+use Rattle.record.specs.Subsectors.{subsectorOf}
+use Rattle.bsp.specs.Nodes.{nodeOk}
+
+-- a linedef without a left side says this number
+abbrev pub noSidedef : ℕ
+noSidedef = 65535
+
+-- flag 0x0004
+abbrev pub twoSided : ℕ → Bool
+twoSided flags = eqb (flags / 4 % 2) 1
+
+-- both vertices in range; a right side in range (which 65,535 never is, since there are at most 65,535 sidedefs); a left side
+-- none or in range, and there where the linedef is two-sided
+abbrev pub linedefOk : ℕ → ℕ → Linedef → Bool
+linedefOk vertices sidedefs l =
+    ltb (l .start) vertices && ltb (l .end) vertices && ltb (l .right) sidedefs
+    && (eqb (l .left) noSidedef || ltb (l .left) sidedefs) && not (twoSided (l .flags) && eqb (l .left) noSidedef)
+
+-- linedef `i` is there and has a left side
+abbrev pub leftOk : List ℕ → ℕ → Bool
+leftOk linedefs i = ltb i (length linedefs / 14) && not (eqb (linedefOf (recordBytes linedefs 14 i) .left) noSidedef)
+
+-- both vertices and the linedef in range; direction 0, or 1 along a linedef with a left side
+abbrev pub segOk : List ℕ → ℕ → Seg → Bool
+segOk linedefs vertices s =
+    ltb (s .start) vertices && ltb (s .end) vertices && ltb (s .linedef) (length linedefs / 14)
+    && (eqb (s .direction) 0 || (eqb (s .direction) 1 && leftOk linedefs (s .linedef)))
+
+-- at least one seg, and none past the last of `segs`
+abbrev pub subsectorOk : ℕ → Subsector → Bool
+subsectorOk segs s = leb 1 (s .number) && leb (s .first + s .number) segs
+
+-- 23, of linedef `i`
+abbrev pub linedefCheck : List ℕ → ℕ → ℕ → ℕ → Check
+linedefCheck linedefs vertices sidedefs i =
+    unless (linedefOk vertices sidedefs (linedefOf (recordBytes linedefs 14 i))) (LinedefReference i)
+
+-- 24, of sidedef `i`
+abbrev pub sidedefCheck : List ℕ → ℕ → ℕ → Check
+sidedefCheck sidedefs sectors i = unless (ltb (sidedefOf (recordBytes sidedefs 30 i) .sector) sectors) (SidedefReference i)
+
+-- 25, of seg `i`
+abbrev pub segCheck : List ℕ → List ℕ → ℕ → ℕ → Check
+segCheck segs linedefs vertices i = unless (segOk linedefs vertices (segOf (recordBytes segs 12 i))) (SegReference i)
+
+-- 26, of subsector `i`
+abbrev pub subsectorCheck : List ℕ → ℕ → ℕ → Check
+subsectorCheck subsectors segs i = unless (subsectorOk segs (subsectorOf (recordBytes subsectors 4 i))) (SubsectorReference i)
+
+-- 27, of node `i`
+abbrev pub nodeCheck : List ℕ → ℕ → ℕ → Check
+nodeCheck nodes subsectors i = unless (nodeOk nodes subsectors i) (NodeReference i)
