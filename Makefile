@@ -10,8 +10,8 @@ TOOL = rust/target/release/meshpigeon
 
 all: tool
 
-# The library is proved and built where it is missing.
-$(LIBRARY):
+# The library is proved and built where it is missing, or older than a crate.
+$(LIBRARY): crates.txt $(shell find crates -name '*.rt' -o -name '*.antt')
 	rt staticlib meshpigeon
 
 tool: $(LIBRARY)

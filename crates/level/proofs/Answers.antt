@@ -17,7 +17,7 @@ use Rattle.wad.specs.declared.map.Marker.the-variants.{Entry, Refused as NoMark
 use Rattle.wad.specs.Header.{headOf, countOf}
 use Rattle.wad.specs.Entries.{directoryOf, nameAt, fileCheck}
 use Rattle.wad.specs.Map.{findMarker, found, markerAnswer}
-use Rattle.wad.specs.Name.{sameName, mapNameOk}
+use Rattle.name.specs.Names.{sameName, mapNameOk}
 use Rattle.wad.proofs.Search.{findMarker-none, findMarker-found, findMarker-on}
 use Rattle.bsp.specs.Heights.{graphVerdict}
 use Rattle.level.specs.declared.Verdict.{Verdict}

@@ -13,9 +13,9 @@ use Rattle.refusal.specs.Checks.{unless, _andThen_, each}
 use Rattle.refusal.proofs.Checks.{andThen-pass, unless-pass, each-pass}
 use Rattle.wad.specs.Entries.{nameAt}
 use Rattle.wad.specs.Lump.{sizeOf as entrySize}
-use Rattle.wad.specs.Name.{sameName}
+use Rattle.name.specs.Names.{sameName}
 use Rattle.wad.proofs.Listing.{and-true}
-use Rattle.record.specs.Lumps.{nameOf, leastOf, mostOf}
+use Rattle.table.specs.Lumps.{nameOf, leastOf, mostOf}
 use Rattle.bsp.specs.Nodes.{nodesOf, nodeOk}
 use Rattle.bsp.specs.Judging.{Judgeable}
 use Rattle.bsp.specs.Promises.{Passed}

@@ -4,7 +4,7 @@ use mathlib.Core.List.{List}
 use mathlib.Core.Path.{_≡_, refl}
 use native.Mathlib.Omega.{arith}
 use Rattle.wad.specs.Lump.{lumpAt}
-use Rattle.record.specs.Lumps.{sizeOf}
+use Rattle.table.specs.Lumps.{sizeOf}
 use Rattle.level.specs.Lumps.{mapLumps, lumpOf}
 
 module _ (P : ℕ → Type 0) (p0 : P 0) (p1 : P 1) (p2 : P 2) (p3 : P 3) (p4 : P 4) (p5 : P 5) (p6 : P 6) (p7 : P 7) (p8 : P 8) (p9 : P 9) where

@@ -4,7 +4,7 @@ use Prim.Native.Nat.{ℕ, _+_, _/_}
 use mathlib.Core.List.{List, [], _∷_, map}
 use lib.ListN.{length, getD}
 use Rattle.wad.specs.Lump.{lumpAt}
-use Rattle.record.specs.Lumps.{sizeOf}
+use Rattle.table.specs.Lumps.{sizeOf}
 
 -- the rows by the lumps' names
 abbrev pub LINEDEFS : ℕ

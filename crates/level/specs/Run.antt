@@ -8,8 +8,8 @@ use Rattle.refusal.specs.declared.Refusal.the-variants.{MarkerRun, HexenMap}
 use Rattle.refusal.specs.Checks.{unless, _andThen_, each}
 use Rattle.wad.specs.Entries.{nameAt}
 use Rattle.wad.specs.Lump.{sizeOf}
-use Rattle.wad.specs.Name.{sameName}
-use Rattle.record.specs.Lumps.{nameOf}
+use Rattle.name.specs.Names.{sameName}
+use Rattle.table.specs.Lumps.{nameOf}
 
 -- entry `i` of a directory of `count` entries is there and has the name
 abbrev pub namedOk : List ℕ → ℕ → ℕ → List ℕ → Bool

@@ -7,7 +7,7 @@ use lib.ListN.{length}
 use Rattle.refusal.specs.declared.Check.{Check}
 use Rattle.refusal.specs.declared.Refusal.the-variants.{RecordSize, RecordCount, RejectLength}
 use Rattle.refusal.specs.Checks.{unless, _andThen_, each}
-use Rattle.record.specs.Lumps.{sizeOf, leastOf, mostOf}
+use Rattle.table.specs.Lumps.{sizeOf, leastOf, mostOf}
 use Rattle.level.specs.Lumps.{lumpOf, countOf, SSECTORS, NODES, SECTORS, REJECT}
 
 -- the lump of row `i` has whole records only

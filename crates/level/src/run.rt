@@ -12,7 +12,7 @@ fn named_ok(dir: &[u8], count: usize, i: usize, name: &[u8]) -> bool
     ensures { λ r. ⌜ r ≡ namedOk (now (dir .entry)) count i (now (name .entry)) ⌝ }
 {
     if i < count {
-        return wad::same_name(wad::part(dir, 16 * i + 8, 8), name);
+        return name::same_name(wad::part(dir, 16 * i + 8, 8), name);
     }
     false
 }
@@ -21,7 +21,7 @@ fn judge_row(dir: &[u8], count: usize, marker: usize, i: usize) -> Check
     requires { ⌜ (16 * count ≤ length (now dir)) × ((marker < count) × (i < 10)) ⌝ }
     ensures { λ r. ⌜ r ≡ rowCheck (now (dir .entry)) count marker i ⌝ }
 {
-    let name = record::table::name_of(i);
+    let name = table::name_of(i);
     refusal::pass_if(
         named_ok(dir, count, marker + 1 + i, &name),
         Refusal::MarkerRun(i + 1),

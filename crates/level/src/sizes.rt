@@ -23,14 +23,14 @@ pub fn row_count(wad: &[u8], dir: &[u8], marker: usize, row: usize) -> usize
     requires { ⌜ (16 * (marker + 11) ≤ length (now dir)) × (row < 8) ⌝ }
     ensures { λ r. ⌜ r ≡ countOf (mapLumps (now (wad .entry)) (now (dir .entry)) marker) row ⌝ }
 {
-    row_lump(wad, dir, marker, row).len() / record::table::size_of(row)
+    row_lump(wad, dir, marker, row).len() / table::size_of(row)
 }
 
 fn whole_ok(wad: &[u8], dir: &[u8], marker: usize, row: usize) -> bool
     requires { ⌜ (16 * (marker + 11) ≤ length (now dir)) × (row < 8) ⌝ }
     ensures { λ r. ⌜ r ≡ wholeOk (mapLumps (now (wad .entry)) (now (dir .entry)) marker) row ⌝ }
 {
-    row_lump(wad, dir, marker, row).len() % record::table::size_of(row) == 0
+    row_lump(wad, dir, marker, row).len() % table::size_of(row) == 0
 }
 
 // Without nodes the count of subsectors must be 1.
@@ -46,8 +46,8 @@ fn count_ok(wad: &[u8], dir: &[u8], marker: usize, row: usize) -> bool
     ensures { λ r. ⌜ r ≡ countOk (mapLumps (now (wad .entry)) (now (dir .entry)) marker) row ⌝ }
 {
     let count = row_count(wad, dir, marker, row);
-    (record::table::least_of(row) <= count)
-        & (count <= record::table::most_of(row))
+    (table::least_of(row) <= count)
+        & (count <= table::most_of(row))
         & alone_ok(wad, dir, marker, row)
 }
 

@@ -8,8 +8,8 @@ use lib.IntN.{ℤ, pos, negsuc, _-ℤ_, _*ℤ_}
 use lib.ListN.{replicate}
 use Rattle.endian.specs.Unsigned.{u16Bytes}
 use Rattle.refusal.specs.declared.Check.the-variants.{Pass}
-use Rattle.wad.specs.Name.{nameOk, sameName}
-use Rattle.record.specs.Lumps.{nameOf}
+use Rattle.name.specs.Names.{nameOk, sameName}
+use Rattle.table.specs.Lumps.{nameOf}
 use Rattle.bsp.specs.declared.Choice.the-variants.{Right, Left}
 use Rattle.bsp.specs.declared.Descent.the-variants.{Found}
 use Rattle.bsp.specs.declared.Graph.{Graph}

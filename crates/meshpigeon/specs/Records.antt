@@ -2,7 +2,7 @@
 use Prim.Native.Nat.{ℕ}
 use mathlib.Core.List.{List}
 use mathlib.Core.Path.{_≡_}
-use Rattle.record.specs.Records.{insideCheck, replaced}
+use Rattle.field.specs.Records.{insideCheck, replaced}
 use Rattle.record.specs.declared.thing.ThingRead.{ThingRead}
 use Rattle.meshpigeon.specs.declared.records.ThingAnswer.{ThingAnswer}
 use Rattle.record.specs.declared.linedef.LinedefRead.{LinedefRead}

@@ -3,7 +3,8 @@
 use mathlib.Core.Path.{refl}
 use mathlib.Core.List.{[], _∷_}
 use Rattle.endian.proofs.Unsigned.{u16-whole}
-use Rattle.record.specs.Lossless.{Codec, KindsLossless}
+use Rattle.field.specs.Lossless.{Codec}
+use Rattle.record.specs.Lossless.{KindsLossless}
 use Rattle.record.specs.Things.{thingOf, thingBytes, ThingFits}
 use Rattle.record.specs.Linedefs.{linedefOf, linedefBytes, LinedefFits}
 use Rattle.record.specs.Sidedefs.{sidedefOf, sidedefBytes, SidedefFits}
@@ -12,9 +13,9 @@ use Rattle.record.specs.Segs.{segOf, segBytes, SegFits}
 use Rattle.record.specs.Subsectors.{subsectorOf, subsectorBytes, SubsectorFits}
 use Rattle.record.specs.Nodes.{nodeOf, nodeBytes, NodeFits}
 use Rattle.record.specs.Sectors.{sectorOf, sectorBytes, SectorFits}
-use Rattle.record.proofs.Fields.{i16-whole, name-whole, four-whole}
-use Rattle.record.proofs.FieldRows.{number, signed16, name, written-whole}
-use Rattle.record.proofs.Lossless.{lossless}
+use Rattle.field.proofs.Fields.{i16-whole, name-whole, four-whole}
+use Rattle.field.proofs.FieldRows.{number, signed16, name, written-whole}
+use Rattle.field.proofs.Lossless.{lossless}
 
 thing : Codec 10 thingOf thingBytes ThingFits
 thing =

@@ -1,8 +1,5 @@
--- The map's lumps and the eight kinds of record in them. Assumes nothing.
+-- The eight kinds of record in a map's lumps. Assumes nothing.
 
-pub mod Lumps
-pub mod Fields
-pub mod Records
 pub mod Things
 pub mod Linedefs
 pub mod Sidedefs

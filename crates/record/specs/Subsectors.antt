@@ -2,7 +2,7 @@
 use Prim.Native.Nat.{ℕ}
 use mathlib.Core.List.{List, _++_}
 use Rattle.endian.specs.Unsigned.{u16At, u16Bytes}
-use Rattle.record.specs.Records.{insideCheck, bytesOrZeros}
+use Rattle.field.specs.Records.{insideCheck, bytesOrZeros}
 use Rattle.record.specs.declared.subsector.Subsector.{Subsector}
 use Rattle.record.specs.declared.subsector.SubsectorRead.{SubsectorRead}
 

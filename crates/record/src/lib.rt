@@ -1,12 +1,10 @@
-// The ten lumps of a map, and the eight kinds of record in them, read and written by number. specs/ has the definitions.
+// The eight kinds of record in a map's lumps, read and written by number. specs/ has the definitions.
 pub mod linedef;
 pub mod node;
-mod part;
 pub mod sector;
 pub mod seg;
 pub mod sidedef;
 pub mod subsector;
-pub mod table;
 pub mod thing;
 pub mod vertex;
 
@@ -16,6 +14,5 @@ pub use sector::Sector;
 pub use seg::Seg;
 pub use sidedef::Sidedef;
 pub use subsector::Subsector;
-pub use table::LUMPS;
 pub use thing::Thing;
 pub use vertex::Vertex;

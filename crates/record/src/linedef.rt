@@ -1,9 +1,8 @@
 // A record of LINEDEFS: a line between two vertices, with a sidedef on its right and perhaps one on its left.
 ghost use mathlib.Core.Path.{_≡_};
 ghost use lib.ListN.{length};
-ghost use Rattle.record.specs.Records.{Written};
+ghost use Rattle.field.specs.Records.{Written};
 ghost use Rattle.record.specs.Linedefs.{linedefOf, linedefBytes, linedefAt};
-use crate::part;
 use refusal::Check;
 
 // As a sidedef's number: none.
@@ -69,8 +68,8 @@ impl Linedef {
         ensures { λ r. ⌜ r ≡ linedefAt (now (lump .entry)) index ⌝ }
     {
         LinedefRead {
-            check: part::inside_check(lump, Linedef::SIZE, index),
-            linedef: Linedef::parse(part::bytes_or_zeros(lump, Linedef::SIZE, index, &[0; 14])),
+            check: field::inside_check(lump, Linedef::SIZE, index),
+            linedef: Linedef::parse(field::bytes_or_zeros(lump, Linedef::SIZE, index, &[0; 14])),
         }
     }
 
@@ -79,6 +78,6 @@ impl Linedef {
         ensures { λ r. ⌜ Written (now (lump .entry)) 14 index (linedefBytes linedef) r (now (lump .exit)) ⌝ }
     {
         let bytes = linedef.bytes();
-        part::replace(lump, Linedef::SIZE, index, &bytes)
+        field::replace(lump, Linedef::SIZE, index, &bytes)
     }
 }

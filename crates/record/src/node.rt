@@ -1,10 +1,8 @@
 // A record of NODES: a line that parts the map in two, and what lies on its right and on its left.
 ghost use mathlib.Core.Path.{_≡_};
-ghost use Prim.Native.Nat.{_+_, _<_};
 ghost use lib.ListN.{length};
-ghost use Rattle.record.specs.Records.{Written};
-ghost use Rattle.record.specs.Nodes.{fourAt, putFour, nodeOf, nodeBytes, nodeAt};
-use crate::part;
+ghost use Rattle.field.specs.Records.{Written};
+ghost use Rattle.record.specs.Nodes.{nodeOf, nodeBytes, nodeAt};
 use refusal::Check;
 
 #[repr(C)]
@@ -38,8 +36,8 @@ impl Node {
         requires { ⌜ length (now b) ≡ 28 ⌝ }
         ensures { λ r. ⌜ r ≡ nodeOf (now (b .entry)) ⌝ }
     {
-        let right_box = four_at(b, 8);
-        let left_box = four_at(b, 16);
+        let right_box = field::four_at(b, 8);
+        let left_box = field::four_at(b, 16);
         Node {
             x: endian::i16_at(b, 0),
             y: endian::i16_at(b, 2),
@@ -63,8 +61,8 @@ impl Node {
         endian::put_i16(&mut out, 2, self.y);
         endian::put_i16(&mut out, 4, self.dx);
         endian::put_i16(&mut out, 6, self.dy);
-        put_four(&mut out, 8, right_box);
-        put_four(&mut out, 16, left_box);
+        field::put_four(&mut out, 8, right_box);
+        field::put_four(&mut out, 16, left_box);
         endian::put_u16(&mut out, 24, self.right);
         endian::put_u16(&mut out, 26, self.left);
         out
@@ -75,8 +73,8 @@ impl Node {
         ensures { λ r. ⌜ r ≡ nodeAt (now (lump .entry)) index ⌝ }
     {
         NodeRead {
-            check: part::inside_check(lump, Node::SIZE, index),
-            node: Node::parse(part::bytes_or_zeros(lump, Node::SIZE, index, &[0; 28])),
+            check: field::inside_check(lump, Node::SIZE, index),
+            node: Node::parse(field::bytes_or_zeros(lump, Node::SIZE, index, &[0; 28])),
         }
     }
 
@@ -85,30 +83,6 @@ impl Node {
         ensures { λ r. ⌜ Written (now (lump .entry)) 28 index (nodeBytes node) r (now (lump .exit)) ⌝ }
     {
         let bytes = node.bytes();
-        part::replace(lump, Node::SIZE, index, &bytes)
+        field::replace(lump, Node::SIZE, index, &bytes)
     }
-}
-
-// Four signed numbers in a row.
-fn four_at(b: &[u8], at: usize) -> [i16; 4]
-    requires { ⌜ at + 7 < length (now b) ⌝ }
-    ensures { λ r. ⌜ r ≡ fourAt (now (b .entry)) at ⌝ }
-{
-    [
-        endian::i16_at(b, at),
-        endian::i16_at(b, at + 2),
-        endian::i16_at(b, at + 4),
-        endian::i16_at(b, at + 6),
-    ]
-}
-
-// Four signed numbers written from at on.
-fn put_four(s: &mut [u8], at: usize, v: [i16; 4])
-    requires { ⌜ at + 7 < length (now s) ⌝ }
-    ensures { λ _. ⌜ now (s .exit) ≡ putFour (now (s .entry)) at v ⌝ }
-{
-    endian::put_i16(s, at, v[0]);
-    endian::put_i16(s, at + 2, v[1]);
-    endian::put_i16(s, at + 4, v[2]);
-    endian::put_i16(s, at + 6, v[3]);
 }

@@ -1,9 +1,8 @@
 // A record of SECTORS: floor, ceiling and light of an area.
 ghost use mathlib.Core.Path.{_≡_};
 ghost use lib.ListN.{length};
-ghost use Rattle.record.specs.Records.{Written};
+ghost use Rattle.field.specs.Records.{Written};
 ghost use Rattle.record.specs.Sectors.{sectorOf, sectorBytes, sectorAt};
-use crate::part;
 use refusal::Check;
 
 #[repr(C)]
@@ -35,8 +34,8 @@ impl Sector {
         requires { ⌜ length (now b) ≡ 26 ⌝ }
         ensures { λ r. ⌜ r ≡ sectorOf (now (b .entry)) ⌝ }
     {
-        let floor_flat = part::name_at(b, 4);
-        let ceiling_flat = part::name_at(b, 12);
+        let floor_flat = field::name_at(b, 4);
+        let ceiling_flat = field::name_at(b, 12);
         Sector {
             floor: endian::i16_at(b, 0),
             ceiling: endian::i16_at(b, 2),
@@ -57,8 +56,8 @@ impl Sector {
         let mut out = [0; 26];
         endian::put_i16(&mut out, 0, self.floor);
         endian::put_i16(&mut out, 2, self.ceiling);
-        part::put_name(&mut out, 4, floor_flat);
-        part::put_name(&mut out, 12, ceiling_flat);
+        field::put_name(&mut out, 4, floor_flat);
+        field::put_name(&mut out, 12, ceiling_flat);
         endian::put_u16(&mut out, 20, self.light);
         endian::put_u16(&mut out, 22, self.special);
         endian::put_u16(&mut out, 24, self.tag);
@@ -70,8 +69,8 @@ impl Sector {
         ensures { λ r. ⌜ r ≡ sectorAt (now (lump .entry)) index ⌝ }
     {
         SectorRead {
-            check: part::inside_check(lump, Sector::SIZE, index),
-            sector: Sector::parse(part::bytes_or_zeros(lump, Sector::SIZE, index, &[0; 26])),
+            check: field::inside_check(lump, Sector::SIZE, index),
+            sector: Sector::parse(field::bytes_or_zeros(lump, Sector::SIZE, index, &[0; 26])),
         }
     }
 
@@ -80,6 +79,6 @@ impl Sector {
         ensures { λ r. ⌜ Written (now (lump .entry)) 26 index (sectorBytes sector) r (now (lump .exit)) ⌝ }
     {
         let bytes = sector.bytes();
-        part::replace(lump, Sector::SIZE, index, &bytes)
+        field::replace(lump, Sector::SIZE, index, &bytes)
     }
 }

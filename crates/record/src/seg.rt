@@ -1,9 +1,8 @@
 // A record of SEGS: a part of a linedef, along the edge of a subsector.
 ghost use mathlib.Core.Path.{_≡_};
 ghost use lib.ListN.{length};
-ghost use Rattle.record.specs.Records.{Written};
+ghost use Rattle.field.specs.Records.{Written};
 ghost use Rattle.record.specs.Segs.{segOf, segBytes, segAt};
-use crate::part;
 use refusal::Check;
 
 #[repr(C)]
@@ -65,8 +64,8 @@ impl Seg {
         ensures { λ r. ⌜ r ≡ segAt (now (lump .entry)) index ⌝ }
     {
         SegRead {
-            check: part::inside_check(lump, Seg::SIZE, index),
-            seg: Seg::parse(part::bytes_or_zeros(lump, Seg::SIZE, index, &[0; 12])),
+            check: field::inside_check(lump, Seg::SIZE, index),
+            seg: Seg::parse(field::bytes_or_zeros(lump, Seg::SIZE, index, &[0; 12])),
         }
     }
 
@@ -75,6 +74,6 @@ impl Seg {
         ensures { λ r. ⌜ Written (now (lump .entry)) 12 index (segBytes seg) r (now (lump .exit)) ⌝ }
     {
         let bytes = seg.bytes();
-        part::replace(lump, Seg::SIZE, index, &bytes)
+        field::replace(lump, Seg::SIZE, index, &bytes)
     }
 }

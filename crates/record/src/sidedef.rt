@@ -1,9 +1,8 @@
 // A record of SIDEDEFS: what one side of a linedef shows, and the sector before it.
 ghost use mathlib.Core.Path.{_≡_};
 ghost use lib.ListN.{length};
-ghost use Rattle.record.specs.Records.{Written};
+ghost use Rattle.field.specs.Records.{Written};
 ghost use Rattle.record.specs.Sidedefs.{sidedefOf, sidedefBytes, sidedefAt};
-use crate::part;
 use refusal::Check;
 
 #[repr(C)]
@@ -34,9 +33,9 @@ impl Sidedef {
         requires { ⌜ length (now b) ≡ 30 ⌝ }
         ensures { λ r. ⌜ r ≡ sidedefOf (now (b .entry)) ⌝ }
     {
-        let upper = part::name_at(b, 4);
-        let lower = part::name_at(b, 12);
-        let middle = part::name_at(b, 20);
+        let upper = field::name_at(b, 4);
+        let lower = field::name_at(b, 12);
+        let middle = field::name_at(b, 20);
         Sidedef {
             x_offset: endian::i16_at(b, 0),
             y_offset: endian::i16_at(b, 2),
@@ -57,9 +56,9 @@ impl Sidedef {
         let mut out = [0; 30];
         endian::put_i16(&mut out, 0, self.x_offset);
         endian::put_i16(&mut out, 2, self.y_offset);
-        part::put_name(&mut out, 4, upper);
-        part::put_name(&mut out, 12, lower);
-        part::put_name(&mut out, 20, middle);
+        field::put_name(&mut out, 4, upper);
+        field::put_name(&mut out, 12, lower);
+        field::put_name(&mut out, 20, middle);
         endian::put_u16(&mut out, 28, self.sector);
         out
     }
@@ -69,8 +68,8 @@ impl Sidedef {
         ensures { λ r. ⌜ r ≡ sidedefAt (now (lump .entry)) index ⌝ }
     {
         SidedefRead {
-            check: part::inside_check(lump, Sidedef::SIZE, index),
-            sidedef: Sidedef::parse(part::bytes_or_zeros(lump, Sidedef::SIZE, index, &[0; 30])),
+            check: field::inside_check(lump, Sidedef::SIZE, index),
+            sidedef: Sidedef::parse(field::bytes_or_zeros(lump, Sidedef::SIZE, index, &[0; 30])),
         }
     }
 
@@ -79,6 +78,6 @@ impl Sidedef {
         ensures { λ r. ⌜ Written (now (lump .entry)) 30 index (sidedefBytes sidedef) r (now (lump .exit)) ⌝ }
     {
         let bytes = sidedef.bytes();
-        part::replace(lump, Sidedef::SIZE, index, &bytes)
+        field::replace(lump, Sidedef::SIZE, index, &bytes)
     }
 }

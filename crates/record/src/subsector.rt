@@ -1,9 +1,8 @@
 // A record of SSECTORS: a row of segs.
 ghost use mathlib.Core.Path.{_≡_};
 ghost use lib.ListN.{length};
-ghost use Rattle.record.specs.Records.{Written};
+ghost use Rattle.field.specs.Records.{Written};
 ghost use Rattle.record.specs.Subsectors.{subsectorOf, subsectorBytes, subsectorAt};
-use crate::part;
 use refusal::Check;
 
 #[repr(C)]
@@ -50,8 +49,8 @@ impl Subsector {
         ensures { λ r. ⌜ r ≡ subsectorAt (now (lump .entry)) index ⌝ }
     {
         SubsectorRead {
-            check: part::inside_check(lump, Subsector::SIZE, index),
-            subsector: Subsector::parse(part::bytes_or_zeros(
+            check: field::inside_check(lump, Subsector::SIZE, index),
+            subsector: Subsector::parse(field::bytes_or_zeros(
                 lump,
                 Subsector::SIZE,
                 index,
@@ -65,6 +64,6 @@ impl Subsector {
         ensures { λ r. ⌜ Written (now (lump .entry)) 4 index (subsectorBytes subsector) r (now (lump .exit)) ⌝ }
     {
         let bytes = subsector.bytes();
-        part::replace(lump, Subsector::SIZE, index, &bytes)
+        field::replace(lump, Subsector::SIZE, index, &bytes)
     }
 }

@@ -1,9 +1,8 @@
 // A record of THINGS: a monster, an item or a start.
 ghost use mathlib.Core.Path.{_≡_};
 ghost use lib.ListN.{length};
-ghost use Rattle.record.specs.Records.{Written};
+ghost use Rattle.field.specs.Records.{Written};
 ghost use Rattle.record.specs.Things.{thingOf, thingBytes, thingAt};
-use crate::part;
 use refusal::Check;
 
 #[repr(C)]
@@ -60,8 +59,8 @@ impl Thing {
         ensures { λ r. ⌜ r ≡ thingAt (now (lump .entry)) index ⌝ }
     {
         ThingRead {
-            check: part::inside_check(lump, Thing::SIZE, index),
-            thing: Thing::parse(part::bytes_or_zeros(lump, Thing::SIZE, index, &[0; 10])),
+            check: field::inside_check(lump, Thing::SIZE, index),
+            thing: Thing::parse(field::bytes_or_zeros(lump, Thing::SIZE, index, &[0; 10])),
         }
     }
 
@@ -70,6 +69,6 @@ impl Thing {
         ensures { λ r. ⌜ Written (now (lump .entry)) 10 index (thingBytes thing) r (now (lump .exit)) ⌝ }
     {
         let bytes = thing.bytes();
-        part::replace(lump, Thing::SIZE, index, &bytes)
+        field::replace(lump, Thing::SIZE, index, &bytes)
     }
 }

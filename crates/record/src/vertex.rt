@@ -1,9 +1,8 @@
 // A record of VERTEXES: a point of the map.
 ghost use mathlib.Core.Path.{_≡_};
 ghost use lib.ListN.{length};
-ghost use Rattle.record.specs.Records.{Written};
+ghost use Rattle.field.specs.Records.{Written};
 ghost use Rattle.record.specs.Vertexes.{vertexOf, vertexBytes, vertexAt};
-use crate::part;
 use refusal::Check;
 
 #[repr(C)]
@@ -49,8 +48,8 @@ impl Vertex {
         ensures { λ r. ⌜ r ≡ vertexAt (now (lump .entry)) index ⌝ }
     {
         VertexRead {
-            check: part::inside_check(lump, Vertex::SIZE, index),
-            vertex: Vertex::parse(part::bytes_or_zeros(lump, Vertex::SIZE, index, &[0; 4])),
+            check: field::inside_check(lump, Vertex::SIZE, index),
+            vertex: Vertex::parse(field::bytes_or_zeros(lump, Vertex::SIZE, index, &[0; 4])),
         }
     }
 
@@ -59,6 +58,6 @@ impl Vertex {
         ensures { λ r. ⌜ Written (now (lump .entry)) 4 index (vertexBytes vertex) r (now (lump .exit)) ⌝ }
     {
         let bytes = vertex.bytes();
-        part::replace(lump, Vertex::SIZE, index, &bytes)
+        field::replace(lump, Vertex::SIZE, index, &bytes)
     }
 }

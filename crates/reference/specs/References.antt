@@ -10,7 +10,7 @@ use Rattle.refusal.specs.Checks.{unless}
 use Rattle.record.specs.declared.linedef.Linedef.{Linedef}
 use Rattle.record.specs.declared.seg.Seg.{Seg}
 use Rattle.record.specs.declared.subsector.Subsector.{Subsector}
-use Rattle.record.specs.Records.{recordBytes}
+use Rattle.field.specs.Records.{recordBytes}
 use Rattle.record.specs.Linedefs.{linedefOf}
 use Rattle.record.specs.Sidedefs.{sidedefOf}
 use Rattle.record.specs.Segs.{segOf}

@@ -6,7 +6,7 @@ ghost use lib.Dec.{ltb};
 ghost use lib.ListN.{length};
 ghost use Rattle.endian.specs.Unsigned.{u16At};
 ghost use Rattle.refusal.specs.Checks.{each};
-ghost use Rattle.record.specs.Records.{recordBytes};
+ghost use Rattle.field.specs.Records.{recordBytes};
 ghost use Rattle.record.specs.Linedefs.{linedefOf};
 ghost use Rattle.record.specs.Sidedefs.{sidedefOf};
 ghost use Rattle.record.specs.Segs.{segOf};

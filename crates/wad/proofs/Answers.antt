@@ -20,7 +20,7 @@ use Rattle.wad.specs.declared.lumps.Entry.{Entry}
 use Rattle.wad.specs.declared.lumps.Entry.the-variants.{At, Refused as NotThere}
 use Rattle.wad.specs.declared.map.Marker.{Marker}
 use Rattle.wad.specs.declared.map.Marker.the-variants.{Refused as NoMarker}
-use Rattle.wad.specs.Name.{mapNameOk, episodeName, numberedName}
+use Rattle.name.specs.Names.{mapNameOk, episodeName, numberedName}
 use Rattle.wad.specs.Header.{headOf, countOf, headerCheck}
 use Rattle.wad.specs.Entries.{directoryOf, offsetAt, sizeAt, insideOk, entryCheck, fileCheck}
 use Rattle.wad.specs.Lump.{sizeOf, offsetOf, placed, entryAnswer, partOf, HandedWhole}

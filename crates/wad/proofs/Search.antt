@@ -6,7 +6,7 @@ use mathlib.Core.Path.{_≡_, refl, sym, ap, _∙_}
 use Rattle.refusal.specs.declared.Refusal.the-variants.{MapMissing}
 use Rattle.wad.specs.declared.map.Marker.the-variants.{Entry, Refused as NoMarker}
 use Rattle.wad.specs.Entries.{nameAt}
-use Rattle.wad.specs.Name.{sameName}
+use Rattle.name.specs.Names.{sameName}
 use Rattle.wad.specs.Map.{findMarker}
 
 module _ (dir name : List ℕ) where

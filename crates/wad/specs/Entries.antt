@@ -15,7 +15,7 @@ use Rattle.wad.specs.declared.entries.Directory.{Directory}
 use Rattle.wad.specs.declared.entries.Directory.the-variants.{Listed, Refused as NotListed}
 use Rattle.wad.specs.Slices.{part}
 use Rattle.wad.specs.Header.{headOf, countOf, startOf, headerCheck}
-use Rattle.wad.specs.Name.{nameOk}
+use Rattle.name.specs.Names.{nameOk}
 
 -- the directory's bytes
 abbrev pub directoryOf : List ℕ → List ℕ

@@ -1,7 +1,6 @@
 -- A WAD file: its header, its directory, an entry's part of the file, and the search for a map. Assumes nothing.
 
 pub mod Slices
-pub mod Name
 pub mod Header
 pub mod Entries
 pub mod Lump

@@ -11,7 +11,7 @@ use Rattle.wad.specs.declared.map.Marker.{Marker}
 use Rattle.wad.specs.declared.map.Marker.the-variants.{Entry, Refused as NoMarker}
 use Rattle.wad.specs.Header.{headOf, countOf}
 use Rattle.wad.specs.Entries.{nameAt, directoryOf, directoryCheck}
-use Rattle.wad.specs.Name.{sameName, mapNameOk}
+use Rattle.name.specs.Names.{sameName, mapNameOk}
 
 -- the last of the first `n` entries that has the name
 unfoldable pub findMarker : List ℕ → List ℕ → ℕ → Marker

@@ -1,6 +1,6 @@
 -- Parts of a file. Assumes nothing.
-use Prim.Native.Nat.{ℕ, zero, suc, _+_}
-use mathlib.Core.Bool.{Bool, true, _&&_, cond}
+use Prim.Native.Nat.{ℕ, _+_}
+use mathlib.Core.Bool.{cond}
 use mathlib.Core.List.{List, []}
 use lib.Dec.{leb}
 use lib.ListN.{length, take, drop}
@@ -12,8 +12,3 @@ part xs at n = take n (drop at xs)
 -- the `n` bytes from `at` on where all of them lie inside, else none
 abbrev pub partIf : List ℕ → ℕ → ℕ → List ℕ
 partIf xs at n = cond (leb (at + n) (length xs)) (part xs at n) []
-
--- the test holds of 0 to `n - 1`
-abbrev pub all : ℕ → (ℕ → Bool) → Bool
-all zero ok = true
-all (suc n) ok = all n ok && ok n

@@ -10,7 +10,6 @@ use crate::header::count_of;
 use crate::header::head_of;
 use crate::header::judge_header;
 use crate::header::start_of;
-use crate::name::name_ok;
 use crate::parts::part;
 use refusal::Check;
 use refusal::Refusal;
@@ -39,7 +38,10 @@ fn judge_entry(len: usize, dir: &[u8], i: usize) -> Check
     ensures { λ r. ⌜ r ≡ entryCheck len (now (dir .entry)) i ⌝ }
 {
     let bounds = refusal::pass_if(inside_ok(len, dir, i), Refusal::EntryBounds(i));
-    let name = refusal::pass_if(name_ok(part(dir, 16 * i + 8, 8)), Refusal::EntryName(i));
+    let name = refusal::pass_if(
+        name::name_ok(part(dir, 16 * i + 8, 8)),
+        Refusal::EntryName(i),
+    );
     refusal::then(bounds, name)
 }
 

@@ -4,7 +4,6 @@ mod entries;
 mod header;
 mod lumps;
 mod map;
-mod name;
 mod parts;
 
 pub use entries::Directory;
@@ -21,8 +20,5 @@ pub use lumps::size_of;
 pub use map::Marker;
 pub use map::find_map;
 pub use map::last_named;
-pub use name::map_name_ok;
-pub use name::name_ok;
-pub use name::same_name;
 pub use parts::part;
 pub use parts::part_if;

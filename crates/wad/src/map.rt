@@ -6,8 +6,6 @@ ghost use Rattle.wad.specs.Map.{findMarker, markerAnswer};
 use crate::entries::directory_of;
 use crate::entries::entry_count;
 use crate::entries::judge_file;
-use crate::name::map_name_ok;
-use crate::name::same_name;
 use crate::parts::part;
 use refusal::Check;
 use refusal::Refusal;
@@ -27,7 +25,7 @@ pub fn last_named(dir: &[u8], count: usize, name: &[u8]) -> Marker
     let mut left = count;
     while 0 < left {
         left -= 1;
-        if same_name(part(dir, 16 * left + 8, 8), name) {
+        if name::same_name(part(dir, 16 * left + 8, 8), name) {
             return Marker::Entry(left);
         }
     }
@@ -41,7 +39,7 @@ pub fn find_map(wad: &[u8], name: &[u8]) -> Marker
     if let Check::Refused(r) = judge_file(wad) {
         return Marker::Refused(r);
     }
-    if map_name_ok(name) {
+    if name::map_name_ok(name) {
         return last_named(directory_of(wad), entry_count(wad), name);
     }
     Marker::Refused(Refusal::MapName)

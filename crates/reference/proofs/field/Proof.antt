@@ -5,7 +5,7 @@ use native.Mathlib.Omega.{arith}
 use borrow.Author.Needs.{needs}
 use denote.Ref.{now}
 use lib.ListN.{length}
-use Rattle.record.proofs.Records.{fits-inside, u16At-recordBytes}
+use Rattle.field.proofs.Records.{fits-inside, u16At-recordBytes}
 use Rattle.reference.proofs.field.Statement.{statement}
 use Rattle.reference.proofs.field.Tie as tie
 

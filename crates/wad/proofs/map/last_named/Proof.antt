@@ -5,7 +5,7 @@ use native.Mathlib.Omega.{arith}
 use borrow.Author.Needs.{needs}
 use mathlib.Core.List.{List}
 use denote.Ref.{now}
-use Rattle.wad.specs.Name.{sameName}
+use Rattle.name.specs.Names.{sameName}
 use Rattle.wad.specs.Map.{findMarker}
 use Rattle.wad.proofs.Search.{findMarker-none, findMarker-found, findMarker-on}
 use Rattle.wad.proofs.map.last_named.Statement.{statement}

@@ -2,7 +2,7 @@
 use mathlib.Core.Path.{refl}
 use borrow.Author.Needs.{needs}
 use lib.ListN.{replicate}
-use Rattle.record.proofs.Fields.{then-u16}
+use Rattle.field.proofs.Fields.{then-u16}
 use Rattle.record.proofs.linedef.Linedef.bytes.Statement.{statement}
 use Rattle.record.proofs.linedef.Linedef.bytes.Tie as tie
 

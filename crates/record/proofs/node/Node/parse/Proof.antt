@@ -1,6 +1,6 @@
 -- `record::node::Node::parse` meets its contract, field by field. Assumes nothing.
 use borrow.Author.Needs.{needs}
-use Rattle.record.proofs.Fields.{signed-field}
+use Rattle.field.proofs.Fields.{signed-field}
 use Rattle.record.proofs.node.Node.parse.Statement.{statement}
 use Rattle.record.proofs.node.Node.parse.Tie as tie
 

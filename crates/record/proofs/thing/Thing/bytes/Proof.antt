@@ -2,7 +2,7 @@
 use mathlib.Core.Path.{refl}
 use borrow.Author.Needs.{needs}
 use lib.ListN.{replicate}
-use Rattle.record.proofs.Fields.{then-i16, then-u16}
+use Rattle.field.proofs.Fields.{then-i16, then-u16}
 use Rattle.record.proofs.thing.Thing.bytes.Statement.{statement}
 use Rattle.record.proofs.thing.Thing.bytes.Tie as tie
 

@@ -1,0 +1,57 @@
+-- Laws of a record's fields: signed ones as the code moves them, fields read out of the bytes that were made of them, and
+-- bytes that are made field by field. Assumes nothing.
+use Prim.Native.Nat.{ℕ, _+_, _*_, _/_, _%_}
+use mathlib.Core.List.{List, [], _∷_}
+use mathlib.Core.Path.{_≡_, ap, _∙_}
+use lib.ListN.{getD}
+use lib.Seq.{paste}
+use lib.IntN.{ℤ, pos}
+use mir.Syntax.{w16}
+use mir.Val.{toZ, ofZ}
+use mir.ValLaws.{toZ-ofZ}
+use Rattle.endian.specs.Unsigned.{putU16}
+use Rattle.endian.specs.Signed.{i16At, bitsOf, signed}
+use Rattle.endian.proofs.Unsigned.{u16-whole}
+use Rattle.endian.proofs.Signed.{signed-bits}
+use Rattle.field.specs.Fields.{i16Bytes, nameAt, fourAt, fourBytes, putFour, Int16, Name, FourFits}
+use Rattle.field.proofs.FieldRows.{spelt-whole}
+
+-- ---- signed numbers, which the machine reads back from their bits
+
+-- a signed answer of a call, put into a field
+pub signed-field : {z x : ℤ} → Int16 z → z ≡ x → toZ w16 (ofZ w16 z) ≡ x
+signed-field {z} h e = toZ-ofZ w16 z (record { sfits = h }) ∙ e
+
+-- a signed field handed on
+pub field-bits : (z : ℤ) → Int16 z → bitsOf 32768 (toZ w16 (ofZ w16 z)) ≡ bitsOf 32768 z
+field-bits z h = ap (bitsOf 32768) (toZ-ofZ w16 z (record { sfits = h }))
+
+-- ---- a field of the bytes that were made of it
+
+pub name-whole : (xs : List ℕ) → Name xs → nameAt xs 0 ≡ xs
+name-whole xs h = spelt-whole 0 xs h
+
+pub i16-whole : (z : ℤ) → Int16 z → signed 32768 (bitsOf 32768 z % 256 + 256 * (bitsOf 32768 z / 256)) ≡ z
+i16-whole z h = ap (signed 32768) (u16-whole (bitsOf 32768 z)) ∙ signed-bits 32768 z h
+
+pub four-whole : (box : List ℤ) → FourFits box → fourAt (fourBytes box) 0 ≡ box
+four-whole box h =
+    let z : ℕ → ℤ = λ k. getD box k (pos 0) in
+    let same : (k : ℕ) → i16At (i16Bytes (z k)) 0 ≡ z k = λ k. i16-whole (z k) (h .each k) in
+    (λ i. same 0 i ∷ same 1 i ∷ same 2 i ∷ same 3 i ∷ []) ∙ spelt-whole (pos 0) box (h .four)
+
+-- ---- bytes that are made field by field: the bytes after a store, from the bytes `z` before it
+
+pub then-u16 : (at n : ℕ) {x y z : List ℕ} → y ≡ putU16 x at n → x ≡ z → y ≡ putU16 z at n
+then-u16 at n e q = e ∙ ap (λ (l : List ℕ). putU16 l at n) q
+
+pub then-i16 : (at : ℕ) (v : ℤ) {x y z : List ℕ} → Int16 v → y ≡ putU16 x at (bitsOf 32768 (toZ w16 (ofZ w16 v))) → x ≡ z
+    → y ≡ putU16 z at (bitsOf 32768 v)
+then-i16 at v {x} h e q = then-u16 at (bitsOf 32768 v) (e ∙ ap (putU16 x at) (field-bits v h)) q
+
+pub then-name : (at : ℕ) (name : List ℕ) {x y z : List ℕ} → y ≡ paste x at (nameAt name 0) 8 → x ≡ z
+    → y ≡ paste z at (nameAt name 0) 8
+then-name at name e q = e ∙ ap (λ (l : List ℕ). paste l at (nameAt name 0) 8) q
+
+pub then-four : (at : ℕ) (zs : List ℤ) {x y z : List ℕ} → y ≡ putFour x at zs → x ≡ z → y ≡ putFour z at zs
+then-four at zs e q = e ∙ ap (λ (l : List ℕ). putFour l at zs) q

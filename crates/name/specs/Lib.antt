@@ -1,0 +1,3 @@
+-- Names of eight bytes. Assumes nothing.
+
+pub mod Names

@@ -1,0 +1,3 @@
+-- The laws of the table of lumps. Assumes nothing.
+
+pub mod Lumps

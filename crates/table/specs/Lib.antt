@@ -1,0 +1,3 @@
+-- The table of a map's ten lumps. Assumes nothing.
+
+pub mod Lumps

@@ -1,0 +1,133 @@
+// The table of a map's lumps, row by row: row i is the lump at place i + 1.
+ghost use mathlib.Core.Path.{_≡_};
+ghost use Prim.Native.Nat.{_<_};
+ghost use lib.ListN.{getD};
+ghost use Rattle.table.specs.Lumps.{nameOf, sizeOf, leastOf, mostOf, kinds, noKind};
+use record::Linedef;
+use record::Node;
+use record::Sector;
+use record::Seg;
+use record::Sidedef;
+use record::Subsector;
+use record::Thing;
+use record::Vertex;
+
+// A lump's name, zero padded, and its record's size in bytes, 0 where it has no records.
+pub struct LumpRow {
+    pub name: [u8; 8],
+    pub size: usize,
+}
+
+// THINGS to BLOCKMAP, as they follow the marker.
+pub const LUMPS: [LumpRow; 10] = [
+    LumpRow {
+        name: *b"THINGS\0\0",
+        size: Thing::SIZE,
+    },
+    LumpRow {
+        name: *b"LINEDEFS",
+        size: Linedef::SIZE,
+    },
+    LumpRow {
+        name: *b"SIDEDEFS",
+        size: Sidedef::SIZE,
+    },
+    LumpRow {
+        name: *b"VERTEXES",
+        size: Vertex::SIZE,
+    },
+    LumpRow {
+        name: *b"SEGS\0\0\0\0",
+        size: Seg::SIZE,
+    },
+    LumpRow {
+        name: *b"SSECTORS",
+        size: Subsector::SIZE,
+    },
+    LumpRow {
+        name: *b"NODES\0\0\0",
+        size: Node::SIZE,
+    },
+    LumpRow {
+        name: *b"SECTORS\0",
+        size: Sector::SIZE,
+    },
+    LumpRow {
+        name: *b"REJECT\0\0",
+        size: 0,
+    },
+    LumpRow {
+        name: *b"BLOCKMAP",
+        size: 0,
+    },
+];
+
+// How many records the lump may have: the least and the most.
+pub struct CountRow(pub usize, pub usize);
+
+// THINGS to SECTORS; REJECT and BLOCKMAP have no records to count.
+pub const COUNTS: [CountRow; 8] = [
+    CountRow(0, 65535),
+    CountRow(1, 65535),
+    CountRow(1, 65535),
+    CountRow(1, 65535),
+    CountRow(1, 65535),
+    CountRow(1, 32767),
+    CountRow(0, 32767),
+    CountRow(1, 65535),
+];
+
+// What a kind of record carries as constants of its type: place and size.
+pub struct KindRow(pub usize, pub usize);
+
+const KINDS: [KindRow; 8] = [
+    KindRow(Thing::PLACE, Thing::SIZE),
+    KindRow(Linedef::PLACE, Linedef::SIZE),
+    KindRow(Sidedef::PLACE, Sidedef::SIZE),
+    KindRow(Vertex::PLACE, Vertex::SIZE),
+    KindRow(Seg::PLACE, Seg::SIZE),
+    KindRow(Subsector::PLACE, Subsector::SIZE),
+    KindRow(Node::PLACE, Node::SIZE),
+    KindRow(Sector::PLACE, Sector::SIZE),
+];
+
+// The name of the lump of row i.
+pub fn name_of(i: usize) -> [u8; 8]
+    requires { ⌜ i < 10 ⌝ }
+    ensures { λ r. ⌜ r ≡ nameOf i ⌝ }
+{
+    let row = LUMPS[i];
+    row.name
+}
+
+// The size of its records.
+pub fn size_of(i: usize) -> usize
+    requires { ⌜ i < 10 ⌝ }
+    ensures { λ r. ⌜ r ≡ sizeOf i ⌝ }
+{
+    LUMPS[i].size
+}
+
+// The least count of its records.
+pub fn least_of(i: usize) -> usize
+    requires { ⌜ i < 8 ⌝ }
+    ensures { λ r. ⌜ r ≡ leastOf i ⌝ }
+{
+    COUNTS[i].0
+}
+
+// The most.
+pub fn most_of(i: usize) -> usize
+    requires { ⌜ i < 8 ⌝ }
+    ensures { λ r. ⌜ r ≡ mostOf i ⌝ }
+{
+    COUNTS[i].1
+}
+
+// Place and size of each kind, in the order of their lumps.
+pub fn kind_of(i: usize) -> KindRow
+    requires { ⌜ i < 8 ⌝ }
+    ensures { λ r. ⌜ r ≡ getD kinds i noKind ⌝ }
+{
+    KINDS[i]
+}
