@@ -1,22 +1,26 @@
 -- Demand 2's frame and demand 3. The frame is a matter of rewriting, since the definitions take only what they may depend
 -- on; demand 3 is the node graph's theorems, carried to the verdict. Assumes nothing.
-use Prim.Native.Nat.{ℕ}
+use Prim.Native.Nat.{ℕ, _≤_}
 use mathlib.Core.Bool.{Bool}
 use mathlib.Core.List.{List}
 use mathlib.Core.Path.{_≡_, refl, sym, ap, _∙_, subst}
 use native.Mathlib.Omega.{arith}
 use lib.IntN.{ℤ}
 use lib.ListN.{length}
+use Rattle.refusal.specs.declared.Refusal.{Refusal}
 use Rattle.refusal.specs.declared.Refusal.the-variants.{NodeLoop, WorkWords}
+use Rattle.refusal.specs.Table.{numberOf}
 use Rattle.refusal.specs.declared.Check.{Check}
 use Rattle.refusal.specs.declared.Check.the-variants.{Pass, Refused}
 use Rattle.refusal.specs.Checks.{unless, _andThen_}
 use Rattle.refusal.proofs.Checks.{andThen-pass}
+use Rattle.refusal.proofs.Numbers.{AtMost}
 use Rattle.wad.specs.declared.map.Marker.{Marker}
 use Rattle.wad.specs.declared.map.Marker.the-variants.{Entry, Refused as NoMarker}
 use Rattle.wad.specs.Header.{headOf, countOf as entriesOf}
 use Rattle.wad.specs.Entries.{directoryOf}
 use Rattle.wad.specs.Map.{markerBy, markerAnswer}
+use Rattle.wad.proofs.Numbers.{marker-atMost}
 use Rattle.bsp.specs.declared.Graph.{Graph}
 use Rattle.bsp.specs.declared.Graph.the-variants.{Loop as Looped, Depth as Deep}
 use Rattle.bsp.specs.Heights.{graphVerdict}
@@ -24,14 +28,16 @@ use Rattle.bsp.specs.Routes.{Loop}
 use Rattle.bsp.proofs.Verdict.{verdict-holds}
 use Rattle.bsp.proofs.Descends.{descent-holds}
 use Rattle.blockmap.specs.Blockmap.{blockmapCheck}
+use Rattle.level.specs.declared.Verdict.{Verdict}
 use Rattle.level.specs.declared.Verdict.the-variants.{Accepted, Refused as NotAccepted}
 use Rattle.level.specs.Lumps.{mapLumps, lumpOf, countOf}
 use Rattle.level.specs.Run.{runCheck}
 use Rattle.level.specs.Sizes.{sizesCheck}
 use Rattle.level.specs.References.{referencesCheck}
 use Rattle.level.specs.Verdict.{lumpsCheck, mapCheck, graphAnswer, judged, checkAt, nodesAt, subsectorsAt, verdictBy, verdict}
-use Rattle.level.specs.Demands.{SameMap, SameShortage, Frame, Below31, Demand3}
+use Rattle.level.specs.Demands.{MapAt, SameMap, SameShortage, Frame, Below31, Demand3}
 use Rattle.level.proofs.Passing.{passed}
+use Rattle.level.proofs.Numbers.{map-atMost}
 
 -- ---- demand 2
 
@@ -39,17 +45,35 @@ module _ (wad wad′ name words words′ : List ℕ) (same : SameMap wad wad′ 
   same-marker : markerAnswer wad name ≡ markerAnswer wad′ name
   same-marker = λ i. markerBy (same .long i) (same .header i) (same .directory i) name
 
+  module _ (m : ℕ) where
+    -- the ten names are looked at before the lumps
+    run-refused : (r : Refusal) → runCheck (directoryOf wad) (entriesOf (headOf wad)) m ≡ Refused r
+        → verdictBy wad words (Entry m) ≡ verdictBy wad′ words′ (Entry m)
+    run-refused r e =
+        let e′ : runCheck (directoryOf wad′) (entriesOf (headOf wad′)) m ≡ Refused r =
+        sym (λ i. runCheck (same .directory i) (entriesOf (same .header i)) m) ∙ e in
+        ap (λ (c : Check). judged (c andThen lumpsCheck (mapLumps wad (directoryOf wad) m) (length words)) (graphVerdict (nodesAt wad m)) m) e
+        ∙ sym (ap (λ (c : Check). judged (c andThen lumpsCheck (mapLumps wad′ (directoryOf wad′) m) (length words′)) (graphVerdict (nodesAt wad′ m)) m) e′)
+
+    run-passed : MapAt wad name m → verdictBy wad words (Entry m) ≡ verdictBy wad′ words′ (Entry m)
+    run-passed at =
+        let dir = directoryOf wad in
+        let lumps = mapLumps wad dir m in
+        let enough : Bool → Check = λ (b : Bool).
+        runCheck dir (entriesOf (headOf wad)) m
+        andThen (sizesCheck lumps andThen referencesCheck lumps andThen blockmapCheck (lumpOf lumps 9) (countOf lumps 1) andThen unless b WorkWords) in
+        ap (λ (b : Bool). judged (enough b) (graphVerdict (nodesAt wad m)) m) (short m at)
+        ∙ (λ i.
+        judged (mapCheck (same .directory i) (entriesOf (same .header i)) m (same .lumps m at i) (length words′)) (graphVerdict (lumpOf (same .lumps m at i) 6)) m)
+
+    run-by : (c : Check) → markerAnswer wad name ≡ Entry m → runCheck (directoryOf wad) (entriesOf (headOf wad)) m ≡ c
+        → verdictBy wad words (Entry m) ≡ verdictBy wad′ words′ (Entry m)
+    run-by Pass e q = run-passed (e, q)
+    run-by (Refused r) e q = run-refused r q
+
   same-by : (a : Marker) → markerAnswer wad name ≡ a → verdictBy wad words a ≡ verdictBy wad′ words′ a
   same-by (NoMarker r) e = refl
-  same-by (Entry m) e =
-      let dir = directoryOf wad in
-      let lumps = mapLumps wad dir m in
-      let enough : Bool → Check = λ (b : Bool).
-      runCheck dir (entriesOf (headOf wad)) m
-      andThen (sizesCheck lumps andThen referencesCheck lumps andThen blockmapCheck (lumpOf lumps 9) (countOf lumps 1) andThen unless b WorkWords) in
-      ap (λ (b : Bool). judged (enough b) (graphVerdict (nodesAt wad m)) m) (short m e)
-      ∙ (λ i.
-      judged (mapCheck (same .directory i) (entriesOf (same .header i)) m (same .lumps m e i) (length words′)) (graphVerdict (lumpOf (same .lumps m e i) 6)) m)
+  same-by (Entry m) e = run-by m (runCheck (directoryOf wad) (entriesOf (headOf wad)) m) e refl
 
 pub frame : Frame
 frame wad wad′ name words words′ same short =
@@ -65,6 +89,18 @@ graph-loop (Deep d) m e = let z : _≡_ {A = ℕ} 0 1 = cc in absurd (omega arit
 graph-deep : (g : Graph) (m : ℕ) {d m′ : ℕ} → graphAnswer g m ≡ Accepted d m′ → (g ≡ Deep d) × (m ≡ m′)
 graph-deep Looped m e = let z : _≡_ {A = ℕ} 0 1 = cc in absurd (omega arith)
 graph-deep (Deep d) m e = ((cc), (cc))
+
+-- the number of a refused map
+abbrev numberIn : Verdict → ℕ
+numberIn (Accepted depth marker) = 0
+numberIn (NotAccepted r) = numberOf r
+
+not-31 : (r : Refusal) → numberOf r ≤ 30 → NotAccepted r ≡ NotAccepted NodeLoop → ⊥
+not-31 r h e = let low : 31 ≤ 30 = rw (ap numberIn e) at h in omega arith
+
+judged-loop : (c : Check) (g : Graph) (m : ℕ) → AtMost 30 c → judged c g m ≡ NotAccepted NodeLoop → (c ≡ Pass) × (g ≡ Looped)
+judged-loop Pass g m h e = (refl, graph-loop g m e)
+judged-loop (Refused r) g m h e = absurd (not-31 r (h r refl) e)
 
 judged-deep : (c : Check) (g : Graph) (m : ℕ) {d m′ : ℕ} → judged c g m ≡ Accepted d m′ → (c ≡ Pass) × ((g ≡ Deep d) × (m ≡ m′))
 judged-deep Pass g m e = (refl, graph-deep g m e)
@@ -90,6 +126,15 @@ module _ (wad name words : List ℕ) where
   known : (d m : ℕ) → verdict wad name words ≡ Accepted d m → Known d m
   known d m q = known-by (markerAnswer wad name) refl q
 
+  looping-by : (a : Marker) → markerAnswer wad name ≡ a → verdictBy wad words a ≡ NotAccepted NodeLoop
+      → (m : ℕ) × (Below31 wad name words m × Loop (nodesAt wad m))
+  looping-by (NoMarker r) e q = let h = marker-atMost wad name r e in absurd (not-31 r (omega arith) q)
+  looping-by (Entry m) e q =
+      let dir = directoryOf wad in
+      let below = map-atMost dir (entriesOf (headOf wad)) m (mapLumps wad dir m) (length words) in
+      let p = judged-loop (checkAt wad m (length words)) (graphVerdict (nodesAt wad m)) m below q in
+      (m, (record { marks = e; passes = p .0 }, verdict-holds (nodesAt wad m) .loop .0 (p .1)))
+
   pub demand3 : Demand3 wad name words
   demand3 =
       record {
@@ -99,6 +144,7 @@ module _ (wad name words : List ℕ) where
                   holds .loop .0 (graph-loop (graphVerdict (nodesAt wad m)) m (sym (graphs m b) ∙ e)),
               λ (l : Loop (nodesAt wad m)). graphs m b ∙ ap (λ (g : Graph). graphAnswer g m) (holds .loop .1 l),
             );
+        loopOnly = looping-by (markerAnswer wad name) refl;
         noLoop = λ (m : ℕ) (b : Below31 wad name words m) (none : Loop (nodesAt wad m) → ⊥).
             let d = verdict-holds (nodesAt wad m) .noLoop none in
             (d .0, graphs m b ∙ ap (λ (g : Graph). graphAnswer g m) (d .1));

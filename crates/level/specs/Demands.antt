@@ -10,7 +10,7 @@ use lib.ListN.{length}
 use Rattle.refusal.specs.declared.Check.the-variants.{Pass}
 use Rattle.refusal.specs.declared.Refusal.the-variants.{NodeLoop}
 use Rattle.wad.specs.declared.map.Marker.the-variants.{Entry}
-use Rattle.wad.specs.Header.{headOf}
+use Rattle.wad.specs.Header.{headOf, countOf as entriesOf}
 use Rattle.wad.specs.Entries.{directoryOf}
 use Rattle.wad.specs.Map.{markerAnswer}
 use Rattle.bsp.specs.Nodes.{nodesOf}
@@ -18,22 +18,28 @@ use Rattle.bsp.specs.Routes.{Loop, Depth}
 use Rattle.bsp.specs.Promises.{Descends}
 use Rattle.level.specs.declared.Verdict.the-variants.{Accepted, Refused}
 use Rattle.level.specs.Lumps.{mapLumps}
+use Rattle.level.specs.Run.{runCheck}
 use Rattle.level.specs.Verdict.{checkAt, nodesAt, subsectorsAt, verdict}
 
 -- ---- demand 2: what alters a verdict
+
+-- entry `marker` is the marker of the map `name`, and its ten lumps follow
+abbrev pub MapAt : List ℕ → List ℕ → ℕ → Type 0
+MapAt wad name marker =
+    (markerAnswer wad name ≡ Entry marker) × (runCheck (directoryOf wad) (entriesOf (headOf wad)) marker ≡ Pass)
 
 -- two files of one length, with the same header and directory, and the same bytes in the ten lumps of the map `name`
 pub record SameMap (wad wad′ name : List ℕ) : Type 0 where
   pub long : length wad ≡ length wad′
   pub header : headOf wad ≡ headOf wad′
   pub directory : directoryOf wad ≡ directoryOf wad′
-  pub lumps : (marker : ℕ) → markerAnswer wad name ≡ Entry marker
+  pub lumps : (marker : ℕ) → MapAt wad name marker
       → mapLumps wad (directoryOf wad) marker ≡ mapLumps wad′ (directoryOf wad′) marker
 
 -- both lots of words are enough for the map's nodes, or both are too few
 abbrev pub SameShortage : List ℕ → List ℕ → List ℕ → List ℕ → Type 0
 SameShortage wad name words words′ =
-    (marker : ℕ) → markerAnswer wad name ≡ Entry marker
+    (marker : ℕ) → MapAt wad name marker
     → leb (4 * nodesOf (nodesAt wad marker)) (length words) ≡ leb (4 * nodesOf (nodesAt wad marker)) (length words′)
 
 -- nothing else alters the verdict on a map
@@ -54,6 +60,9 @@ pub record Demand3 (wad name words : List ℕ) : Type 0 where
   -- nodes is still on a node
   pub loop : (marker : ℕ) → Below31 wad name words marker
       → verdict wad name words ≡ Refused NodeLoop ↔ Loop (nodesAt wad marker)
+  -- and no other map is refused for a loop
+  pub loopOnly : verdict wad name words ≡ Refused NodeLoop
+      → (marker : ℕ) × (Below31 wad name words marker × Loop (nodesAt wad marker))
   -- and otherwise it is accepted, with its exact depth
   pub noLoop : (marker : ℕ) → Below31 wad name words marker → (Loop (nodesAt wad marker) → ⊥)
       → (depth : ℕ) × (verdict wad name words ≡ Accepted depth marker)

@@ -4,3 +4,4 @@ pub mod Slices
 pub mod Listing
 pub mod Answers
 pub mod Search
+pub mod Numbers

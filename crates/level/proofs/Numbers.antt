@@ -1,0 +1,75 @@
+-- Which numbers the checks of a map give: none above 30 before the node graph is judged. Assumes nothing.
+use Prim.Native.Nat.{ℕ, _+_, _*_, _≤_}
+use mathlib.Core.Bool.{Bool, not}
+use mathlib.Core.List.{List}
+use native.Mathlib.Omega.{arith}
+use lib.Dec.{leb, ltb, eqb}
+use lib.ListN.{length}
+use Rattle.refusal.specs.declared.Refusal.{Refusal}
+use Rattle.refusal.specs.declared.Refusal.the-variants.{MarkerRun, HexenMap, RecordSize, RecordCount, RejectLength, LinedefReference, SidedefReference, SegReference, SubsectorReference, NodeReference, Blockmap, WorkWords}
+use Rattle.refusal.specs.Table.{numberOf}
+use Rattle.refusal.specs.Checks.{unless, _andThen_, each}
+use Rattle.refusal.proofs.Numbers.{AtMost, unless-atMost, andThen-atMost, each-atMost}
+use Rattle.wad.specs.Lump.{sizeOf}
+use Rattle.table.specs.Lumps.{nameOf}
+use Rattle.field.specs.Records.{recordBytes}
+use Rattle.record.specs.Linedefs.{linedefOf}
+use Rattle.record.specs.Sidedefs.{sidedefOf}
+use Rattle.record.specs.Segs.{segOf}
+use Rattle.record.specs.Subsectors.{subsectorOf}
+use Rattle.bsp.specs.Nodes.{nodeOk}
+use Rattle.reference.specs.References.{linedefOk, segOk, subsectorOk}
+use Rattle.blockmap.specs.Blockmap.{wordAt, cellsOf, headerOk, listOk, blockmapCheck}
+use Rattle.level.specs.Lumps.{lumpOf, countOf}
+use Rattle.level.specs.Run.{namedOk, behavior, runCheck}
+use Rattle.level.specs.Sizes.{wholeOk, countOk, rejectSize, sizeCheck, rejectCheck, sizesCheck}
+use Rattle.level.specs.References.{linedefsCheck, sidedefsCheck, segsCheck, subsectorsCheck, nodesCheck, referencesCheck}
+use Rattle.level.specs.Verdict.{workCheck, lumpsCheck, mapCheck}
+
+-- a scan of tests
+tests : (ok : ℕ → Bool) (r : ℕ → Refusal) → ((i : ℕ) → numberOf (r i) ≤ 30) → (n : ℕ)
+    → AtMost 30 (each (λ i. unless (ok i) (r i)) n)
+tests ok r h n = each-atMost _ (λ i. unless-atMost (ok i) (r i) (h i)) n
+
+run : (dir : List ℕ) (count marker : ℕ) → AtMost 30 (runCheck dir count marker)
+run dir count marker =
+    andThen-atMost _ _ (unless-atMost (eqb (sizeOf dir marker) 0) (MarkerRun 0) (omega arith))
+    (andThen-atMost _ _
+    (tests (λ i. namedOk dir count (marker + 1 + i) (nameOf i)) (λ i. MarkerRun (i + 1)) (λ i. omega arith) 10)
+    (unless-atMost (not (namedOk dir count (marker + 11) behavior)) HexenMap (omega arith)))
+
+module _ (lumps : List (List ℕ)) where
+  sizes : AtMost 30 (sizesCheck lumps)
+  sizes =
+      andThen-atMost _ _
+      (each-atMost (sizeCheck lumps) (λ i.
+      andThen-atMost _ _ (unless-atMost (wholeOk lumps i) (RecordSize (i + 1)) (omega arith))
+      (unless-atMost (countOk lumps i) (RecordCount (i + 1)) (omega arith))) 8)
+      (unless-atMost (eqb (length (lumpOf lumps 8)) (rejectSize (countOf lumps 7))) RejectLength (omega arith))
+
+  references : AtMost 30 (referencesCheck lumps)
+  references =
+      andThen-atMost (linedefsCheck lumps) _
+      (tests (λ i. linedefOk (countOf lumps 3) (countOf lumps 2) (linedefOf (recordBytes (lumpOf lumps 1) 14 i))) LinedefReference (λ i. omega arith) _)
+      (andThen-atMost (sidedefsCheck lumps) _
+      (tests (λ i. ltb (sidedefOf (recordBytes (lumpOf lumps 2) 30 i) .sector) (countOf lumps 7)) SidedefReference (λ i. omega arith) _)
+      (andThen-atMost (segsCheck lumps) _
+      (tests (λ i. segOk (lumpOf lumps 1) (countOf lumps 3) (segOf (recordBytes (lumpOf lumps 4) 12 i))) SegReference (λ i. omega arith) _)
+      (andThen-atMost (subsectorsCheck lumps) (nodesCheck lumps)
+      (tests (λ i. subsectorOk (countOf lumps 4) (subsectorOf (recordBytes (lumpOf lumps 5) 4 i))) SubsectorReference (λ i. omega arith) _)
+      (tests (λ i. nodeOk (lumpOf lumps 6) (countOf lumps 5) i) NodeReference (λ i. omega arith) _))))
+
+blockmaps : (lump : List ℕ) (linedefs : ℕ) → AtMost 30 (blockmapCheck lump linedefs)
+blockmaps lump linedefs =
+    andThen-atMost _ _ (unless-atMost (headerOk lump) (Blockmap 0) (omega arith))
+    (tests (λ i. listOk lump linedefs (wordAt lump (4 + i))) Blockmap (λ i. omega arith) (cellsOf lump))
+
+-- 12 to 30
+pub map-atMost : (dir : List ℕ) (count marker : ℕ) (lumps : List (List ℕ)) (lent : ℕ)
+    → AtMost 30 (mapCheck dir count marker lumps lent)
+map-atMost dir count marker lumps lent =
+    andThen-atMost (runCheck dir count marker) _ (run dir count marker)
+    (andThen-atMost (sizesCheck lumps) _ (sizes lumps)
+    (andThen-atMost (referencesCheck lumps) _ (references lumps)
+    (andThen-atMost _ _ (blockmaps (lumpOf lumps 9) (countOf lumps 1))
+    (unless-atMost (leb (4 * countOf lumps 6) lent) WorkWords (omega arith)))))
