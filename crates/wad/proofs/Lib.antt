@@ -4,4 +4,5 @@ pub mod Slices
 pub mod Listing
 pub mod Answers
 pub mod Search
+pub mod Longest
 pub mod Numbers

@@ -5,3 +5,4 @@ pub mod Header
 pub mod Entries
 pub mod Lump
 pub mod Map
+pub mod Limits
