@@ -7,8 +7,3 @@ pub mod Verdict
 pub mod Coordinates
 pub mod Walks
 pub mod Descends
-pub mod Unmet
-pub mod Tall
-pub mod Searching
-pub mod Looks
-pub mod Words

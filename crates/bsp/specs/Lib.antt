@@ -3,9 +3,6 @@
 pub mod Nodes
 pub mod Routes
 pub mod Heights
-pub mod Judging
 pub mod Side
 pub mod Walks
 pub mod Promises
-pub mod Looks
-pub mod Searching

@@ -1,5 +1,4 @@
-// The node graph of a map: loop or depth, and the descent of a point to its subsector. The definitions are in specs/.
-mod search;
+// The node graph of a map, and the descent of a point to its subsector. The definitions are in specs/.
 mod side;
 
 use refusal::Refusal;
@@ -7,7 +6,6 @@ ghost use mathlib.Core.Path.{_≡_};
 ghost use Prim.Native.Nat.{_+_, _*_, _≤_, _<_};
 ghost use lib.ListN.{length};
 ghost use Rattle.endian.specs.Unsigned.{u16At};
-ghost use Rattle.bsp.specs.Judging.{Judgeable, Judged};
 ghost use Rattle.bsp.specs.Nodes.{root, childOf, childOk, nodeOk};
 ghost use Rattle.bsp.specs.Side.{chosen};
 ghost use Rattle.bsp.specs.Walks.{nodesOk, subsectorsOk, descentFrom, descent};
@@ -16,7 +14,7 @@ ghost use Rattle.bsp.specs.Walks.{nodesOk, subsectorsOk, descentFrom, de
 const NODE_SIZE: usize = 28;
 
 // A word from here on is a subsector's, a word below it a node's.
-const SUBSECTOR_BIT: usize = 32768;
+pub const SUBSECTOR_BIT: usize = 32768;
 
 // The most nodes, and the most subsectors.
 const MOST: usize = 32767;
@@ -38,21 +36,6 @@ pub enum Descent {
     // the subsector, and how many nodes were passed
     Found { subsector: usize, count: usize },
     Refused(Refusal),
-}
-
-// Loop or depth of a NODES lump whose children are in range. Whatever the words hold changes nothing; afterwards the first
-// four for each node are zero, and the others as found.
-pub fn judge(nodes: &[u8], count: usize, words: &mut [u16]) -> Graph
-    requires { ⌜ Judgeable (now nodes) count (now words) ⌝ }
-    ensures { λ r. ⌜ Judged (now (nodes .entry)) count (now (words .entry)) (now (words .exit)) r ⌝ }
-{
-    if count == 0 {
-        return Graph::Depth(0);
-    }
-    let used = 4 * count;
-    let answer = search::graph_of(nodes, count, &mut words[..used]);
-    search::clear(words, used);
-    answer
 }
 
 // The descent of the point (x, y) over any NODES lump, for any count of subsectors.
@@ -120,7 +103,7 @@ fn chosen_child(nodes: &[u8], x: i16, y: i16, node: usize) -> usize
 }
 
 // The word of a node's child.
-fn child_of(nodes: &[u8], node: usize, choice: Choice) -> usize
+pub fn child_of(nodes: &[u8], node: usize, choice: Choice) -> usize
     requires { ⌜ 28 * node + 28 ≤ length (now nodes) ⌝ }
     ensures { λ r. ⌜ r ≡ childOf (now (nodes .entry)) node choice ⌝ }
 {

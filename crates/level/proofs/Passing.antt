@@ -17,7 +17,7 @@ use Rattle.name.specs.Names.{sameName}
 use Rattle.wad.proofs.Listing.{and-true}
 use Rattle.table.specs.Lumps.{nameOf, leastOf, mostOf}
 use Rattle.bsp.specs.Nodes.{nodesOf, nodeOk}
-use Rattle.bsp.specs.Judging.{Judgeable}
+use Rattle.graph.specs.Judging.{Judgeable}
 use Rattle.bsp.specs.Promises.{Passed}
 use Rattle.bsp.proofs.Nodes.{nodes-ok, nodes-in-range}
 use Rattle.reference.specs.References.{nodeCheck}

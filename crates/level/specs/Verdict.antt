@@ -18,7 +18,7 @@ use Rattle.bsp.specs.declared.Graph.{Graph}
 use Rattle.bsp.specs.declared.Graph.the-variants.{Loop, Depth}
 use Rattle.bsp.specs.Nodes.{nodesOf}
 use Rattle.bsp.specs.Heights.{graphVerdict}
-use Rattle.bsp.specs.Judging.{cleared}
+use Rattle.graph.specs.Judging.{cleared}
 use Rattle.blockmap.specs.Blockmap.{blockmapCheck}
 use Rattle.level.specs.declared.Verdict.{Verdict}
 use Rattle.level.specs.declared.Verdict.the-variants.{Accepted, Refused as NotAccepted}

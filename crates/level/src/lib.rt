@@ -10,7 +10,7 @@ ghost use Rattle.refusal.specs.declared.Check.the-variants.{Pass};
 ghost use Rattle.wad.specs.Header.{headOf, countOf};
 ghost use Rattle.wad.specs.Entries.{fileCheck};
 ghost use Rattle.bsp.specs.Nodes.{nodesOf};
-ghost use Rattle.bsp.specs.Judging.{Judgeable};
+ghost use Rattle.graph.specs.Judging.{Judgeable};
 ghost use Rattle.level.specs.Lumps.{mapLumps};
 ghost use Rattle.level.specs.Verdict.{mapCheck, Answered, AnsweredAt, AnsweredBy};
 use bsp::Graph;
@@ -64,7 +64,7 @@ fn judge_graph(nodes: &[u8], marker: usize, words: &mut [u16]) -> Verdict
     requires { ⌜ Judgeable (now nodes) (nodesOf (now nodes)) (now words) ⌝ }
     ensures { λ r. ⌜ AnsweredBy (now (nodes .entry)) marker (now (words .entry)) r (now (words .exit)) ⌝ }
 {
-    match bsp::judge(nodes, nodes.len() / 28, words) {
+    match graph::judge(nodes, nodes.len() / 28, words) {
         Graph::Loop => Verdict::Refused(Refusal::NodeLoop),
         Graph::Depth(depth) => Verdict::Accepted { depth, marker },
     }

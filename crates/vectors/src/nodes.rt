@@ -77,7 +77,7 @@ fn judge(nodes: &[u8], count: usize, words: &mut [u16])
     requires { ⌜ (28 * count ≡ length (now nodes)) × (count ≤ 32767) × (4 * count ≤ length (now words)) ⌝ }
 {
     if in_range(nodes, count, 1) {
-        graph(bsp::judge(nodes, count, words));
+        graph(graph::judge(nodes, count, words));
     } else {
         print::text(b" child out of range\n");
     }

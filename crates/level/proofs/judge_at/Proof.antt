@@ -11,7 +11,7 @@ use Rattle.wad.specs.Header.{headOf, countOf}
 use Rattle.wad.specs.Entries.{directoryOf}
 use Rattle.wad.proofs.Listing.{file-header}
 use Rattle.bsp.specs.Nodes.{nodesOf}
-use Rattle.bsp.specs.Judging.{Judgeable}
+use Rattle.graph.specs.Judging.{Judgeable}
 use Rattle.level.specs.Lumps.{mapLumps, lumpOf}
 use Rattle.level.specs.Run.{runCheck}
 use Rattle.level.specs.Verdict.{lumpsCheck, mapCheck, checkAt, nodesAt, AnsweredBy}

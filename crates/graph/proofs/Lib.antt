@@ -1,0 +1,7 @@
+-- The laws of the search for loop and depth. Assumes nothing.
+
+pub mod Unmet
+pub mod Tall
+pub mod Searching
+pub mod Looks
+pub mod Words

@@ -1,0 +1,236 @@
+-- The search's state, over the marks and the path as functions: it begins with the root, a node not met yet is put on the
+-- path, the path's end is taken off it with its height, a child on the path is a loop, and where the path is empty the
+-- root's mark is the depth. Assumes nothing.
+use Prim.Native.Nat.{ℕ, zero, suc, _+_, _-_, _≤_, _<_}
+use mathlib.Core.Bool.{true, false}
+use mathlib.Core.List.{List}
+use mathlib.Core.Logic.{_⊎_, ⊎-elim}
+use mathlib.Core.Path.{_≡_, refl, sym, ap, _∙_}
+use native.Mathlib.Decide.{decLt}
+use native.Mathlib.Nat.{eq-or-lt-of-le}
+use native.Mathlib.Omega.{arith}
+use borrow.Author.Tests.{lt-ltb, ne-eqb}
+use lib.Dec.{eqb}
+use Rattle.bsp.specs.declared.Choice.{Choice}
+use Rattle.bsp.specs.declared.Graph.{Graph}
+use Rattle.bsp.specs.Nodes.{nodesOf, subsectorBit, childOf}
+use Rattle.bsp.specs.Heights.{stands, graphVerdict}
+use Rattle.graph.specs.Searching.{unmet, Tall, Searching}
+use Rattle.bsp.proofs.Nodes.{root-last}
+use Rattle.bsp.proofs.Heights.{stands-none, stands-node}
+use Rattle.graph.proofs.Unmet.{same-or-not, unmet-all, unmet-same, unmet-less}
+use Rattle.bsp.proofs.Verdict.{looping, rootHeight, verdict-loop, verdict-depth}
+
+end-or-below : (n j : ℕ) → j < n + 1 → (j ≡ n) ⊎ (j < n)
+end-or-below n j h = eq-or-lt-of-le {n = j} {m = n} (omega arith)
+
+module _ (nodes : List ℕ) (count : ℕ) (least : 1 ≤ count) (most : count ≤ 32767) where
+  -- ---- the verdict at the root
+
+  module _ (whole : nodesOf nodes ≡ count) where
+    loop-at-root : stands nodes count (count - 1) ≡ true → graphVerdict nodes ≡ Graph.Loop
+    loop-at-root e = verdict-loop nodes (rw (whole, root-last count least) e)
+
+    depth-at-root : {h : ℕ} → Tall nodes (count - 1) h → h ≤ count → graphVerdict nodes ≡ Graph.Depth h
+    depth-at-root {h} t l =
+        let off : looping nodes ≡ false = rw (whole, root-last count least) (t count l .0) in
+        let is : rootHeight nodes ≡ h = rw (whole, root-last count least) (t count l .1) in
+        verdict-depth nodes off ∙ ap Graph.Depth is
+
+  module _ (mark path : ℕ → ℕ) (sp : ℕ) (s : Searching nodes count mark path sp) where
+    -- ---- a child on the path
+
+    node-on-path : (j : ℕ) → j < sp → path j < subsectorBit
+    node-on-path j h = let l = s .inRange j h in omega arith
+
+    module _ (c : Choice) (l : childOf nodes (path (sp - 1)) c < count)
+        (e : mark (childOf nodes (path (sp - 1)) c) ≡ 65535) where
+      loop-stands : (k j : ℕ) → j < sp → stands nodes k (path j) ≡ true
+      loop-stands zero j h = stands-none nodes (path j) ∙ lt-ltb (path j) subsectorBit (node-on-path j h)
+      loop-stands (suc k) j h = by (decLt (j + 1) sp) (λ i n. loop-stands k i n)
+        where
+          by : Dec (j + 1 < sp) → ((i : ℕ) → i < sp → stands nodes k (path i) ≡ true) → stands nodes (suc k) (path j) ≡ true
+          by (yes n) before =
+              let (way, is) = s .linked j n in
+              stands-node nodes k (node-on-path j h) way (rw is at (before (j + 1) n))
+          by (no n) before =
+              let last : sp - 1 ≡ j = omega arith in
+              let (i, m, is) = s .onPath (childOf nodes (path (sp - 1)) c) l e in
+              stands-node nodes k (node-on-path j h) c (rw (is, last) at (before i m))
+
+      pub path-loop : nodesOf nodes ≡ count → 0 < sp → graphVerdict nodes ≡ Graph.Loop
+      path-loop whole h = loop-at-root whole (rw (s .first h) at (loop-stands count 0 h))
+
+    -- ---- the path is empty
+
+    pub path-done : nodesOf nodes ≡ count → sp ≡ 0 → graphVerdict nodes ≡ Graph.Depth (mark (count - 1))
+    path-done whole none =
+        let l : count - 1 < count = omega arith in
+        let off : mark (count - 1) ≡ 65535 → ⊥ = λ e. (let (j, h, is) = s .onPath (count - 1) l e in omega arith) in
+        let low = s .low (count - 1) l (s .rootMet) off in
+        depth-at-root whole (s .tall (count - 1) l (s .rootMet) off) (omega arith)
+
+    -- ---- a node that is put on the path
+
+    module _ (mark′ path′ : ℕ → ℕ) (v : ℕ) (l : v < count) (new : mark v ≡ 0) (put : mark′ v ≡ 65535)
+        (other : (i : ℕ) → i < count → (i ≡ v → ⊥) → mark′ i ≡ mark i) (below : (j : ℕ) → j < sp → path′ j ≡ path j)
+        (end : path′ sp ≡ v) where
+      push-less : unmet mark count ≡ suc (unmet mark′ count)
+      push-less = unmet-less mark mark′ v new (λ e. omega arith) count l other
+
+      kept : (i : ℕ) → i < count → (mark i ≡ 0 → ⊥) → mark′ i ≡ 0 → ⊥
+      kept i h n e = n (sym (other i h (λ q. n (ap mark q ∙ new))) ∙ e)
+
+      push-linked : 0 < sp → (c : Choice) → v ≡ childOf nodes (path (sp - 1)) c → (j : ℕ) → j + 1 < sp + 1
+          → (c : Choice) × (path′ (j + 1) ≡ childOf nodes (path′ j) c)
+      push-linked some c is j h = by (decLt (j + 1) sp)
+        where
+          by : Dec (j + 1 < sp) → (c : Choice) × (path′ (j + 1) ≡ childOf nodes (path′ j) c)
+          by (yes k) =
+              let (way, q) = s .linked j k in
+              (way, rw (below (j + 1) k, below j (omega arith)) q)
+          by (no k) =
+              let last : sp - 1 ≡ j = omega arith in
+              let next : j + 1 ≡ sp = omega arith in
+              (c, rw (next, end, below j (omega arith)) (rw last at is))
+
+      -- the state, and one node less that is not met
+      pub push : 0 < sp → (c : Choice) → v ≡ childOf nodes (path (sp - 1)) c
+          → Searching nodes count mark′ path′ (sp + 1) × (unmet mark count ≡ suc (unmet mark′ count))
+      push some c is = (
+        record {
+          room = (let e = push-less in let r = s .room in omega arith);
+          rootMet = kept (count - 1) (omega arith) (s .rootMet);
+          first = λ h. below 0 some ∙ s .first some;
+          inRange =
+              λ j h.
+              ⊎-elim
+              (λ (e : j ≡ sp). rw (e, end) l)
+              (λ (k : j < sp). rw (below j k) (s .inRange j k))
+              (end-or-below sp j h);
+          met =
+              λ j h.
+              ⊎-elim
+              (λ (e : j ≡ sp). rw (e, end, put) (λ z. omega arith))
+              (λ (k : j < sp). rw (below j k) (kept (path j) (s .inRange j k) (s .met j k)))
+              (end-or-below sp j h);
+          linked = push-linked some c is;
+          onPath =
+              λ i h e.
+              ⊎-elim
+              (λ (q : i ≡ v). (sp, omega arith, end ∙ sym q))
+              (λ (q : i ≡ v → ⊥).
+              let (j, k, at) = s .onPath i h (sym (other i h q) ∙ e) in
+              (j, omega arith, below j k ∙ at))
+              (same-or-not i v);
+          tall =
+              λ i h n m.
+              let same = other i h (λ q. m (ap mark′ q ∙ put)) in
+              rw same (s .tall i h (λ z. n (same ∙ z)) (λ z. m (same ∙ z)));
+          low =
+              λ i h n m.
+              let same = other i h (λ q. m (ap mark′ q ∙ put)) in
+              let before = s .low i h (λ z. n (same ∙ z)) (λ z. m (same ∙ z)) in
+              let e = push-less in
+              omega arith;
+        },
+        push-less,
+      )
+
+    -- ---- the path's end, done
+
+    module _ (some : 0 < sp) (mark′ path′ : ℕ → ℕ) (h : ℕ) (done : mark′ (path (sp - 1)) ≡ suc h)
+        (is : Tall nodes (path (sp - 1)) (suc h)) (fits : h + (unmet mark count + sp) ≤ count)
+        (other : (i : ℕ) → i < count → (i ≡ path (sp - 1) → ⊥) → mark′ i ≡ mark i)
+        (below : (j : ℕ) → j < sp - 1 → path′ j ≡ path j) where
+      last : sp - 1 < sp
+      last = omega arith
+
+      met-same : (i : ℕ) → i < count → eqb (mark′ i) 0 ≡ eqb (mark i) 0
+      met-same i l =
+          ⊎-elim
+          (λ (q : i ≡ path (sp - 1)).
+          rw (q, done, ne-eqb (mark (path (sp - 1))) 0 (s .met (sp - 1) last)) (ne-eqb (suc h) 0 (λ z. omega arith)))
+          (λ (q : i ≡ path (sp - 1) → ⊥). ap (λ (m : ℕ). eqb m 0) (other i l q))
+          (same-or-not i (path (sp - 1)))
+
+      finish-same : unmet mark′ count ≡ unmet mark count
+      finish-same = unmet-same mark mark′ count met-same
+
+      still : (i : ℕ) → i < count → (mark i ≡ 0 → ⊥) → mark′ i ≡ 0 → ⊥
+      still i l n e =
+          ⊎-elim
+          (λ (q : i ≡ path (sp - 1)). let z : suc h ≡ 0 = sym done ∙ ap mark′ (sym q) ∙ e in omega arith)
+          (λ (q : i ≡ path (sp - 1) → ⊥). n (sym (other i l q) ∙ e))
+          (same-or-not i (path (sp - 1)))
+
+      -- the state, and as many nodes that are not met
+      pub finish : Searching nodes count mark′ path′ (sp - 1) × (unmet mark′ count ≡ unmet mark count)
+      finish = (
+        record {
+          room = (let e = finish-same in let r = s .room in omega arith);
+          rootMet = still (count - 1) (omega arith) (s .rootMet);
+          first = λ k. below 0 k ∙ s .first some;
+          inRange = λ j k. rw (below j k) (s .inRange j (omega arith));
+          met = λ j k. rw (below j k) (still (path j) (s .inRange j (omega arith)) (s .met j (omega arith)));
+          linked =
+              λ j k.
+              let (way, q) = s .linked j (omega arith) in
+              (way, rw (below (j + 1) k, below j (omega arith)) q);
+          onPath = finish-path;
+          tall =
+              λ i l n m.
+              ⊎-elim
+              (λ (q : i ≡ path (sp - 1)). rw (q, done) is)
+              (λ (q : i ≡ path (sp - 1) → ⊥).
+              let same = other i l q in
+              rw same (s .tall i l (λ z. n (same ∙ z)) (λ z. m (same ∙ z))))
+              (same-or-not i (path (sp - 1)));
+          low =
+              λ i l n m.
+              ⊎-elim
+              (λ (q : i ≡ path (sp - 1)). rw (q, done, finish-same) (omega arith))
+              (λ (q : i ≡ path (sp - 1) → ⊥).
+              let same = other i l q in
+              let before = s .low i l (λ z. n (same ∙ z)) (λ z. m (same ∙ z)) in
+              rw finish-same (omega arith))
+              (same-or-not i (path (sp - 1)));
+        },
+        finish-same,
+      )
+        where
+          finish-path : (i : ℕ) → i < count → mark′ i ≡ 65535 → (j : ℕ) × (j < sp - 1) × (path′ j ≡ i)
+          finish-path i l e =
+              let q : i ≡ path (sp - 1) → ⊥ =
+              λ q. (let z : suc h ≡ 65535 = sym done ∙ ap mark′ (sym q) ∙ e in omega arith) in
+              let (j, k, at) = s .onPath i l (sym (other i l q) ∙ e) in
+              let r : j ≡ sp - 1 → ⊥ = λ r. q (sym at ∙ ap path r) in
+              let inside : j < sp - 1 = omega arith in
+              (j, inside, below j inside ∙ at)
+
+  -- ---- the beginning
+
+  pub start : (mark path : ℕ → ℕ) → mark (count - 1) ≡ 65535 → ((i : ℕ) → i < count → (i ≡ count - 1 → ⊥) → mark i ≡ 0)
+      → path 0 ≡ count - 1 → Searching nodes count mark path 1
+  start mark path put other at =
+      let l : count - 1 < count = omega arith in
+      let all = unmet-all (λ i. 0) count (λ i h. refl) in
+      let less = unmet-less (λ i. 0) mark (count - 1) refl (λ e. omega arith) count l other in
+      record {
+        room = omega arith;
+        rootMet = λ e. omega arith;
+        first = λ h. at;
+        inRange = λ j h. (let z : j ≡ 0 = omega arith in rw (z, at) l);
+        met = λ j h. (let z : j ≡ 0 = omega arith in rw (z, at, put) (λ e. omega arith));
+        linked = λ j h. absurd (omega arith);
+        onPath = λ i h e. (0, omega arith, at ∙ sym (is-root i h e));
+        tall = λ i h n m. absurd (n (other i h (λ q. m (ap mark q ∙ put))));
+        low = λ i h n m. absurd (n (other i h (λ q. m (ap mark q ∙ put))));
+      }
+    where
+      is-root : (i : ℕ) → i < count → mark i ≡ 65535 → i ≡ count - 1
+      is-root i h e =
+          ⊎-elim
+          (λ (q : i ≡ count - 1). q)
+          (λ (q : i ≡ count - 1 → ⊥). let z = other i h q in absurd (omega arith))
+          (same-or-not i (count - 1))

@@ -1,0 +1,59 @@
+-- What the work words of the search hold, and what a look at a node's children finds there: only the inner promises of
+-- src/lib.rt speak of it. The first `count` words mark the nodes: 0 not met yet, 65535 on the path, else the node's
+-- height. The next `count` words hold the path, the root first. Assumes nothing.
+use Prim.Native.Nat.{ℕ, max, _+_, _-_, _*_, _≤_, _<_}
+use mathlib.Core.Bool.{cond}
+use mathlib.Core.List.{List}
+use lib.Dec.{eqb}
+use lib.ListN.{length, getD, set}
+use Rattle.bsp.specs.declared.Choice.{Choice}
+use Rattle.bsp.specs.declared.Choice.the-variants.{Right, Left}
+use Rattle.graph.specs.declared.Look.{Look}
+use Rattle.graph.specs.declared.Look.the-variants.{New, OnPath, Height}
+use Rattle.bsp.specs.Nodes.{subsectorBit, isNode, childOf}
+use Rattle.graph.specs.Judging.{cleared}
+
+-- the mark of a node on the path
+abbrev pub pathMark : ℕ
+pathMark = 65535
+
+-- the mark of node `i`
+abbrev pub markOf : List ℕ → ℕ → ℕ
+markOf words i = getD words i 0
+
+-- the node at place `j` of the path
+abbrev pub pathOf : List ℕ → ℕ → ℕ → ℕ
+pathOf words count j = getD words (count + j) 0
+
+-- what its mark says of node `w`
+abbrev pub markSays : ℕ → ℕ → Look
+markSays w mark = cond (eqb mark 0) (New w) (cond (eqb mark pathMark) OnPath (Height mark))
+
+-- what the marks say of a child, a node or a subsector
+abbrev pub lookAt : List ℕ → ℕ → Look
+lookAt words w = cond (isNode w) (markSays w (markOf words w)) (Height 0)
+
+-- what is to be done first of two children; where both are done, the larger height
+abbrev pub joined : Look → Look → Look
+joined (New v) left = New v
+joined OnPath left = OnPath
+joined (Height a) (New v) = New v
+joined (Height a) OnPath = OnPath
+joined (Height a) (Height b) = Height (max a b)
+
+-- what the marks say of both children of node `i`
+abbrev pub lookBelow : List ℕ → List ℕ → ℕ → Look
+lookBelow nodes words i = joined (lookAt words (childOf nodes i Right)) (lookAt words (childOf nodes i Left))
+
+-- node `i` lies in the lump, and the marks of its children in the words
+pub record LooksInside (nodes words : List ℕ) (i : ℕ) : Type 0 where
+  pub whole : 28 * i + 28 ≤ length nodes
+  pub marked : (c : Choice) → childOf nodes i c < subsectorBit → childOf nodes i c < length words
+
+-- the words with `node` put at place `sp` of the path
+abbrev pub pushed : List ℕ → ℕ → ℕ → ℕ → List ℕ
+pushed words count sp node = set (set words node pathMark) (count + sp) node
+
+-- the words at the beginning: no node is met but the root, which is the path
+abbrev pub begun : List ℕ → ℕ → List ℕ
+begun words count = pushed (cleared words count) count 0 (count - 1)
