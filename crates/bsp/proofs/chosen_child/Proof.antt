@@ -9,12 +9,6 @@ use borrow.Author.Needs.{needs}
 use Rattle.bsp.proofs.chosen_child.Statement.{statement}
 use Rattle.bsp.proofs.chosen_child.Tie as tie
 
-side-at-requires : tie.Need-side-at-requires
-side-at-requires c κs = search needs
-
-child-of-requires : tie.Need-child-of-requires
-child-of-requires c κs = search needs
-
 returns : tie.Need-returns
 returns c =
     let e = c .before .before .before in
@@ -25,4 +19,4 @@ returns c =
     (c .before .side-at .ensures ∙ (λ i. sideAt (now (e .args .nodes)) (x i) (y i) (e .args .node)))
 
 pub chosen-child-spec : {M : Type 1} → statement M
-chosen-child-spec = tie.close (tie.spec side-at-requires child-of-requires returns)
+chosen-child-spec = tie.close (tie.spec (λ c κs. search needs) (λ c κs. search needs) returns)

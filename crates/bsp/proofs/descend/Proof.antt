@@ -12,18 +12,12 @@ use borrow.Author.Needs.{needs}
 use Rattle.bsp.proofs.descend.Statement.{statement}
 use Rattle.bsp.proofs.descend.Tie as tie
 
-nodes-ok-requires : tie.Need-nodes-ok-requires
-nodes-ok-requires c κs = search needs
-
 returns : tie.Need-returns
 returns c = sym (descent-nodes _ _ _ _ (sym (c .before .nodes-ok .ensures) ∙ not-true _ (c .if1 .taken)))
 
 -- past the first test the lump is of whole nodes
 whole : (c : tie.Else1) → nodesOk (now (c .before .before .before .args .nodes)) ≡ true
 whole c = sym (c .before .nodes-ok .ensures) ∙ not-false _ (c .if1 .left)
-
-subsectors-ok-requires : tie.Need-subsectors-ok-requires
-subsectors-ok-requires c κs = search needs
 
 returns-2 : tie.Need-returns-2
 returns-2 c =
@@ -50,10 +44,5 @@ returns-3 c =
 pub descend-spec : {M : Type 1} → statement M
 descend-spec =
     tie.close
-    (tie.spec
-    nodes-ok-requires
-    returns
-    subsectors-ok-requires
-    returns-2
-    descend-from-root-requires
-    returns-3)
+    (tie.spec (λ c κs. search needs) returns (λ c κs. search needs) returns-2
+    descend-from-root-requires returns-3)

@@ -6,14 +6,8 @@ use borrow.Author.Needs.{needs}
 use Rattle.bsp.proofs.root_word.Statement.{statement}
 use Rattle.bsp.proofs.root_word.Tie as tie
 
-sub-result : tie.Need-sub-result
-sub-result c = search needs
-
-returns : tie.Need-returns
-returns c = search needs
-
 returns-2 : tie.Need-returns-2
 returns-2 c = sym (root-last (c .before .args .count) (omega arith))
 
 pub root-word-spec : {M : Type 1} → statement M
-root-word-spec = tie.close (tie.spec sub-result returns returns-2)
+root-word-spec = tie.close (tie.spec (λ c. search needs) (λ c. search needs) returns-2)

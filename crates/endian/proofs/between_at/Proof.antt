@@ -11,13 +11,7 @@ use Rattle.endian.proofs.between_at.Lts as lts
 use Rattle.endian.proofs.u32_at.Reads as u32-at-reads
 
 -- src/lib.rt:89:16
-u32-at-requires : tie.Need-u32-at-requires
-u32-at-requires c κs = search needs
-
 -- src/lib.rt:89:16
-cast-bits : tie.Need-cast-bits
-cast-bits c = search needs
-
 -- src/lib.rt:85:1
 returns : tie.Need-returns
 returns c =
@@ -26,4 +20,4 @@ returns c =
     ∙ ap (λ (n : ℕ). between (signed 2147483648 n) (e .least) (e .most)) (c .u32-at .ensures)
 
 pub between-at-spec : {M : Type 1} → statement M
-between-at-spec = tie.close (tie.spec u32-at-requires cast-bits returns)
+between-at-spec = tie.close (tie.spec (λ c κs. search needs) (λ c. search needs) returns)

@@ -7,12 +7,6 @@ use Rattle.endian.specs.Signed.{signed}
 use Rattle.endian.proofs.i16_at.Statement.{statement}
 use Rattle.endian.proofs.i16_at.Tie as tie
 
-u16-at-requires : tie.Need-u16-at-requires
-u16-at-requires c κs = search needs
-
-signed16-requires : tie.Need-signed16-requires
-signed16-requires c κs = search needs
-
 returns : tie.Need-returns
 returns c =
     toZ-ofZ w16 (c .signed16 .result) (record { sfits = c .signed16 .ok })
@@ -20,4 +14,4 @@ returns c =
     ∙ ap (signed 32768) (c .before .u16-at .ensures)
 
 pub i16-at-spec : {M : Type 1} → statement M
-i16-at-spec = tie.close (tie.spec u16-at-requires signed16-requires returns)
+i16-at-spec = tie.close (tie.spec (λ c κs. search needs) (λ c κs. search needs) returns)

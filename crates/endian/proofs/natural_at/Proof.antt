@@ -12,13 +12,7 @@ use Rattle.endian.proofs.natural_at.Lts as lts
 use Rattle.endian.proofs.u32_at.Reads as u32-at-reads
 
 -- src/lib.rt:76:9
-u32-at-requires : tie.Need-u32-at-requires
-u32-at-requires c κs = search needs
-
 -- src/lib.rt:78:9
-cast-result : tie.Need-cast-result
-cast-result c = search needs
-
 -- src/lib.rt:72:1
 returns : tie.Need-returns
 returns c = (
@@ -36,4 +30,4 @@ returns-2 c = (
 )
 
 pub natural-at-spec : {M : Type 1} → statement M
-natural-at-spec = tie.close (tie.spec u32-at-requires cast-result returns returns-2)
+natural-at-spec = tie.close (tie.spec (λ c κs. search needs) (λ c. search needs) returns returns-2)

@@ -9,15 +9,6 @@ use Rattle.endian.specs.Unsigned.{putU16}
 use Rattle.endian.proofs.put_i16.Statement.{statement}
 use Rattle.endian.proofs.put_i16.Tie as tie
 
-bits16-requires : tie.Need-bits16-requires
-bits16-requires c κs = search needs
-
-put-u16-requires : tie.Need-put-u16-requires
-put-u16-requires c κs = search needs
-
-same-length : tie.Need-same-length
-same-length c = search needs
-
 returns : tie.Need-returns
 returns c =
     let e = c .before .before .before .before .before .before in
@@ -26,4 +17,5 @@ returns c =
     ∙ ap (putU16 (now (e .args .s)) (e .args .at)) (c .before .before .before .bits16 .ensures ∙ same)
 
 pub put-i16-spec : {M : Type 1} → statement M
-put-i16-spec = tie.close (tie.spec bits16-requires put-u16-requires same-length returns)
+put-i16-spec =
+    tie.close (tie.spec (λ c κs. search needs) (λ c κs. search needs) (λ c. search needs) returns)

@@ -17,20 +17,11 @@ inside c =
     let a = c .before .args in
     fits-inside (a .size) (a .index) (length (now (a .lump))) (c .if1 .taken)
 
-div-if1 : tie.Need-div-if1
-div-if1 c = search needs
-
 mul-at : tie.Need-mul-at
 mul-at c = let h = inside c in omega arith
 
 add-result : tie.Need-add-result
 add-result c = let h = inside c in omega arith
-
-sub-result : tie.Need-sub-result
-sub-result c = search needs
-
-part-result-start : tie.Need-part-result-start
-part-result-start c = search needs
 
 part-result-end : tie.Need-part-result-end
 part-result-end c = inside c
@@ -50,12 +41,5 @@ returns-2 c = (search needs, simp (le-ltb _ _ (c .if1 .left)))
 pub bytes-or-zeros-spec : {M : Type 1} → statement M
 bytes-or-zeros-spec =
     tie.close
-    (tie.spec
-    div-if1
-    mul-at
-    add-result
-    sub-result
-    part-result-start
-    part-result-end
-    returns
-    returns-2)
+    (tie.spec (λ c. search needs) mul-at add-result (λ c. search needs) (λ c. search needs)
+    part-result-end returns returns-2)

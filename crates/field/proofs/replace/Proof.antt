@@ -18,17 +18,11 @@ fits c =
     let a = c .before .before .before .before .args in
     fits-inside (a .size) (a .index) (length (now (a .lump))) (c .before .if1 .taken)
 
-div-if1 : tie.Need-div-if1
-div-if1 c = search needs
-
 mul-copy-at : tie.Need-mul-copy-at
 mul-copy-at c = let h = fits c in omega arith
 
 copy-at-requires : tie.Need-copy-at-requires
 copy-at-requires c κs = let h = fits c in omega arith
-
-same-length : tie.Need-same-length
-same-length c = search needs
 
 returns : tie.Need-returns
 returns c =
@@ -44,4 +38,5 @@ returns-2 c =
 
 pub replace-spec : {M : Type 1} → statement M
 replace-spec =
-    tie.close (tie.spec div-if1 mul-copy-at copy-at-requires same-length returns returns-2)
+    tie.close
+    (tie.spec (λ c. search needs) mul-copy-at copy-at-requires (λ c. search needs) returns returns-2)

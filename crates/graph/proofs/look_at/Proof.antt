@@ -7,9 +7,6 @@ use Rattle.graph.proofs.look_at.Tie as tie
 returns : tie.Need-returns
 returns c = rw (le-ltb _ _ (c .if1 .taken))
 
-mul-mark : tie.Need-mul-mark
-mul-mark c = search needs
-
 shared-slice-read-mark : tie.Need-shared-slice-read-mark
 shared-slice-read-mark c = c .before .before .pre (c .before .if1 .left)
 
@@ -26,4 +23,5 @@ returns-4 c =
 
 pub look-at-spec : {M : Type 1} → statement M
 look-at-spec =
-    tie.close (tie.spec returns mul-mark shared-slice-read-mark returns-2 returns-3 returns-4)
+    tie.close
+    (tie.spec returns (λ c. search needs) shared-slice-read-mark returns-2 returns-3 returns-4)

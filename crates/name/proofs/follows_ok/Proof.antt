@@ -2,13 +2,10 @@ use borrow.Author.Needs.{needs}
 use Rattle.name.proofs.follows_ok.Statement.{statement}
 use Rattle.name.proofs.follows_ok.Tie as tie
 
-character-ok-requires : tie.Need-character-ok-requires
-character-ok-requires c κs = search needs
-
 returns : tie.Need-returns
 returns c =
     rw
     (c .character-ok .ensures)
 
 pub follows-ok-spec : {M : Type 1} → statement M
-follows-ok-spec = tie.close (tie.spec character-ok-requires returns)
+follows-ok-spec = tie.close (tie.spec (λ c κs. search needs) returns)

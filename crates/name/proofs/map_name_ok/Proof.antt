@@ -4,12 +4,6 @@ use borrow.Author.Needs.{needs}
 use Rattle.name.proofs.map_name_ok.Statement.{statement}
 use Rattle.name.proofs.map_name_ok.Tie as tie
 
-episode-name-requires : tie.Need-episode-name-requires
-episode-name-requires c κs = search needs
-
-numbered-name-requires : tie.Need-numbered-name-requires
-numbered-name-requires c κs = search needs
-
 returns : tie.Need-returns
 returns c = simp (eq-eqb _ _ (c .before .before .if1 .taken), c .before .episode-name .ensures, c .numbered-name .ensures)
 
@@ -18,4 +12,4 @@ returns-2 c = simp (ne-eqb _ _ (c .if1 .left))
 
 pub map-name-ok-spec : {M : Type 1} → statement M
 map-name-ok-spec =
-    tie.close (tie.spec episode-name-requires numbered-name-requires returns returns-2)
+    tie.close (tie.spec (λ c κs. search needs) (λ c κs. search needs) returns returns-2)

@@ -7,20 +7,12 @@ use Rattle.refusal.proofs.then.Reads as reads
 use Rattle.refusal.proofs.then.Lts as lts
 
 -- src/lib.rt:156:24
-enum-told : tie.Need-enum-told
-enum-told c = search needs
-
 -- src/lib.rt:157:24
-enum-known-a : tie.Need-enum-known-a
-enum-known-a c = search needs
-
 -- src/lib.rt:152:1
-returns : tie.Need-returns
-returns c = search needs
-
 -- src/lib.rt:152:1
 returns-2 : tie.Need-returns-2
 returns-2 c = refused-then _ (c .before .a .given .1)
 
 pub then-spec : {M : Type 1} → statement M
-then-spec = tie.close (tie.spec enum-told enum-known-a returns returns-2)
+then-spec =
+    tie.close (tie.spec (λ c. search needs) (λ c. search needs) (λ c. search needs) returns-2)

@@ -8,12 +8,6 @@ use Rattle.bsp.proofs.Coordinates.{read-again, difference-fits}
 use Rattle.bsp.proofs.side.difference.Statement.{statement}
 use Rattle.bsp.proofs.side.difference.Tie as tie
 
-wide-requires : tie.Need-wide-requires
-wide-requires c κs = search needs
-
-wide-requires-2 : tie.Need-wide-requires-2
-wide-requires-2 c κs = search needs
-
 a-wide : (c : tie.After-wide2) → toZ w64 (ofZ w64 (c .before .wide .result)) ≡ c .before .before .args .a
 a-wide c =
     let e = c .before .before in
@@ -35,4 +29,5 @@ returns c =
     rw (a-wide c, b-wide c) (toZ-ofZ w64 _ (difference-fits (e .args .a) (e .args .b) (e .fits .a) (e .fits .b)))
 
 pub difference-spec : {M : Type 1} → statement M
-difference-spec = tie.close (tie.spec wide-requires wide-requires-2 sub-result returns)
+difference-spec =
+    tie.close (tie.spec (λ c κs. search needs) (λ c κs. search needs) sub-result returns)

@@ -9,12 +9,6 @@ use Rattle.bsp.proofs.Coordinates.{read-again, product-fits}
 use Rattle.bsp.proofs.side.product.Statement.{statement}
 use Rattle.bsp.proofs.side.product.Tie as tie
 
-difference-requires : tie.Need-difference-requires
-difference-requires c κs = search needs
-
-wide-requires : tie.Need-wide-requires
-wide-requires c κs = search needs
-
 difference-read : (c : tie.After-wide)
     → toZ w64 (ofZ w64 (c .before .difference .result)) ≡ c .before .before .args .a -ℤ c .before .before .args .b
 difference-read c =
@@ -41,4 +35,4 @@ returns c =
     (toZ-ofZ w64 _ (product-fits (e .args .a) (e .args .b) (e .fits .a) (e .fits .b) (e .args .d) (e .fits .d)))
 
 pub product-spec : {M : Type 1} → statement M
-product-spec = tie.close (tie.spec difference-requires wide-requires mul-result returns)
+product-spec = tie.close (tie.spec (λ c κs. search needs) (λ c κs. search needs) mul-result returns)

@@ -5,21 +5,6 @@ use borrow.Author.Needs.{needs}
 use Rattle.meshpigeon.proofs.files.meshpigeon_directory.Statement.{statement}
 use Rattle.meshpigeon.proofs.files.meshpigeon_directory.Tie as tie
 
-judge-directory-requires : tie.Need-judge-directory-requires
-judge-directory-requires c κs = search needs
-
-enum-known-count : tie.Need-enum-known-count
-enum-known-count c = search needs
-
-nothing-refused-requires : tie.Need-nothing-refused-requires
-nothing-refused-requires c κs = search needs
-
-enum-known-r : tie.Need-enum-known-r
-enum-known-r c = search needs
-
-refused-requires : tie.Need-refused-requires
-refused-requires c κs = search needs
-
 returns : tie.Need-returns
 returns c =
     let g = c .before .before .count .given in
@@ -34,11 +19,5 @@ returns-2 c =
 pub meshpigeon-directory-spec : {M : Type 1} → statement M
 meshpigeon-directory-spec =
     tie.close
-    (tie.spec
-    judge-directory-requires
-    enum-known-count
-    nothing-refused-requires
-    enum-known-r
-    refused-requires
-    returns
-    returns-2)
+    (tie.spec (λ c κs. search needs) (λ c. search needs) (λ c κs. search needs) (λ c. search needs)
+    (λ c κs. search needs) returns returns-2)

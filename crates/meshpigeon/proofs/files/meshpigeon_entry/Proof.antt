@@ -5,21 +5,6 @@ use borrow.Author.Needs.{needs}
 use Rattle.meshpigeon.proofs.files.meshpigeon_entry.Statement.{statement}
 use Rattle.meshpigeon.proofs.files.meshpigeon_entry.Tie as tie
 
-find-entry-requires : tie.Need-find-entry-requires
-find-entry-requires c κs = search needs
-
-enum-known-offset : tie.Need-enum-known-offset
-enum-known-offset c = search needs
-
-nothing-refused-requires : tie.Need-nothing-refused-requires
-nothing-refused-requires c κs = search needs
-
-enum-known-r : tie.Need-enum-known-r
-enum-known-r c = search needs
-
-refused-requires : tie.Need-refused-requires
-refused-requires c κs = search needs
-
 returns : tie.Need-returns
 returns c =
     let g = c .before .before .offset .given in
@@ -34,11 +19,5 @@ returns-2 c =
 pub meshpigeon-entry-spec : {M : Type 1} → statement M
 meshpigeon-entry-spec =
     tie.close
-    (tie.spec
-    find-entry-requires
-    enum-known-offset
-    nothing-refused-requires
-    enum-known-r
-    refused-requires
-    returns
-    returns-2)
+    (tie.spec (λ c κs. search needs) (λ c. search needs) (λ c κs. search needs) (λ c. search needs)
+    (λ c κs. search needs) returns returns-2)

@@ -5,21 +5,6 @@ use borrow.Author.Needs.{needs}
 use Rattle.meshpigeon.proofs.files.meshpigeon_find_map.Statement.{statement}
 use Rattle.meshpigeon.proofs.files.meshpigeon_find_map.Tie as tie
 
-find-map-requires : tie.Need-find-map-requires
-find-map-requires c κs = search needs
-
-enum-known-marker : tie.Need-enum-known-marker
-enum-known-marker c = search needs
-
-nothing-refused-requires : tie.Need-nothing-refused-requires
-nothing-refused-requires c κs = search needs
-
-enum-known-r : tie.Need-enum-known-r
-enum-known-r c = search needs
-
-refused-requires : tie.Need-refused-requires
-refused-requires c κs = search needs
-
 returns : tie.Need-returns
 returns c =
     let g = c .before .before .marker .given in
@@ -34,11 +19,5 @@ returns-2 c =
 pub meshpigeon-find-map-spec : {M : Type 1} → statement M
 meshpigeon-find-map-spec =
     tie.close
-    (tie.spec
-    find-map-requires
-    enum-known-marker
-    nothing-refused-requires
-    enum-known-r
-    refused-requires
-    returns
-    returns-2)
+    (tie.spec (λ c κs. search needs) (λ c. search needs) (λ c κs. search needs) (λ c. search needs)
+    (λ c κs. search needs) returns returns-2)

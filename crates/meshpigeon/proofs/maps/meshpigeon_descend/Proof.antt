@@ -18,21 +18,6 @@ asked c =
     let y = toZ-ofZ w16 (e .args .y) (e .fits .y) in
     c .descend .ensures ∙ λ i. descent (now (e .args .nodes)) (e .args .subsectors) (x i) (y i)
 
-descend-requires : tie.Need-descend-requires
-descend-requires c κs = search needs
-
-enum-known-subsector : tie.Need-enum-known-subsector
-enum-known-subsector c = search needs
-
-nothing-refused-requires : tie.Need-nothing-refused-requires
-nothing-refused-requires c κs = search needs
-
-enum-known-r : tie.Need-enum-known-r
-enum-known-r c = search needs
-
-refused-requires : tie.Need-refused-requires
-refused-requires c κs = search needs
-
 returns : tie.Need-returns
 returns c =
     let g = c .before .before .subsector .given in
@@ -47,11 +32,5 @@ returns-2 c =
 pub meshpigeon-descend-spec : {M : Type 1} → statement M
 meshpigeon-descend-spec =
     tie.close
-    (tie.spec
-    descend-requires
-    enum-known-subsector
-    nothing-refused-requires
-    enum-known-r
-    refused-requires
-    returns
-    returns-2)
+    (tie.spec (λ c κs. search needs) (λ c. search needs) (λ c κs. search needs) (λ c. search needs)
+    (λ c κs. search needs) returns returns-2)

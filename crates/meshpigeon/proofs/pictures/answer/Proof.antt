@@ -5,18 +5,6 @@ use borrow.Author.Needs.{needs}
 use Rattle.meshpigeon.proofs.pictures.answer.Statement.{statement}
 use Rattle.meshpigeon.proofs.pictures.answer.Tie as tie
 
-enum-known-judged : tie.Need-enum-known-judged
-enum-known-judged c = search needs
-
-nothing-refused-requires : tie.Need-nothing-refused-requires
-nothing-refused-requires c κs = search needs
-
-enum-known-judged-2 : tie.Need-enum-known-judged-2
-enum-known-judged-2 c = search needs
-
-refused-requires : tie.Need-refused-requires
-refused-requires c κs = search needs
-
 returns : tie.Need-returns
 returns c =
     let g = c .before .before .judged .given in
@@ -29,10 +17,5 @@ returns-2 c =
 pub answer-spec : {M : Type 1} → statement M
 answer-spec =
     tie.close
-    (tie.spec
-    enum-known-judged
-    nothing-refused-requires
-    enum-known-judged-2
-    refused-requires
-    returns
-    returns-2)
+    (tie.spec (λ c. search needs) (λ c κs. search needs) (λ c. search needs) (λ c κs. search needs)
+    returns returns-2)

@@ -6,14 +6,9 @@ use borrow.Author.Needs.{needs}
 use Rattle.meshpigeon.proofs.pictures.meshpigeon_judge_picture.Statement.{statement}
 use Rattle.meshpigeon.proofs.pictures.meshpigeon_judge_picture.Tie as tie
 
-judge-requires : tie.Need-judge-requires
-judge-requires c κs = search needs
-
-answer-requires : tie.Need-answer-requires
-answer-requires c κs = search needs
-
 returns : tie.Need-returns
 returns c = c .answer .ensures ∙ ap pictureOut (c .before .judge .ensures)
 
 pub meshpigeon-judge-picture-spec : {M : Type 1} → statement M
-meshpigeon-judge-picture-spec = tie.close (tie.spec judge-requires answer-requires returns)
+meshpigeon-judge-picture-spec =
+    tie.close (tie.spec (λ c κs. search needs) (λ c κs. search needs) returns)

@@ -6,18 +6,6 @@ use borrow.Author.Needs.{needs}
 use Rattle.meshpigeon.proofs.pictures.meshpigeon_paint_picture.Statement.{statement}
 use Rattle.meshpigeon.proofs.pictures.meshpigeon_paint_picture.Tie as tie
 
-paint-requires : tie.Need-paint-requires
-paint-requires c κs = search needs
-
-answer-requires : tie.Need-answer-requires
-answer-requires c κs = search needs
-
-same-length : tie.Need-same-length
-same-length c = search needs
-
-same-length-2 : tie.Need-same-length-2
-same-length-2 c = search needs
-
 returns : tie.Need-returns
 returns c =
     let painted = c .before .before .before .before .before .paint .ensures in
@@ -29,4 +17,6 @@ returns c =
 
 pub meshpigeon-paint-picture-spec : {M : Type 1} → statement M
 meshpigeon-paint-picture-spec =
-    tie.close (tie.spec paint-requires answer-requires same-length same-length-2 returns)
+    tie.close
+    (tie.spec (λ c κs. search needs) (λ c κs. search needs) (λ c. search needs) (λ c. search needs)
+    returns)

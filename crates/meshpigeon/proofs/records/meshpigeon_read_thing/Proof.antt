@@ -6,16 +6,11 @@ use borrow.Author.Needs.{needs}
 use Rattle.meshpigeon.proofs.records.meshpigeon_read_thing.Statement.{statement}
 use Rattle.meshpigeon.proofs.records.meshpigeon_read_thing.Tie as tie
 
-read-requires : tie.Need-read-requires
-read-requires c κs = search needs
-
-status-of-requires : tie.Need-status-of-requires
-status-of-requires c κs = search needs
-
 returns : tie.Need-returns
 returns c =
     let read = c .before .before .read in
     (λ i. record { status = c .status-of .ensures i; thing = read .result .thing }) ∙ ap thingOut (read .ensures)
 
 pub meshpigeon-read-thing-spec : {M : Type 1} → statement M
-meshpigeon-read-thing-spec = tie.close (tie.spec read-requires status-of-requires returns)
+meshpigeon-read-thing-spec =
+    tie.close (tie.spec (λ c κs. search needs) (λ c κs. search needs) returns)

@@ -6,15 +6,6 @@ use borrow.Author.Needs.{needs}
 use Rattle.meshpigeon.proofs.records.meshpigeon_write_node.Statement.{statement}
 use Rattle.meshpigeon.proofs.records.meshpigeon_write_node.Tie as tie
 
-write-requires : tie.Need-write-requires
-write-requires c κs = search needs
-
-status-of-requires : tie.Need-status-of-requires
-status-of-requires c κs = search needs
-
-same-length : tie.Need-same-length
-same-length c = search needs
-
 returns : tie.Need-returns
 returns c =
     let write = c .before .before .before .write in
@@ -22,4 +13,4 @@ returns c =
 
 pub meshpigeon-write-node-spec : {M : Type 1} → statement M
 meshpigeon-write-node-spec =
-    tie.close (tie.spec write-requires status-of-requires same-length returns)
+    tie.close (tie.spec (λ c κs. search needs) (λ c κs. search needs) (λ c. search needs) returns)

@@ -3,18 +3,11 @@ use borrow.Author.Needs.{needs}
 use Rattle.meshpigeon.proofs.status.refused.Statement.{statement}
 use Rattle.meshpigeon.proofs.status.refused.Tie as tie
 
-number-requires : tie.Need-number-requires
-number-requires c κs = search needs
-
-place-requires : tie.Need-place-requires
-place-requires c κs = search needs
-
-index-requires : tie.Need-index-requires
-index-requires c κs = search needs
-
 returns : tie.Need-returns
 returns c =
     λ i. record { number = c .before .before .number .ensures i; place = c .before .place .ensures i; item = c .index .ensures i }
 
 pub refused-spec : {M : Type 1} → statement M
-refused-spec = tie.close (tie.spec number-requires place-requires index-requires returns)
+refused-spec =
+    tie.close
+    (tie.spec (λ c κs. search needs) (λ c κs. search needs) (λ c κs. search needs) returns)

@@ -11,15 +11,6 @@ use Rattle.wad.proofs.entries.directory_of.Tie as tie
 head-of-requires : tie.Need-head-of-requires
 head-of-requires c κs = file-sound (now (c .before .args .wad)) (c .before .pre) .low
 
-start-of-requires : tie.Need-start-of-requires
-start-of-requires c κs = search needs
-
-count-of-requires : tie.Need-count-of-requires
-count-of-requires c κs = search needs
-
-mul-part : tie.Need-mul-part
-mul-part c = search needs
-
 part-requires : tie.Need-part-requires
 part-requires c κs =
     let e = c .before .before .before .before in
@@ -36,4 +27,5 @@ returns c =
 pub directory-of-spec : {M : Type 1} → statement M
 directory-of-spec =
     tie.close
-    (tie.spec head-of-requires start-of-requires count-of-requires mul-part part-requires returns)
+    (tie.spec head-of-requires (λ c κs. search needs) (λ c κs. search needs) (λ c. search needs)
+    part-requires returns)

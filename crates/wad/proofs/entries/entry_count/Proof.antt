@@ -10,11 +10,8 @@ use Rattle.wad.proofs.entries.entry_count.Tie as tie
 head-of-requires : tie.Need-head-of-requires
 head-of-requires c κs = file-sound (now (c .before .args .wad)) (c .before .pre) .low
 
-count-of-requires : tie.Need-count-of-requires
-count-of-requires c κs = search needs
-
 returns : tie.Need-returns
 returns c = c .count-of .ensures .0 ∙ ap countOf (c .before .head-of .ensures .0)
 
 pub entry-count-spec : {M : Type 1} → statement M
-entry-count-spec = tie.close (tie.spec head-of-requires count-of-requires returns)
+entry-count-spec = tie.close (tie.spec head-of-requires (λ c κs. search needs) returns)

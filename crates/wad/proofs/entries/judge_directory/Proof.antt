@@ -12,28 +12,13 @@ use Rattle.wad.proofs.entries.judge_directory.Tie as tie
 passes : (c : tie.After-enum-told) → fileCheck (now (c .before .before .before .before .args .wad)) ≡ Pass
 passes c = sym (c .before .before .judge-file .ensures) ∙ c .enum-told .given .1
 
-judge-file-requires : tie.Need-judge-file-requires
-judge-file-requires c κs = search needs
-
-enum-known-r : tie.Need-enum-known-r
-enum-known-r c = search needs
-
 returns : tie.Need-returns
 returns c = not-listed _ _ (sym (c .before .before .before .judge-file .ensures) ∙ c .before .r .given .1)
-
-enum-told : tie.Need-enum-told
-enum-told c = search needs
 
 head-of-requires : tie.Need-head-of-requires
 head-of-requires c κs =
     let wad = now (c .before .before .before .before .args .wad) in
     file-sound wad (file-header wad (passes c)) .low
-
-count-of-requires : tie.Need-count-of-requires
-count-of-requires c κs = search needs
-
-start-of-requires : tie.Need-start-of-requires
-start-of-requires c κs = search needs
 
 returns-2 : tie.Need-returns-2
 returns-2 c =
@@ -43,12 +28,5 @@ returns-2 c =
 pub judge-directory-spec : {M : Type 1} → statement M
 judge-directory-spec =
     tie.close
-    (tie.spec
-    judge-file-requires
-    enum-known-r
-    returns
-    enum-told
-    head-of-requires
-    count-of-requires
-    start-of-requires
-    returns-2)
+    (tie.spec (λ c κs. search needs) (λ c. search needs) returns (λ c. search needs)
+    head-of-requires (λ c κs. search needs) (λ c κs. search needs) returns-2)

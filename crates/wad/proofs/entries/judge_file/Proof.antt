@@ -19,17 +19,8 @@ passes : (c : tie.After-enum-told)
     → headerCheck (length (now (c .before .before .before .before .args .wad))) (headOf (now (c .before .before .before .before .args .wad))) ≡ Pass
 passes c = sym (c .before .before .judge-header .ensures) ∙ c .enum-told .given .1
 
-judge-header-requires : tie.Need-judge-header-requires
-judge-header-requires c κs = search needs
-
-enum-known-r : tie.Need-enum-known-r
-enum-known-r c = search needs
-
 returns : tie.Need-returns
 returns c = refused-then _ (sym (c .before .before .before .judge-header .ensures) ∙ c .before .r .given .1)
-
-enum-told : tie.Need-enum-told
-enum-told c = search needs
 
 directory-of-requires : tie.Need-directory-of-requires
 directory-of-requires c κs = passes c
@@ -54,12 +45,5 @@ returns-2 c =
 pub judge-file-spec : {M : Type 1} → statement M
 judge-file-spec =
     tie.close
-    (tie.spec
-    judge-header-requires
-    enum-known-r
-    returns
-    enum-told
-    directory-of-requires
-    entry-count-requires
-    judge-entries-requires
-    returns-2)
+    (tie.spec (λ c κs. search needs) (λ c. search needs) returns (λ c. search needs)
+    directory-of-requires entry-count-requires judge-entries-requires returns-2)

@@ -14,12 +14,6 @@ returns c = simp (lt-leb _ _ (c .if1 .taken))
 returns-2 : tie.Need-returns-2
 returns-2 c = simp (le-leb _ _ (c .before .if1 .left), lt-leb _ _ (c .if2 .taken))
 
-head-of-requires : tie.Need-head-of-requires
-head-of-requires c κs = search needs
-
-judge-fields-requires : tie.Need-judge-fields-requires
-judge-fields-requires c κs = search needs
-
 returns-3 : tie.Need-returns-3
 returns-3 c =
     let len = length (now (c .before .before .before .before .before .args .wad)) in
@@ -29,4 +23,4 @@ returns-3 c =
 
 pub judge-header-spec : {M : Type 1} → statement M
 judge-header-spec =
-    tie.close (tie.spec returns returns-2 head-of-requires judge-fields-requires returns-3)
+    tie.close (tie.spec returns returns-2 (λ c κs. search needs) (λ c κs. search needs) returns-3)

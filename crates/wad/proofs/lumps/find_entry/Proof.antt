@@ -13,19 +13,10 @@ use Rattle.wad.proofs.lumps.find_entry.Tie as tie
 passes : (c : tie.After-enum-told) → fileCheck (now (c .before .before .before .before .args .wad)) ≡ Pass
 passes c = sym (c .before .before .judge-file .ensures) ∙ c .enum-told .given .1
 
-judge-file-requires : tie.Need-judge-file-requires
-judge-file-requires c κs = search needs
-
-enum-known-r : tie.Need-enum-known-r
-enum-known-r c = search needs
-
 returns : tie.Need-returns
 returns c =
     let a = c .before .before .before .before .before .args in
     entry-refused (now (a .wad)) (a .number) (sym (c .before .before .before .judge-file .ensures) ∙ c .before .r .given .1)
-
-enum-told : tie.Need-enum-told
-enum-told c = search needs
 
 entry-count-requires : tie.Need-entry-count-requires
 entry-count-requires c κs = file-header (now (c .before .before .before .before .args .wad)) (passes c)
@@ -39,12 +30,6 @@ directory-of-requires : tie.Need-directory-of-requires
 directory-of-requires c κs =
     file-header (now (c .before .before .before .before .before .before .args .wad)) (passes (c .before .before))
 
-offset-of-requires : tie.Need-offset-of-requires
-offset-of-requires c κs = search needs
-
-size-of-requires : tie.Need-size-of-requires
-size-of-requires c κs = search needs
-
 returns-3 : tie.Need-returns-3
 returns-3 c =
     let a = c .before .before .before .before .before .before .before .before .before .args in
@@ -55,14 +40,6 @@ returns-3 c =
 pub find-entry-spec : {M : Type 1} → statement M
 find-entry-spec =
     tie.close
-    (tie.spec
-    judge-file-requires
-    enum-known-r
-    returns
-    enum-told
-    entry-count-requires
-    returns-2
-    directory-of-requires
-    offset-of-requires
-    size-of-requires
-    returns-3)
+    (tie.spec (λ c κs. search needs) (λ c. search needs) returns (λ c. search needs)
+    entry-count-requires returns-2 directory-of-requires (λ c κs. search needs)
+    (λ c κs. search needs) returns-3)

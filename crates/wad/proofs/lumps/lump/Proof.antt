@@ -6,27 +6,6 @@ use borrow.Author.Needs.{needs}
 use Rattle.wad.proofs.lumps.lump.Statement.{statement}
 use Rattle.wad.proofs.lumps.lump.Tie as tie
 
-find-entry-requires : tie.Need-find-entry-requires
-find-entry-requires c κs = search needs
-
-enum-known-offset : tie.Need-enum-known-offset
-enum-known-offset c = search needs
-
-part-if-requires : tie.Need-part-if-requires
-part-if-requires c κs = search needs
-
-enum-told : tie.Need-enum-told
-enum-told c = search needs
-
-sub-result : tie.Need-sub-result
-sub-result c = search needs
-
-part-result-start : tie.Need-part-result-start
-part-result-start c = search needs
-
-part-result-end : tie.Need-part-result-end
-part-result-end c = search needs
-
 returns : tie.Need-returns
 returns c =
     let a = c .before .before .before .before .before .before .args in
@@ -41,13 +20,5 @@ returns-2 c =
 pub lump-spec : {M : Type 1} → statement M
 lump-spec =
     tie.close
-    (tie.spec
-    find-entry-requires
-    enum-known-offset
-    part-if-requires
-    enum-told
-    sub-result
-    part-result-start
-    part-result-end
-    returns
-    returns-2)
+    (tie.spec (λ c κs. search needs) (λ c. search needs) (λ c κs. search needs) (λ c. search needs)
+    (λ c. search needs) (λ c. search needs) (λ c. search needs) returns returns-2)

@@ -16,22 +16,10 @@ use Rattle.wad.proofs.map.find_map.Tie as tie
 passes : (c : tie.After-enum-told) → fileCheck (now (c .before .before .before .before .before .args .wad)) ≡ Pass
 passes c = sym (c .before .before .judge-file .ensures) ∙ c .enum-told .given .1
 
-judge-file-requires : tie.Need-judge-file-requires
-judge-file-requires c κs = search needs
-
-enum-known-r : tie.Need-enum-known-r
-enum-known-r c = search needs
-
 returns : tie.Need-returns
 returns c =
     let a = c .before .before .before .before .before .before .args in
     marker-refused (now (a .wad)) (now (a .name)) (sym (c .before .before .before .judge-file .ensures) ∙ c .before .r .given .1)
-
-enum-told : tie.Need-enum-told
-enum-told c = search needs
-
-map-name-ok-requires : tie.Need-map-name-ok-requires
-map-name-ok-requires c κs = search needs
 
 directory-of-requires : tie.Need-directory-of-requires
 directory-of-requires c κs =
@@ -65,14 +53,6 @@ returns-3 c =
 pub find-map-spec : {M : Type 1} → statement M
 find-map-spec =
     tie.close
-    (tie.spec
-    judge-file-requires
-    enum-known-r
-    returns
-    enum-told
-    map-name-ok-requires
-    directory-of-requires
-    entry-count-requires
-    last-named-requires
-    returns-2
+    (tie.spec (λ c κs. search needs) (λ c. search needs) returns (λ c. search needs)
+    (λ c κs. search needs) directory-of-requires entry-count-requires last-named-requires returns-2
     returns-3)

@@ -17,24 +17,6 @@ Inv-loop dir count name left₀ left = (left ≤ count) × (findMarker dir name 
 abbrev μ-loop : tie.MeasureT-loop
 μ-loop dir count name left₀ left = left
 
-loop-holds : tie.Need-loop-holds Inv-loop μ-loop
-loop-holds c = search needs
-
-sub-left : tie.Need-sub-left Inv-loop μ-loop
-sub-left c = search needs
-
-mul-part : tie.Need-mul-part Inv-loop μ-loop
-mul-part c = search needs
-
-add-part : tie.Need-add-part Inv-loop μ-loop
-add-part c = search needs
-
-part-requires : tie.Need-part-requires Inv-loop μ-loop
-part-requires c κs = search needs
-
-same-name-requires : tie.Need-same-name-requires Inv-loop μ-loop
-same-name-requires c κs = search needs
-
 returns : tie.Need-returns Inv-loop μ-loop
 returns c =
     let a = c .before .before .before .before .before .before .before .args in
@@ -42,9 +24,6 @@ returns c =
     let k : l .left ≡ suc (l .left - 1) = omega arith in
     let same = c .before .same-name .ensures ∙ ap (λ (n : List ℕ). sameName n (now (a .name))) (c .before .before .part .ensures .0) in
     sym (l .inv .1 ∙ findMarker-found (now (a .dir)) (now (a .name)) (l .left - 1) (l .left) k same (c .if1 .taken))
-
-loop-less : tie.Need-loop-less Inv-loop μ-loop
-loop-less c = search needs
 
 loop-again : tie.Need-loop-again Inv-loop μ-loop
 loop-again c =
@@ -66,16 +45,6 @@ returns-2 c =
 pub last-named-spec : {M : Type 1} → statement M
 last-named-spec =
     tie.close
-    (tie.spec
-    Inv-loop
-    μ-loop
-    loop-holds
-    sub-left
-    mul-part
-    add-part
-    part-requires
-    same-name-requires
-    returns
-    loop-less
-    loop-again
-    returns-2)
+    (tie.spec Inv-loop μ-loop (λ c. search needs) (λ c. search needs) (λ c. search needs)
+    (λ c. search needs) (λ c κs. search needs) (λ c κs. search needs) returns (λ c. search needs)
+    loop-again returns-2)

@@ -8,18 +8,6 @@ use borrow.Author.Needs.{needs}
 use Rattle.wad.proofs.parts.part.Statement.{statement}
 use Rattle.wad.proofs.parts.part.Tie as tie
 
-add-result : tie.Need-add-result
-add-result c = search needs
-
-sub-result : tie.Need-sub-result
-sub-result c = search needs
-
-part-result-start : tie.Need-part-result-start
-part-result-start c = search needs
-
-part-result-end : tie.Need-part-result-end
-part-result-end c = search needs
-
 returns : tie.Need-returns
 returns c =
     let a = c .before .args in
@@ -27,4 +15,7 @@ returns c =
     rw e (refl, length-part (now (a .s)) (a .at) (a .n) (c .before .pre))
 
 pub part-spec : {M : Type 1} → statement M
-part-spec = tie.close (tie.spec add-result sub-result part-result-start part-result-end returns)
+part-spec =
+    tie.close
+    (tie.spec (λ c. search needs) (λ c. search needs) (λ c. search needs) (λ c. search needs)
+    returns)
