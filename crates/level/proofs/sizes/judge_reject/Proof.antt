@@ -12,6 +12,8 @@ mul-pass-if c = let h : c .args .sectors * c .args .sectors ≤ 65535 * 65535 = 
 add-pass-if : tie.Need-add-pass-if
 add-pass-if c = let h : c .args .sectors * c .args .sectors ≤ 65535 * 65535 = mul-le-mul (c .pre) (c .pre) in omega arith
 
+returns : tie.Need-returns
+returns c = search needs
+
 pub judge-reject-spec : {M : Type 1} → statement M
-judge-reject-spec =
-    tie.close (tie.spec mul-pass-if add-pass-if (λ c κs. search needs) (λ c. search needs))
+judge-reject-spec = tie.close (tie.spec mul-pass-if add-pass-if (λ c κs. search needs) returns)
