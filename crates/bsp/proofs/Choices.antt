@@ -5,14 +5,11 @@ use mathlib.Core.Path.{_≡_, refl}
 use native.Mathlib.Nat.{le-max-left, le-max-right, max-eq-left, max-eq-right}
 use native.Mathlib.Decide.{decLe}
 use native.Mathlib.Omega.{arith}
+use Rattle.refusal.proofs.Checks.{both}
 use Rattle.bsp.specs.declared.Choice.{Choice}
 use Rattle.bsp.specs.declared.Choice.the-variants.{Right, Left}
 
 -- both parts of an `&&`
-pub both : (a b : Bool) → (a && b) ≡ true → (a ≡ true) × (b ≡ true)
-both true b e = (refl, e)
-both false b e = let z : _≡_ {A = ℕ} 0 1 = cc in absurd (omega arith)
-
 module _ (f : Choice → Bool) where
   some-by : (r : Bool) → f Right ≡ r → (r || f Left) ≡ true → (c : Choice) × (f c ≡ true)
   some-by true q e = (Right, q)

@@ -10,12 +10,13 @@ use native.Mathlib.Nat.{le-trans, lt-of-not-le}
 use native.Mathlib.Omega.{arith}
 use borrow.Author.Tests.{ltb-true, ltb-false, lt-ltb, le-ltb}
 use lib.ListN.{length}
+use Rattle.refusal.proofs.Checks.{both}
 use Rattle.bsp.specs.declared.Choice.{Choice}
 use Rattle.bsp.specs.declared.Choice.the-variants.{Right, Left}
 use Rattle.bsp.specs.Nodes.{subsectorBit, isNode, childOf}
 use Rattle.bsp.specs.Routes.{Follow}
 use Rattle.bsp.specs.Heights.{stands, height}
-use Rattle.bsp.proofs.Choices.{both, some-choice, choice-some, no-choice, choice-none, le-larger, larger-is}
+use Rattle.bsp.proofs.Choices.{some-choice, choice-some, no-choice, choice-none, le-larger, larger-is}
 
 -- a list of `k` choices from `w`, and the word that it leads to
 pub record Made (nodes : List ℕ) (w k : ℕ) : Type 0 where

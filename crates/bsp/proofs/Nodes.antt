@@ -6,9 +6,9 @@ use mathlib.Core.Path.{_≡_}
 use native.Mathlib.Omega.{arith}
 use borrow.Author.Tests.{ltb-true, lt-ltb}
 use lib.ListN.{length}
+use Rattle.refusal.proofs.Checks.{both}
 use Rattle.bsp.specs.declared.Choice.the-variants.{Right, Left}
 use Rattle.bsp.specs.Nodes.{nodesOf, subsectorBit, root, childOf, childOk, nodeOk, ChildrenInRange, NodesInRange}
-use Rattle.bsp.proofs.Choices.{both}
 
 -- a word in range that is a node is one of the lump's
 pub childOk-node : (count subsectors w : ℕ) → childOk count subsectors w ≡ true → w < subsectorBit → w < count

@@ -10,6 +10,7 @@ use native.Mathlib.Omega.{arith}
 use borrow.Author.Tests.{eqb-true, ltb-false, lt-ltb, le-ltb}
 use lib.IntN.{ℤ}
 use lib.ListN.{length}
+use Rattle.refusal.proofs.Checks.{both}
 use Rattle.refusal.specs.declared.Refusal.the-variants.{DescentNodes, DescentSubsectors, DescentChild, DescentLoop}
 use Rattle.bsp.specs.declared.Choice.{Choice}
 use Rattle.bsp.specs.declared.Descent.{Descent}
@@ -18,7 +19,7 @@ use Rattle.bsp.specs.Nodes.{nodesOf, subsectorBit, root, childOf, childO
 use Rattle.bsp.specs.Heights.{stands, height}
 use Rattle.bsp.specs.Side.{sideAt, chosen}
 use Rattle.bsp.specs.Walks.{Walk, ends, goes, descentFrom, nodesOk, subsectorsOk, descent}
-use Rattle.bsp.proofs.Choices.{both, le-larger}
+use Rattle.bsp.proofs.Choices.{le-larger}
 use Rattle.bsp.proofs.Nodes.{childOk-node}
 use Rattle.bsp.proofs.Heights.{node-or-end, stands-none, stands-child, height-node}
 

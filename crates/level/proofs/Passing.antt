@@ -10,11 +10,10 @@ use lib.ListN.{length}
 use Rattle.refusal.specs.declared.Check.the-variants.{Pass}
 use Rattle.refusal.specs.declared.Refusal.the-variants.{MarkerRun, HexenMap, RecordSize, RecordCount, NodeReference, WorkWords}
 use Rattle.refusal.specs.Checks.{unless, _andThen_, each}
-use Rattle.refusal.proofs.Checks.{andThen-pass, unless-pass, each-pass}
+use Rattle.refusal.proofs.Checks.{both, andThen-pass, unless-pass, each-pass}
 use Rattle.wad.specs.Entries.{nameAt}
 use Rattle.wad.specs.Lump.{sizeOf as entrySize}
 use Rattle.name.specs.Names.{sameName}
-use Rattle.wad.proofs.Listing.{and-true}
 use Rattle.table.specs.Lumps.{nameOf, leastOf, mostOf}
 use Rattle.bsp.specs.Nodes.{nodesOf, nodeOk}
 use Rattle.graph.specs.Judging.{Judgeable}
@@ -37,7 +36,7 @@ run-long dir count marker e =
     let nine : 9 < 10 = omega arith in
     let last = each-pass (rowCheck dir count marker) 10 (q .0) 9 nine in
     let named = unless-pass (namedOk dir count (marker + 1 + 9) (nameOf 9)) (MarkerRun 10) last in
-    let there = ltb-true (marker + 1 + 9) count (and-true (ltb (marker + 1 + 9) count) (sameName (nameAt dir (marker + 1 + 9)) (nameOf 9)) named .0) in
+    let there = ltb-true (marker + 1 + 9) count (both (ltb (marker + 1 + 9) count) (sameName (nameAt dir (marker + 1 + 9)) (nameOf 9)) named .0) in
     omega arith
 
 -- ---- 20 and 21: sizes and counts
@@ -49,13 +48,13 @@ module _ (lumps : List (List ℕ)) (e : each (sizeCheck lumps) 8 ≡ Pass) where
       (unless-pass (wholeOk lumps i) (RecordSize (i + 1)) (p .0), unless-pass (countOk lumps i) (RecordCount (i + 1)) (p .1))
 
   limits : (i : ℕ) → i < 8 → (leb (leastOf i) (countOf lumps i) && leb (countOf lumps i) (mostOf i)) ≡ true
-  limits i h = and-true (leb (leastOf i) (countOf lumps i) && leb (countOf lumps i) (mostOf i)) (aloneOk lumps i) (sized i h .1) .0
+  limits i h = both (leb (leastOf i) (countOf lumps i) && leb (countOf lumps i) (mostOf i)) (aloneOk lumps i) (sized i h .1) .0
 
   pub count-least : (i : ℕ) → i < 8 → leastOf i ≤ countOf lumps i
-  count-least i h = leb-true (leastOf i) (countOf lumps i) (and-true (leb (leastOf i) (countOf lumps i)) (leb (countOf lumps i) (mostOf i)) (limits i h) .0)
+  count-least i h = leb-true (leastOf i) (countOf lumps i) (both (leb (leastOf i) (countOf lumps i)) (leb (countOf lumps i) (mostOf i)) (limits i h) .0)
 
   pub count-most : (i : ℕ) → i < 8 → countOf lumps i ≤ mostOf i
-  count-most i h = leb-true (countOf lumps i) (mostOf i) (and-true (leb (leastOf i) (countOf lumps i)) (leb (countOf lumps i) (mostOf i)) (limits i h) .1)
+  count-most i h = leb-true (countOf lumps i) (mostOf i) (both (leb (leastOf i) (countOf lumps i)) (leb (countOf lumps i) (mostOf i)) (limits i h) .1)
 
   pub nodes-whole : 28 * nodesOf (lumpOf lumps 6) ≡ length (lumpOf lumps 6)
   nodes-whole = let z : length (lumpOf lumps 6) % 28 ≡ 0 = eqb-true (length (lumpOf lumps 6) % 28) 0 (sized 6 (omega arith) .0) in omega arith
@@ -67,7 +66,7 @@ module _ (lumps : List (List ℕ)) (e : each (sizeCheck lumps) 8 ≡ Pass) where
   -- without nodes there is one subsector
   pub nodes-alone : nodesOf (lumpOf lumps 6) ≡ 0 → countOf lumps 5 ≡ 1
   nodes-alone z =
-      let both = and-true (leb (leastOf 6) (countOf lumps 6) && leb (countOf lumps 6) (mostOf 6)) (aloneOk lumps 6) (sized 6 (omega arith) .1) in
+      let both = both (leb (leastOf 6) (countOf lumps 6) && leb (countOf lumps 6) (mostOf 6)) (aloneOk lumps 6) (sized 6 (omega arith) .1) in
       eqb-true (countOf lumps 5) 1
       (alone-by (ltb 0 (nodesOf (lumpOf lumps 6))) (eqb (countOf lumps 5) 1) refl (both .1) z)
 

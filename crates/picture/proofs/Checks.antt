@@ -13,17 +13,13 @@ use Rattle.refusal.specs.declared.Refusal.{Refusal}
 use Rattle.refusal.specs.declared.Check.{Check}
 use Rattle.refusal.specs.declared.Check.the-variants.{Pass, Refused}
 use Rattle.refusal.specs.Checks.{unless, _andThen_}
-use Rattle.refusal.proofs.Checks.{unless-pass, andThen-pass}
+use Rattle.refusal.proofs.Checks.{both, unless-pass, andThen-pass}
 use Rattle.picture.specs.Layout.{widthOf, heightOf, areaOf, tableEnd}
 use Rattle.picture.specs.Judging.{sizeOk, headerCheck, roomCheck, columnsCheck, paintCheck, answerOf}
 use Rattle.picture.specs.declared.Picture.{Picture}
 use Rattle.picture.specs.Pixels.{byColour, byCover, planeOf, bufferAfter, Painted}
 use Rattle.picture.specs.declared.Judged.{Judged}
 use Rattle.picture.specs.declared.Judged.the-variants.{Accepted, Refused as NotAccepted}
-
-pub both : (a b : Bool) → a && b ≡ true → (a ≡ true) × (b ≡ true)
-both true b e = (refl, e)
-both false b e = (e, let z : _≡_ {A = ℕ} 0 1 = cc in absurd (omega arith))
 
 pub record Header (lump : List ℕ) : Type 0 where
   pub long : 8 ≤ length lump

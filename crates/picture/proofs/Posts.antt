@@ -11,11 +11,10 @@ use Rattle.refusal.specs.declared.Refusal.the-variants.{PostBounds, PostRows}
 use Rattle.refusal.specs.declared.Check.{Check}
 use Rattle.refusal.specs.declared.Check.the-variants.{Pass, Refused}
 use Rattle.refusal.specs.Checks.{unless, _andThen_}
-use Rattle.refusal.proofs.Checks.{unless-pass, andThen-pass}
+use Rattle.refusal.proofs.Checks.{both, unless-pass, andThen-pass}
 use Rattle.picture.specs.Layout.{startAt, endRow, postEnd, Skips, stay, step}
 use Rattle.picture.specs.Judging.{postsCheck, rowsOk}
 use Rattle.picture.specs.Pixels.{overPost, overPosts}
-use Rattle.picture.proofs.Checks.{both}
 use lib.Dec.{leb, ltb}
 
 pub skips-on : {lump : List ℕ} {row from to : ℕ} → Skips lump row from to → from ≤ to

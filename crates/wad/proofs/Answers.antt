@@ -15,7 +15,7 @@ use Rattle.refusal.specs.declared.Refusal.the-variants.{EntryBounds, EntryNumbe
 use Rattle.refusal.specs.declared.Check.{Check}
 use Rattle.refusal.specs.declared.Check.the-variants.{Pass, Refused}
 use Rattle.refusal.specs.Checks.{unless, _andThen_, each}
-use Rattle.refusal.proofs.Checks.{andThen-pass, unless-pass, each-pass}
+use Rattle.refusal.proofs.Checks.{both, andThen-pass, unless-pass, each-pass}
 use Rattle.wad.specs.declared.lumps.Entry.{Entry}
 use Rattle.wad.specs.declared.lumps.Entry.the-variants.{At, Refused as NotThere}
 use Rattle.wad.specs.declared.map.Marker.{Marker}
@@ -26,7 +26,7 @@ use Rattle.wad.specs.Entries.{directoryOf, offsetAt, sizeAt, insideOk, e
 use Rattle.wad.specs.Lump.{sizeOf, offsetOf, placed, entryAnswer, partOf, HandedWhole}
 use Rattle.wad.specs.Map.{findMarker, found, markerAnswer}
 use Rattle.wad.proofs.Slices.{length-part, partIf-inside}
-use Rattle.wad.proofs.Listing.{and-true, between-natural}
+use Rattle.wad.proofs.Listing.{between-natural}
 
 module _ (wad : List ℕ) (i : ℕ) where
   abbrev pub answered : Check → Entry
@@ -66,7 +66,7 @@ module _ (wad name : List ℕ) where
 
 -- a map's name has eight bytes
 pub mapNameOk-length : (name : List ℕ) → mapNameOk name ≡ true → length name ≡ 8
-mapNameOk-length name e = eqb-true (length name) 8 (and-true (eqb (length name) 8) (episodeName name || numberedName name) e .0)
+mapNameOk-length name e = eqb-true (length name) 8 (both (eqb (length name) 8) (episodeName name || numberedName name) e .0)
 
 -- ---- an entry that is not refused
 
@@ -82,7 +82,7 @@ inside-by len offset size true e h =
     rw (z) (omega arith)
 inside-by len offset size false e h =
     let rest = rw e at h in
-    let sums = and-true (between size 1 len && between offset 12 len) (leb (natural offset + natural size) len) rest in
+    let sums = both (between size 1 len && between offset 12 len) (leb (natural offset + natural size) len) rest in
     no-further (eqb (natural size) 0) (natural offset) (natural size) len (leb-true (natural offset + natural size) len (sums .1))
 
 -- its part lies inside the file

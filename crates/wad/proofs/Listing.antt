@@ -15,20 +15,16 @@ use Rattle.refusal.specs.declared.Refusal.the-variants.{FileLength, Mark, LumpC
 use Rattle.refusal.specs.declared.Check.{Check}
 use Rattle.refusal.specs.declared.Check.the-variants.{Pass, Refused}
 use Rattle.refusal.specs.Checks.{unless, each}
-use Rattle.refusal.proofs.Checks.{andThen-pass, unless-pass}
+use Rattle.refusal.proofs.Checks.{both, andThen-pass, unless-pass}
 use Rattle.wad.specs.declared.entries.Directory.the-variants.{Listed, Refused as NotListed}
 use Rattle.wad.specs.Header.{lengthOk, markOk, countOk, boundsOk, countOf, startOf, headOf, fieldsCheck, headerCheck}
 use Rattle.wad.specs.Entries.{directoryOf, entryCheck, fileCheck, listed}
 
 -- ---- tests that hold
 
-pub and-true : (a b : Bool) → (a && b) ≡ true → (a ≡ true) × (b ≡ true)
-and-true true b e = (refl, e)
-and-true false b e = let z : _≡_ {A = ℕ} 0 1 = cc in absurd (omega arith)
-
 pub between-natural : (z : ℤ) (least most : ℕ) → between z least most ≡ true → (least ≤ natural z) × (natural z ≤ most)
 between-natural (pos n) least most e =
-    let both = and-true (leb least n) (leb n most) e in
+    let both = both (leb least n) (leb n most) e in
     (leb-true least n (both .0), leb-true n most (both .1))
 between-natural (negsuc n) least most e = let z : _≡_ {A = ℕ} 0 1 = cc in absurd (omega arith)
 
@@ -43,11 +39,11 @@ pub record Sound (len : ℕ) (head : List ℕ) : Type 0 where
 pub sound : (len : ℕ) (head : List ℕ) → headerCheck len head ≡ Pass → Sound len head
 sound len head e =
     let p1 = andThen-pass (unless (lengthOk len) FileLength) (fieldsCheck len head) e in
-    let lengths = and-true (leb 12 len) (leb len 16777216) (unless-pass (lengthOk len) FileLength (p1 .0)) in
+    let lengths = both (leb 12 len) (leb len 16777216) (unless-pass (lengthOk len) FileLength (p1 .0)) in
     let p2 = andThen-pass (unless (markOk head) Mark) _ (p1 .1) in
     let p3 = andThen-pass (unless (countOk head) LumpCount) (unless (boundsOk len head) DirectoryBounds) (p2 .1) in
     let count = between-natural (i32At head 4) 0 4096 (unless-pass (countOk head) LumpCount (p3 .0)) in
-    let bounds = and-true (between (i32At head 8) 12 len) _ (unless-pass (boundsOk len head) DirectoryBounds (p3 .1)) in
+    let bounds = both (between (i32At head 8) 12 len) _ (unless-pass (boundsOk len head) DirectoryBounds (p3 .1)) in
     record {
       low = leb-true 12 len (lengths .0);
       high = leb-true len 16777216 (lengths .1);

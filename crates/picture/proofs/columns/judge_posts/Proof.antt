@@ -7,9 +7,9 @@ use borrow.Author.Tests.{leb-true}
 use denote.Ref.{now}
 use lib.Dec.{leb}
 use lib.ListN.{length}
+use Rattle.refusal.proofs.Checks.{both}
 use Rattle.picture.specs.Judging.{postsCheck}
 use Rattle.picture.specs.Layout.{startAt, endRow}
-use Rattle.picture.proofs.Checks.{both}
 use Rattle.picture.proofs.Posts.{Rest, rest-first, rest-ended, rest-cut, rest-rows, rest-more, rest-off, rest-skips, skips-on}
 use Rattle.picture.proofs.columns.judge_posts.Statement.{statement}
 use Rattle.picture.proofs.columns.judge_posts.Tie as tie
