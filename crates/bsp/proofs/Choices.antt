@@ -1,11 +1,10 @@
 -- Tests and numbers over the two choices: some choice passes, none does, the larger of two. Assumes nothing.
 use Prim.Native.Nat.{ℕ, max, _≤_}
-use mathlib.Core.Bool.{Bool, true, false, _&&_, _||_}
+use mathlib.Core.Bool.{Bool, true, false, _||_}
 use mathlib.Core.Path.{_≡_, refl}
 use native.Mathlib.Nat.{le-max-left, le-max-right, max-eq-left, max-eq-right}
 use native.Mathlib.Decide.{decLe}
 use native.Mathlib.Omega.{arith}
-use Rattle.refusal.proofs.Checks.{both}
 use Rattle.bsp.specs.declared.Choice.{Choice}
 use Rattle.bsp.specs.declared.Choice.the-variants.{Right, Left}
 

@@ -8,7 +8,7 @@ use lib.ListN.{length}
 use Rattle.refusal.specs.declared.Refusal.{Refusal}
 use Rattle.refusal.specs.declared.Refusal.the-variants.{MarkerRun, HexenMap, RecordSize, RecordCount, RejectLength, LinedefReference, SidedefReference, SegReference, SubsectorReference, NodeReference, Blockmap, WorkWords}
 use Rattle.refusal.specs.Table.{numberOf}
-use Rattle.refusal.specs.Checks.{unless, _andThen_, each}
+use Rattle.refusal.specs.Checks.{unless, each}
 use Rattle.refusal.proofs.Numbers.{AtMost, unless-atMost, andThen-atMost, each-atMost}
 use Rattle.wad.specs.Lump.{sizeOf}
 use Rattle.table.specs.Lumps.{nameOf}
@@ -22,9 +22,9 @@ use Rattle.reference.specs.References.{linedefOk, segOk, subsectorOk}
 use Rattle.blockmap.specs.Blockmap.{wordAt, cellsOf, headerOk, listOk, blockmapCheck}
 use Rattle.level.specs.Lumps.{lumpOf, countOf}
 use Rattle.level.specs.Run.{namedOk, behavior, runCheck}
-use Rattle.level.specs.Sizes.{wholeOk, countOk, rejectSize, sizeCheck, rejectCheck, sizesCheck}
+use Rattle.level.specs.Sizes.{wholeOk, countOk, rejectSize, sizeCheck, sizesCheck}
 use Rattle.level.specs.References.{linedefsCheck, sidedefsCheck, segsCheck, subsectorsCheck, nodesCheck, referencesCheck}
-use Rattle.level.specs.Verdict.{workCheck, lumpsCheck, mapCheck}
+use Rattle.level.specs.Verdict.{mapCheck}
 
 -- a scan of tests
 tests : (ok : ℕ → Bool) (r : ℕ → Refusal) → ((i : ℕ) → numberOf (r i) ≤ 30) → (n : ℕ)

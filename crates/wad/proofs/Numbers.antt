@@ -16,7 +16,7 @@ use Rattle.wad.specs.declared.map.Marker.the-variants.{Entry, Refused as
 use Rattle.wad.specs.Header.{lengthOk, markOk, countOk, boundsOk, headOf, countOf}
 use Rattle.wad.specs.Entries.{offsetAt, sizeAt, nameAt, insideOk, entryCheck, directoryOf, directoryCheck}
 use Rattle.name.specs.Names.{nameOk, sameName, mapNameOk}
-use Rattle.wad.specs.Map.{findMarker, found, markerBy, markerAnswer}
+use Rattle.wad.specs.Map.{findMarker, found, markerAnswer}
 
 -- no refusal of the search has a larger number
 abbrev MarkerAtMost : Marker → Type 0

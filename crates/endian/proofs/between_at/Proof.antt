@@ -6,13 +6,7 @@ use Rattle.endian.specs.Signed.{signed, between}
 use Rattle.endian.proofs.Signed.{between-signed}
 use Rattle.endian.proofs.between_at.Statement.{statement}
 use Rattle.endian.proofs.between_at.Tie as tie
-use Rattle.endian.proofs.between_at.Reads as reads
-use Rattle.endian.proofs.between_at.Lts as lts
-use Rattle.endian.proofs.u32_at.Reads as u32-at-reads
 
--- src/lib.rt:89:16
--- src/lib.rt:89:16
--- src/lib.rt:85:1
 returns : tie.Need-returns
 returns c =
     let e = c .before .before .args in

@@ -7,13 +7,7 @@ use Rattle.endian.specs.Signed.{signed, natural}
 use Rattle.endian.proofs.Signed.{natural-signed, natural-negative}
 use Rattle.endian.proofs.natural_at.Statement.{statement}
 use Rattle.endian.proofs.natural_at.Tie as tie
-use Rattle.endian.proofs.natural_at.Reads as reads
-use Rattle.endian.proofs.natural_at.Lts as lts
-use Rattle.endian.proofs.u32_at.Reads as u32-at-reads
 
--- src/lib.rt:76:9
--- src/lib.rt:78:9
--- src/lib.rt:72:1
 returns : tie.Need-returns
 returns c = (
   sym (natural-signed 2147483648 _ (c .if1 .taken))
@@ -21,7 +15,6 @@ returns c = (
   c .if1 .taken,
 )
 
--- src/lib.rt:72:1
 returns-2 : tie.Need-returns-2
 returns-2 c = (
   sym (natural-negative 2147483648 _ (c .if1 .left))

@@ -1,3 +1,4 @@
+-- `name::character_ok` meets its contract, by the answers for the three ranges. Assumes nothing.
 use borrow.Author.Needs.{needs}
 use Rattle.name.proofs.character_ok.Statement.{statement}
 use Rattle.name.proofs.character_ok.Tie as tie

@@ -1,3 +1,4 @@
+-- `name::episode_name` meets its contract, by the answers for its two digits. Assumes nothing.
 use borrow.Author.Needs.{needs}
 use Rattle.name.proofs.episode_name.Statement.{statement}
 use Rattle.name.proofs.episode_name.Tie as tie

@@ -1,3 +1,4 @@
+-- `name::follows_ok` meets its contract, by the answer for the character. Assumes nothing.
 use borrow.Author.Needs.{needs}
 use Rattle.name.proofs.follows_ok.Statement.{statement}
 use Rattle.name.proofs.follows_ok.Tie as tie

@@ -1,3 +1,4 @@
+-- `name::name_ok` meets its contract, by the answers for its eight characters. Assumes nothing.
 use borrow.Author.Needs.{needs}
 use Rattle.name.proofs.name_ok.Statement.{statement}
 use Rattle.name.proofs.name_ok.Tie as tie

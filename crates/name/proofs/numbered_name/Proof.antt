@@ -1,3 +1,4 @@
+-- `name::numbered_name` meets its contract, by the answers for its two digits. Assumes nothing.
 use borrow.Author.Needs.{needs}
 use Rattle.name.proofs.numbered_name.Statement.{statement}
 use Rattle.name.proofs.numbered_name.Tie as tie

@@ -3,13 +3,7 @@ use borrow.Author.Needs.{needs}
 use Rattle.refusal.proofs.Checks.{refused-then}
 use Rattle.refusal.proofs.then.Statement.{statement}
 use Rattle.refusal.proofs.then.Tie as tie
-use Rattle.refusal.proofs.then.Reads as reads
-use Rattle.refusal.proofs.then.Lts as lts
 
--- src/lib.rt:156:24
--- src/lib.rt:157:24
--- src/lib.rt:152:1
--- src/lib.rt:152:1
 returns-2 : tie.Need-returns-2
 returns-2 c = refused-then _ (c .before .a .given .1)
 

@@ -1,3 +1,4 @@
+-- `wad::header::judge_fields` meets its contract, by the answers of its three checks. Assumes nothing.
 use borrow.Author.Needs.{needs}
 use Rattle.wad.proofs.header.judge_fields.Statement.{statement}
 use Rattle.wad.proofs.header.judge_fields.Tie as tie
