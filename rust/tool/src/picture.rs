@@ -9,6 +9,7 @@ use crate::wad::Wad;
 use meshpigeon::Picture;
 use std::ffi::OsStr;
 use std::fs;
+use std::os::unix::fs::MetadataExt;
 
 /// Pixels of the largest picture.
 const MOST_PIXELS: usize = 320 * 200;
@@ -43,13 +44,13 @@ pub fn run(file: &OsStr, lump: &OsStr, output: &OsStr, report: &mut Report) {
     }
 }
 
-/// Whether both names lead to one file; `-` is none.
+/// Whether both names lead to one file, by whatever links; `-` is none.
 fn is_same(file: &OsStr, output: &OsStr) -> bool {
     if file == "-" || output == "-" {
         return false;
     }
-    let (file, output) = (fs::canonicalize(file), fs::canonicalize(output));
-    matches!((file, output), (Ok(file), Ok(output)) if file == output)
+    let identity = |name| fs::metadata(name).map(|it| (it.dev(), it.ino()));
+    matches!((identity(file), identity(output)), (Ok(file), Ok(output)) if file == output)
 }
 
 /// The file's first palette, or greys.

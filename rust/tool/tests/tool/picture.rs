@@ -4,6 +4,7 @@ use crate::png_reader;
 use crate::support::{lumps, Folder};
 use generator::{PictureSpec, Post};
 use std::fs;
+use std::os::unix::fs::symlink;
 use std::process::Stdio;
 
 /// Two columns of three rows: colours 7 and 9 in the middle of the first, nothing in the second.
@@ -105,7 +106,11 @@ fn a_place_that_cannot_be_written_is_told() {
 fn a_picture_is_never_written_over_its_file() {
     let wad = lumps(&[(b"SMALL\0\0\0", small())]);
     let folder = Folder::with("a.wad", &wad);
-    let said = folder.run(&["picture", "a.wad", "SMALL", "-o", "./a.wad"]);
-    assert_eq!((said.status, said.out.as_str()), (3, ""));
-    assert_eq!(fs::read(folder.file("a.wad")).expect("it is there"), wad);
+    fs::hard_link(folder.file("a.wad"), folder.file("hard.png")).expect("the folder takes links");
+    symlink("a.wad", folder.file("soft.png")).expect("the folder takes links");
+    for output in ["./a.wad", "hard.png", "soft.png"] {
+        let said = folder.run(&["picture", "a.wad", "SMALL", "-o", output]);
+        assert_eq!((said.status, said.out.as_str()), (3, ""), "{output}");
+        assert_eq!(fs::read(folder.file("a.wad")).expect("it is there"), wad, "{output}");
+    }
 }
