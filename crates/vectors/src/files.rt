@@ -2,6 +2,7 @@
 //
 // The good file has 12 bytes of header, 4 of data (bytes 12 to 15) and four entries: MAP01 (size 0), DATA (12, 4), A[]-_\9Z
 // (14, 2) and MAP01 again (size 0).
+use crate::print;
 use wad::Directory;
 use wad::Entry;
 use wad::Marker;
@@ -31,44 +32,43 @@ fn with_two(at: usize, b: u8, at2: usize, b2: u8) -> [u8; 80] {
 fn directory(label: &[u8], file: &[u8]) {
     print::text(label);
     match wad::judge_directory(file) {
-        Directory::Listed { count, start } => listed(count, start),
+        Directory::Listed { count, start } => print::line(b"count start", &[count, start]),
         Directory::Refused(r) => print::refused(r),
     }
 }
 
-fn listed(count: usize, start: usize) {
-    print::field(b"count", count);
-    print::field(b"start", start);
-    print::text(b"\n");
+fn changed(label: &[u8], at: usize, b: u8) {
+    directory(label, &with(at, b));
+}
+
+fn changed_two(label: &[u8], at: usize, b: u8, at2: usize, b2: u8) {
+    directory(label, &with_two(at, b, at2, b2));
 }
 
 // Both questions of an entry: where it lies, and its bytes.
-fn entry(label: &[u8], file: &[u8], number: usize) {
+fn entry_of(label: &[u8], file: &[u8], number: usize) {
     print::text(label);
     print::bytes(wad::lump(file, number));
     match wad::find_entry(file, number) {
-        Entry::At { offset, size } => placed(offset, size),
+        Entry::At { offset, size } => print::line(b"offset size", &[offset, size]),
         Entry::Refused(r) => print::refused(r),
     }
 }
 
-fn placed(offset: usize, size: usize) {
-    print::field(b"offset", offset);
-    print::field(b"size", size);
-    print::text(b"\n");
+fn entry(label: &[u8], number: usize) {
+    entry_of(label, &good(), number);
 }
 
-fn marker(label: &[u8], file: &[u8], name: &[u8]) {
+fn marker_of(label: &[u8], file: &[u8], name: &[u8]) {
     print::text(label);
     match wad::find_map(file, name) {
-        Marker::Entry(i) => found(i),
+        Marker::Entry(i) => print::line(b"entry", &[i]),
         Marker::Refused(r) => print::refused(r),
     }
 }
 
-fn found(i: usize) {
-    print::field(b"entry", i);
-    print::text(b"\n");
+fn marker(label: &[u8], name: &[u8]) {
+    marker_of(label, &good(), name);
 }
 
 fn lengths() {
@@ -87,61 +87,61 @@ fn lengths() {
 }
 
 fn marks() {
-    directory(b"IWAD", &with(0, 73));
-    directory(b"ZWAD", &with(0, 90));
-    directory(b"PWAX", &with(3, 88));
-    directory(b"mark before count", &with_two(0, 0, 7, 255));
+    changed(b"IWAD", 0, 73);
+    changed(b"ZWAD", 0, 90);
+    changed(b"PWAX", 3, 88);
+    changed_two(b"mark before count", 0, 0, 7, 255);
 }
 
 fn counts() {
-    directory(b"count 5, past the end", &with(4, 5));
-    directory(b"count 4096, past the end", &with_two(4, 0, 5, 16));
-    directory(b"count 4097", &with_two(4, 1, 5, 16));
-    directory(b"count negative", &with(7, 255));
-    directory(b"start 11", &with(8, 11));
-    directory(b"start 12, entry 0 without a name", &with(8, 12));
-    directory(b"start 17, one past the end", &with(8, 17));
-    directory(b"start negative", &with(11, 128));
+    changed(b"count 5, past the end", 4, 5);
+    changed_two(b"count 4096, past the end", 4, 0, 5, 16);
+    changed_two(b"count 4097", 4, 1, 5, 16);
+    changed(b"count negative", 7, 255);
+}
+
+fn starts() {
+    changed(b"start 11", 8, 11);
+    changed(b"start 12, entry 0 without a name", 8, 12);
+    changed(b"start 17, one past the end", 8, 17);
+    changed(b"start negative", 11, 128);
 }
 
 fn bounds() {
-    directory(b"entry 1 offset 11", &with(32, 11));
-    directory(b"entry 1 to the file's end", &with_two(32, 76, 36, 4));
-    directory(b"entry 1 one past the file's end", &with_two(32, 77, 36, 4));
-    directory(b"entry 1 size negative", &with(39, 128));
-    directory(b"entry 1 offset negative", &with(35, 255));
-    directory(b"entry 0 size 0 and offset negative", &with(19, 255));
-    directory(
-        b"entry 3 size 0 and offset wild",
-        &with_two(64, 255, 66, 255),
-    );
-    directory(b"entry 1 size 1", &with(36, 1));
+    changed(b"entry 1 offset 11", 32, 11);
+    changed_two(b"entry 1 to the file's end", 32, 76, 36, 4);
+    changed_two(b"entry 1 one past the file's end", 32, 77, 36, 4);
+    changed(b"entry 1 size negative", 39, 128);
+    changed(b"entry 1 offset negative", 35, 255);
+    changed(b"entry 0 size 0 and offset negative", 19, 255);
+    changed_two(b"entry 3 size 0 and offset wild", 64, 255, 66, 255);
+    changed(b"entry 1 size 1", 36, 1);
 }
 
 fn names() {
-    directory(b"name of entry 0 lower case", &with(24, 109));
-    directory(b"name of entry 0 empty", &with(24, 0));
-    directory(b"name with a character after a zero", &with(30, 65));
-    directory(b"name with a colon", &with(24, 58));
-    directory(b"name with 94", &with(24, 94));
-    directory(b"name with 95", &with(24, 95));
-    directory(b"name of eight, last bad", &with(63, 96));
-    directory(b"5 before 6 in an entry", &with_two(32, 11, 40, 0));
-    directory(
-        b"6 of entry 0 before 5 of entry 1",
-        &with_two(24, 0, 32, 11),
-    );
+    changed(b"name of entry 0 lower case", 24, 109);
+    changed(b"name of entry 0 empty", 24, 0);
+    changed(b"name with a character after a zero", 30, 65);
+    changed(b"name with a colon", 24, 58);
+    changed(b"name with 94", 24, 94);
+    changed(b"name with 95", 24, 95);
+    changed(b"name of eight, last bad", 63, 96);
+    changed_two(b"5 before 6 in an entry", 32, 11, 40, 0);
+    changed_two(b"6 of entry 0 before 5 of entry 1", 24, 0, 32, 11);
 }
 
 fn entries() {
-    entry(b"entry 0, size 0:", &good(), 0);
-    entry(b"entry 1:", &good(), 1);
-    entry(b"entry 2, inside entry 1:", &good(), 2);
-    entry(b"entry 3, size 0 and offset wild:", &with(67, 255), 3);
-    entry(b"entry 4:", &good(), 4);
-    entry(b"the largest entry number:", &good(), 18446744073709551615);
-    entry(b"entry 9 of a bad directory:", &with(32, 11), 9);
-    entry(
+    entry(b"entry 0, size 0:", 0);
+    entry(b"entry 1:", 1);
+    entry(b"entry 2, inside entry 1:", 2);
+    entry_of(b"entry 3, size 0 and offset wild:", &with(67, 255), 3);
+    entry(b"entry 4:", 4);
+    entry(b"the largest entry number:", 18446744073709551615);
+}
+
+fn changed_entries() {
+    entry_of(b"entry 9 of a bad directory:", &with(32, 11), 9);
+    entry_of(
         b"entry 1, the whole file after the header:",
         &with_two(32, 12, 36, 68),
         1,
@@ -149,21 +149,27 @@ fn entries() {
 }
 
 fn markers() {
-    marker(b"MAP01, the last", &good(), b"MAP01\0\0\0");
-    marker(b"MAP01, last renamed MAP02", &with(76, 50), b"MAP01\0\0\0");
-    marker(b"MAP02 of both", &with(76, 50), b"MAP02\0\0\0");
-    marker(b"MAP99 missing", &good(), b"MAP99\0\0\0");
-    marker(b"E1M1 missing", &good(), b"E1M1\0\0\0\0");
-    marker(b"MAP00", &good(), b"MAP00\0\0\0");
-    marker(b"E0M1", &good(), b"E0M1\0\0\0\0");
-    marker(b"E1M0", &good(), b"E1M0\0\0\0\0");
-    marker(b"MAP1", &good(), b"MAP1\0\0\0\0");
-    marker(b"MAP001", &good(), b"MAP001\0\0");
-    marker(b"map01", &good(), b"map01\0\0\0");
-    marker(b"five bytes", &good(), b"MAP01");
-    marker(b"nine bytes", &good(), b"MAP01\0\0\0\0");
-    marker(b"DATA is no map name", &good(), b"DATA\0\0\0\0");
-    marker(
+    marker(b"MAP01, the last", b"MAP01\0\0\0");
+    marker_of(b"MAP01, last renamed MAP02", &with(76, 50), b"MAP01\0\0\0");
+    marker_of(b"MAP02 of both", &with(76, 50), b"MAP02\0\0\0");
+    marker(b"MAP99 missing", b"MAP99\0\0\0");
+    marker(b"E1M1 missing", b"E1M1\0\0\0\0");
+}
+
+fn map_numbers() {
+    marker(b"MAP00", b"MAP00\0\0\0");
+    marker(b"E0M1", b"E0M1\0\0\0\0");
+    marker(b"E1M0", b"E1M0\0\0\0\0");
+    marker(b"MAP1", b"MAP1\0\0\0\0");
+    marker(b"MAP001", b"MAP001\0\0");
+}
+
+fn map_names() {
+    marker(b"map01", b"map01\0\0\0");
+    marker(b"five bytes", b"MAP01");
+    marker(b"nine bytes", b"MAP01\0\0\0\0");
+    marker(b"DATA is no map name", b"DATA\0\0\0\0");
+    marker_of(
         b"bad directory before bad name",
         &with(24, 0),
         b"DATA\0\0\0\0",
@@ -194,17 +200,21 @@ fn many(count: usize) -> [u8; 65564] {
 fn limits() {
     directory(b"4096 entries", &many(4096));
     directory(b"4097 entries", &many(4097));
-    entry(b"entry 4095:", &many(4096), 4095);
+    entry_of(b"entry 4095:", &many(4096), 4095);
 }
 
-pub fn run() {
+pub(crate) fn run() {
     print::text(b"files\n");
     lengths();
     marks();
     counts();
+    starts();
     bounds();
     names();
     entries();
+    changed_entries();
     markers();
+    map_numbers();
+    map_names();
     limits();
 }

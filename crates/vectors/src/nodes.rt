@@ -1,5 +1,6 @@
 // The node graph and the descent: examples (c) to (j), far corners, refusals, loops and long rows of nodes. The word of
 // subsector n is 32768 + n.
+use crate::print;
 use bsp::Descent;
 use bsp::Graph;
 ghost use mathlib.Core.Bool.{true};
@@ -11,11 +12,12 @@ ghost use Rattle.bsp.specs.Nodes.{NodesInRange};
 // A node's line: start and direction.
 struct Line(i16, i16, i16, i16);
 
-pub fn run() {
+pub(crate) fn run() {
     print::text(b"bsp\n");
     sides();
     corners();
     refusals();
+    children();
     no_nodes();
     one_node();
     two_nodes();
@@ -42,33 +44,20 @@ fn put_flat(nodes: &mut [u8], i: usize, right: u16, left: u16)
     put_node(nodes, i, Line(0, 0, 0, 0), right, left);
 }
 
-// What the descent answers, and the line's end.
-fn descent(d: Descent) {
-    match d {
-        Descent::Found { subsector, count } => {
-            print::field(b"subsector", subsector);
-            print::field(b"count", count);
-            print::text(b"\n");
-        }
-        Descent::Refused(r) => print::refused(r),
-    }
-}
-
 // One point's descent.
 fn ask(nodes: &[u8], subsectors: usize, x: i16, y: i16) {
-    print::signed_field(b"x", x);
-    print::signed_field(b"y", y);
-    descent(bsp::descend(nodes, subsectors, x, y));
+    print::signed_fields(b"x y", &[x, y]);
+    match bsp::descend(nodes, subsectors, x, y) {
+        Descent::Found { subsector, count } => print::line(b"subsector count", &[subsector, count]),
+        Descent::Refused(r) => print::refused(r),
+    }
 }
 
 // Loop or depth, and the line's end.
 fn graph(g: Graph) {
     match g {
         Graph::Loop => print::text(b" loop\n"),
-        Graph::Depth(depth) => {
-            print::field(b"depth", depth);
-            print::text(b"\n");
-        }
+        Graph::Depth(depth) => print::line(b"depth", &[depth]),
     }
 }
 
@@ -102,39 +91,45 @@ fn one_line(line: Line) -> [u8; 28] {
     nodes
 }
 
+fn side(line: Line, x: i16, y: i16) {
+    ask(&one_line(line), 2, x, y);
+}
+
 fn sides() {
     print::text(b"c: start (0, 0), direction (0, 64)\n");
-    let c = one_line(Line(0, 0, 0, 64));
-    ask(&c, 2, 1, 0);
-    ask(&c, 2, 0, 5);
-    ask(&c, 2, -1, 0);
+    side(Line(0, 0, 0, 64), 1, 0);
+    side(Line(0, 0, 0, 64), 0, 5);
+    side(Line(0, 0, 0, 64), -1, 0);
 }
 
 // Where 16 bits for a difference or 32 for a difference of products give the other side.
 fn corners() {
     print::text(b"d: both products are the same\n");
-    let d = one_line(Line(-32768, -32768, -32768, -32768));
-    ask(&d, 2, 32767, 32767);
+    side(Line(-32768, -32768, -32768, -32768), 32767, 32767);
     print::text(b"the widest differences\n");
-    let wide = one_line(Line(-32768, 0, 0, 1));
-    ask(&wide, 2, 32767, 0);
-    let up = one_line(Line(-32768, -32768, -32768, 32767));
-    ask(&up, 2, 32767, 32767);
-    let down = one_line(Line(32767, 32767, -32768, 32767));
-    ask(&down, 2, -32768, -32768);
+    side(Line(-32768, 0, 0, 1), 32767, 0);
+    side(Line(-32768, -32768, -32768, 32767), 32767, 32767);
+    side(Line(32767, 32767, -32768, 32767), -32768, -32768);
+}
+
+// Descends from (x, 0) at the node of example (c).
+fn ask_c(subsectors: usize, x: i16) {
+    ask(&one_line(Line(0, 0, 0, 64)), subsectors, x, 0);
 }
 
 fn refusals() {
     print::text(b"40: part of a node\n");
     ask(&[0u8; 27], 1, 0, 0);
     print::text(b"41: no subsector, too many, two without nodes\n");
-    let nodes = one_line(Line(0, 0, 0, 64));
-    ask(&nodes, 0, 0, 0);
-    ask(&nodes, 32768, 0, 0);
+    ask_c(0, 0);
+    ask_c(32768, 0);
     ask(b"", 2, 0, 0);
+}
+
+fn children() {
     print::text(b"42: the chosen child alone is judged\n");
-    ask(&nodes, 1, 1, 0);
-    ask(&nodes, 1, 0, 0);
+    ask_c(1, 1);
+    ask_c(1, 0);
     print::text(b"e: 0xFFFF is never in range\n");
     let mut never = [0u8; 28];
     put_flat(&mut never, 0, 32768, 65535);
@@ -164,22 +159,22 @@ fn one_node() {
     one(0, 32768);
 }
 
+// Two nodes of these children.
+fn two(right: u16, left: u16, root_right: u16, root_left: u16) {
+    let mut nodes = [0u8; 56];
+    put_flat(&mut nodes, 0, right, left);
+    put_flat(&mut nodes, 1, root_right, root_left);
+    judge(&nodes, 2, &mut [7u16; 8]);
+    ask(&nodes, 1, 0, 0);
+}
+
 fn two_nodes() {
     print::text(b"i: node 0 its own child, not reached\n");
-    let mut nodes = [0u8; 56];
-    put_flat(&mut nodes, 0, 0, 32768);
-    put_flat(&mut nodes, 1, 32768, 32768);
-    judge(&nodes, 2, &mut [7u16; 8]);
-    ask(&nodes, 1, 0, 0);
+    two(0, 32768, 32768, 32768);
     print::text(b"a loop of two, through left children\n");
-    put_flat(&mut nodes, 0, 32768, 1);
-    put_flat(&mut nodes, 1, 32768, 0);
-    judge(&nodes, 2, &mut [7u16; 8]);
-    ask(&nodes, 1, 0, 0);
+    two(32768, 1, 32768, 0);
     print::text(b"42 at the last choice\n");
-    put_flat(&mut nodes, 0, 32768, 2);
-    judge(&nodes, 2, &mut [7u16; 8]);
-    ask(&nodes, 1, 0, 0);
+    two(32768, 2, 32768, 0);
 }
 
 fn three_nodes() {
@@ -190,21 +185,9 @@ fn three_nodes() {
     put_flat(&mut nodes, 2, 32768, 0);
     let mut words = [7u16; 14];
     judge(&nodes, 3, &mut words);
-    numbers(&words);
-    print::text(b"\n");
+    print::words(&words);
+    print::end_line();
     ask(&nodes, 1, 0, 0);
-}
-
-// Each word as a number.
-fn numbers(words: &[u16]) {
-    for i in 0..words.len() {
-        number(words[i]);
-    }
-}
-
-fn number(n: u16) {
-    print::text(b" ");
-    print::number(n as usize);
 }
 
 // Node i of a row: the node before it on the left, on the right too where both; the first has `end` in its place.

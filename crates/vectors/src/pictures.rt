@@ -1,10 +1,11 @@
 // Pictures: example (l), pictures of every shape, each refusal, both sides of each limit. The planes hold 9 before.
 ghost use Prim.Native.Nat.{_+_, _*_, _≤_};
 ghost use lib.ListN.{length};
+use crate::print;
 use picture::Judged;
 use picture::Picture;
 
-pub fn run() {
+pub(crate) fn run() {
     shapes();
     shared();
     empty_posts();
@@ -14,48 +15,45 @@ pub fn run() {
     cut_posts();
     rows();
     orders();
-    room();
+    short_planes();
+    long_planes();
+    room_first();
     largest();
 }
 
 fn header(p: Picture) {
-    print::field(b"width", p.width);
-    print::field(b"height", p.height);
-    print::signed_field(b"left", p.left);
-    print::signed_field(b"top", p.top);
-    print::text(b"\n");
+    print::fields(b"width height", &[p.width, p.height]);
+    print::signed_fields(b"left top", &[p.left, p.top]);
+    print::end_line();
 }
 
-fn answer(a: Judged) {
+fn answer(label: &[u8], a: Judged) {
+    print::text(label);
     match a {
         Judged::Accepted(p) => header(p),
         Judged::Refused(r) => print::refused(r),
     }
 }
 
-fn plane(name: &[u8], bytes: &[u8]) {
-    print::text(name);
+fn plane(label: &[u8], bytes: &[u8]) {
+    print::text(label);
     print::bytes(bytes);
-    print::text(b"\n");
+    print::end_line();
 }
 
 // Judged, then painted, then both planes.
-fn painted(lump: &[u8], colour: &mut [u8], cover: &mut [u8]) {
-    print::text(b" judge");
-    answer(picture::judge(lump));
-    print::text(b" paint");
-    answer(picture::paint(lump, colour, cover));
+fn painted(label: &[u8], lump: &[u8], colour: &mut [u8], cover: &mut [u8]) {
+    print::text(label);
+    print::end_line();
+    answer(b" judge", picture::judge(lump));
+    answer(b" paint", picture::paint(lump, colour, cover));
     plane(b" colour", colour);
     plane(b" cover", cover);
 }
 
 // A small picture, into planes of seven bytes.
-fn show(name: &[u8], lump: &[u8]) {
-    let mut colour = [9u8; 7];
-    let mut cover = [9u8; 7];
-    print::text(name);
-    print::text(b"\n");
-    painted(lump, &mut colour, &mut cover);
+fn show(label: &[u8], lump: &[u8]) {
+    painted(label, lump, &mut [9u8; 7], &mut [9u8; 7]);
 }
 
 fn shapes() {
@@ -187,22 +185,41 @@ fn orders() {
     );
 }
 
-// A picture of two pixels, the second painted, with planes of one, two and three bytes.
-fn room() {
-    let lump = b"\x01\0\x02\0\0\0\0\0\x0c\0\0\0\x01\x01\x08\x07\x08\xff";
-    let mut one = [9u8; 1];
-    let mut two = [9u8; 2];
-    let mut three = [9u8; 3];
-    print::text(b"colour one byte short\n");
-    painted(lump, &mut one, &mut two);
-    print::text(b"cover one byte short\n");
-    painted(lump, &mut two, &mut one);
-    print::text(b"cover one byte more than enough\n");
-    painted(lump, &mut two, &mut three);
-    print::text(b"colour one byte more than enough\n");
-    painted(lump, &mut three, &mut two);
-    print::text(b"room before columns\n");
-    painted(b"\x01\0\x02\0\0\0\0\0\x0b\0\0\0", &mut one, &mut two);
+// A picture of two pixels, the second painted.
+fn room(label: &[u8], colour: &mut [u8], cover: &mut [u8]) {
+    painted(
+        label,
+        b"\x01\0\x02\0\0\0\0\0\x0c\0\0\0\x01\x01\x08\x07\x08\xff",
+        colour,
+        cover,
+    );
+}
+
+fn short_planes() {
+    room(b"colour one byte short", &mut [9u8; 1], &mut [9u8; 2]);
+    room(b"cover one byte short", &mut [9u8; 2], &mut [9u8; 1]);
+}
+
+fn long_planes() {
+    room(
+        b"cover one byte more than enough",
+        &mut [9u8; 2],
+        &mut [9u8; 3],
+    );
+    room(
+        b"colour one byte more than enough",
+        &mut [9u8; 3],
+        &mut [9u8; 2],
+    );
+}
+
+fn room_first() {
+    painted(
+        b"room before columns",
+        b"\x01\0\x02\0\0\0\0\0\x0b\0\0\0",
+        &mut [9u8; 1],
+        &mut [0u8, 1],
+    );
 }
 
 // Puts one offset for every column.
@@ -225,7 +242,7 @@ fn sum(s: &[u8]) -> usize
 }
 
 // 320 × 200, all columns sharing one of 198 pixels, with the first and the last row left out.
-fn largest() {
+fn large_lump() -> [u8; 1491] {
     let mut lump = [3u8; 1491];
     lump[0] = 64;
     lump[1] = 1;
@@ -235,13 +252,16 @@ fn largest() {
     lump[1288] = 1;
     lump[1289] = 198;
     lump[1490] = 255;
-    let mut colour = [9u8; 64000];
-    let mut cover = [9u8; 64000];
-    print::text(b"320 x 200\n judge");
-    answer(picture::judge(&lump));
-    print::text(b" paint");
-    answer(picture::paint(&lump, &mut colour, &mut cover));
-    print::field(b"colours", sum(&colour));
-    print::field(b"covered", sum(&cover));
-    print::text(b"\n");
+    lump
+}
+
+fn paint_large(lump: &[u8], colour: &mut [u8; 64000], cover: &mut [u8; 64000]) {
+    print::text(b"320 x 200\n");
+    answer(b" judge", picture::judge(lump));
+    answer(b" paint", picture::paint(lump, colour, cover));
+    print::line(b"colours covered", &[sum(colour), sum(cover)]);
+}
+
+fn largest() {
+    paint_large(&large_lump(), &mut [9u8; 64000], &mut [9u8; 64000]);
 }

@@ -1,10 +1,10 @@
--- `map_vectors::limits::offsets` writes inside its array, and ends: the measure is what is left of the cells. Assumes nothing.
+-- `vectors::map_limits::offsets` writes inside its array, and ends: the measure is what is left of the cells. Assumes nothing.
 use Prim.Native.Nat.{_≤_, _-_}
 use mathlib.Core.Path.{_≡_}
 use borrow.Author.Needs.{needs}
 use lib.ListN.{length}
-use Rattle.map_vectors.proofs.limits.offsets.Statement.{statement}
-use Rattle.map_vectors.proofs.limits.offsets.Tie as tie
+use Rattle.vectors.proofs.map_limits.offsets.Statement.{statement}
+use Rattle.vectors.proofs.map_limits.offsets.Tie as tie
 
 abbrev Inv-loop : tie.InvT-loop
 Inv-loop file₀ i₀ file i = (i ≤ 513) × (length file ≡ 1525)

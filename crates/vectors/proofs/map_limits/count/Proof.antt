@@ -1,11 +1,11 @@
--- `map_vectors::limits::count` lends its array whole: a law tells the length, since counting so many elements is too much for
+-- `vectors::map_limits::count` lends its array whole: a law tells the length, since counting so many elements is too much for
 -- the checker. Assumes nothing.
 use Prim.Native.Nat.{ℕ}
 use mathlib.Core.Path.{sym, _∙_}
 use borrow.Author.Needs.{needs}
 use lib.ListN.{length-replicate}
-use Rattle.map_vectors.proofs.limits.count.Statement.{statement}
-use Rattle.map_vectors.proofs.limits.count.Tie as tie
+use Rattle.vectors.proofs.map_limits.count.Statement.{statement}
+use Rattle.vectors.proofs.map_limits.count.Tie as tie
 
 slice-aggregate-fill : tie.Need-slice-aggregate-fill
 slice-aggregate-fill c = sym (length-replicate {A = ℕ} 1966352 0)

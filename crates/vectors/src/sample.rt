@@ -3,63 +3,63 @@
 // It has 1 thing, 3 linedefs, 2 sidedefs, 3 vertices, 4 segs, 3 subsectors, 2 nodes and 1 sector. Linedef 1 has two sides.
 // Node 1, the root, has node 0 on its right. BLOCKMAP has 2 cells, with their lists at words 6 and 8. Entry 0 is another
 // marker, entry 1 is the map's, and the entry after its ten lumps is not quite BEHAVIOR.
-pub const LEN: usize = 516;
+pub(crate) const LEN: usize = 516;
 
 // Where the count of entries, and sizes, names and an offset of entries stand.
-pub const COUNT: usize = 4;
+pub(crate) const COUNT: usize = 4;
 
-pub const FIRST_NAME: usize = 20;
+pub(crate) const FIRST_NAME: usize = 20;
 
-pub const MARKER_SIZE: usize = 32;
+pub(crate) const MARKER_SIZE: usize = 32;
 
-pub const THINGS_SIZE: usize = 48;
+pub(crate) const THINGS_SIZE: usize = 48;
 
-pub const THINGS_NAME: usize = 52;
+pub(crate) const THINGS_NAME: usize = 52;
 
-pub const LINEDEFS_SIZE: usize = 64;
+pub(crate) const LINEDEFS_SIZE: usize = 64;
 
-pub const SIDEDEFS_SIZE: usize = 80;
+pub(crate) const SIDEDEFS_SIZE: usize = 80;
 
-pub const VERTEXES_SIZE: usize = 96;
+pub(crate) const VERTEXES_SIZE: usize = 96;
 
-pub const SEGS_SIZE: usize = 112;
+pub(crate) const SEGS_SIZE: usize = 112;
 
-pub const SEGS_NAME: usize = 116;
+pub(crate) const SEGS_NAME: usize = 116;
 
-pub const SSECTORS_SIZE: usize = 128;
+pub(crate) const SSECTORS_SIZE: usize = 128;
 
-pub const NODES_SIZE: usize = 144;
+pub(crate) const NODES_SIZE: usize = 144;
 
-pub const NODES_NAME: usize = 148;
+pub(crate) const NODES_NAME: usize = 148;
 
-pub const SECTORS_AT: usize = 156;
+pub(crate) const SECTORS_AT: usize = 156;
 
-pub const SECTORS_SIZE: usize = 160;
+pub(crate) const SECTORS_SIZE: usize = 160;
 
-pub const REJECT_SIZE: usize = 176;
+pub(crate) const REJECT_SIZE: usize = 176;
 
-pub const REJECT_NAME: usize = 180;
+pub(crate) const REJECT_NAME: usize = 180;
 
-pub const BLOCKMAP_SIZE: usize = 192;
+pub(crate) const BLOCKMAP_SIZE: usize = 192;
 
-pub const BLOCKMAP_NAME: usize = 196;
+pub(crate) const BLOCKMAP_NAME: usize = 196;
 
-pub const LAST_NAME: usize = 212;
+pub(crate) const LAST_NAME: usize = 212;
 
 // Where the lumps begin.
-pub const LINEDEFS: usize = 230;
+pub(crate) const LINEDEFS: usize = 230;
 
-pub const SIDEDEFS: usize = 272;
+pub(crate) const SIDEDEFS: usize = 272;
 
-pub const SEGS: usize = 344;
+pub(crate) const SEGS: usize = 344;
 
-pub const SSECTORS: usize = 392;
+pub(crate) const SSECTORS: usize = 392;
 
-pub const NODES: usize = 404;
+pub(crate) const NODES: usize = 404;
 
-pub const BLOCKMAP: usize = 487;
+pub(crate) const BLOCKMAP: usize = 487;
 
-pub fn good() -> [u8; LEN] {
+pub(crate) fn good() -> [u8; LEN] {
     *b"PWAD\x0D\0\0\0\x0C\0\0\0\
     \0\0\0\0\0\0\0\0MAP02\0\0\0\
     \x0C\0\0\0\0\0\0\0MAP01\0\0\0\
@@ -98,29 +98,16 @@ pub fn good() -> [u8; LEN] {
     \0\0\0"
 }
 
-// A file with one more byte changed.
-pub fn also(before: [u8; LEN], at: usize, b: u8) -> [u8; LEN] {
-    let mut file = before;
-    if at < LEN {
-        file[at] = b;
-    }
-    file
-}
-
-// A file with one more 16-bit word changed.
-pub fn also_word(before: [u8; LEN], at: usize, w: u16) -> [u8; LEN] {
+// A file with one more word of 16 bits changed.
+pub(crate) fn also(before: [u8; LEN], at: usize, word: u16) -> [u8; LEN] {
     let mut file = before;
     if at < LEN - 1 {
-        file[at] = (w % 256) as u8;
-        file[at + 1] = (w / 256) as u8;
+        file[at] = (word % 256) as u8;
+        file[at + 1] = (word / 256) as u8;
     }
     file
 }
 
-pub fn with(at: usize, b: u8) -> [u8; LEN] {
-    also(good(), at, b)
-}
-
-pub fn with_word(at: usize, w: u16) -> [u8; LEN] {
-    also_word(good(), at, w)
+pub(crate) fn with(at: usize, word: u16) -> [u8; LEN] {
+    also(good(), at, word)
 }

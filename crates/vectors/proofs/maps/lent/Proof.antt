@@ -1,9 +1,9 @@
--- `map_vectors::maps::lent` lends as many of its words as are asked for: the first `count` are `count`. Assumes nothing.
+-- `vectors::maps::lent` lends as many of its words as are asked for: the first `count` are `count`. Assumes nothing.
 use mathlib.Core.Path.{sym}
 use borrow.Author.Needs.{needs}
 use lib.Seq.{length-take-le}
-use Rattle.map_vectors.proofs.maps.lent.Statement.{statement}
-use Rattle.map_vectors.proofs.maps.lent.Tie as tie
+use Rattle.vectors.proofs.maps.lent.Statement.{statement}
+use Rattle.vectors.proofs.maps.lent.Tie as tie
 
 slice-aggregate-ask : tie.Need-slice-aggregate-ask
 slice-aggregate-ask c = search needs

@@ -1,10 +1,10 @@
--- `map_vectors::limits::put` writes inside its slice, and ends: the measure is what is left of the slice. Assumes nothing.
+-- `vectors::map_limits::put` writes inside its slice, and ends: the measure is what is left of the slice. Assumes nothing.
 use Prim.Native.Nat.{_≤_, _-_}
 use mathlib.Core.Path.{_≡_}
 use borrow.Author.Needs.{needs}
 use lib.ListN.{length}
-use Rattle.map_vectors.proofs.limits.put.Statement.{statement}
-use Rattle.map_vectors.proofs.limits.put.Tie as tie
+use Rattle.vectors.proofs.map_limits.put.Statement.{statement}
+use Rattle.vectors.proofs.map_limits.put.Tie as tie
 
 abbrev Inv-loop : tie.InvT-loop
 Inv-loop file₀ at part i₀ i-end file i = (at ≤ i) × ((i-end ≡ length file₀) × (length file ≡ length file₀))
