@@ -15,8 +15,8 @@ use Rattle.table.specs.Lumps.{nameOf}
 use Rattle.field.specs.Records.{recordBytes}
 use Rattle.record.specs.Linedefs.{linedefOf}
 use Rattle.record.specs.Sidedefs.{sidedefOf}
-use Rattle.record.specs.Segs.{segOf}
-use Rattle.record.specs.Subsectors.{subsectorOf}
+use Rattle.built.specs.Segs.{segOf}
+use Rattle.built.specs.Subsectors.{subsectorOf}
 use Rattle.bsp.specs.Nodes.{nodeOk}
 use Rattle.reference.specs.References.{linedefOk, segOk, subsectorOk}
 use Rattle.blockmap.specs.Blockmap.{wordAt, cellsOf, headerOk, listOk, blockmapCheck}

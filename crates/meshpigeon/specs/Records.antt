@@ -11,11 +11,11 @@ use Rattle.record.specs.declared.sidedef.SidedefRead.{SidedefRead}
 use Rattle.meshpigeon.specs.declared.records.SidedefAnswer.{SidedefAnswer}
 use Rattle.record.specs.declared.vertex.VertexRead.{VertexRead}
 use Rattle.meshpigeon.specs.declared.records.VertexAnswer.{VertexAnswer}
-use Rattle.record.specs.declared.seg.SegRead.{SegRead}
+use Rattle.built.specs.declared.seg.SegRead.{SegRead}
 use Rattle.meshpigeon.specs.declared.records.SegAnswer.{SegAnswer}
-use Rattle.record.specs.declared.subsector.SubsectorRead.{SubsectorRead}
+use Rattle.built.specs.declared.subsector.SubsectorRead.{SubsectorRead}
 use Rattle.meshpigeon.specs.declared.records.SubsectorAnswer.{SubsectorAnswer}
-use Rattle.record.specs.declared.node.NodeRead.{NodeRead}
+use Rattle.built.specs.declared.node.NodeRead.{NodeRead}
 use Rattle.meshpigeon.specs.declared.records.NodeAnswer.{NodeAnswer}
 use Rattle.record.specs.declared.sector.SectorRead.{SectorRead}
 use Rattle.meshpigeon.specs.declared.records.SectorAnswer.{SectorAnswer}

@@ -1,3 +1,3 @@
--- The laws of the eight kinds of record. Assumes nothing.
+-- The laws of the kinds that are drawn. Assumes nothing.
 
-pub mod EightKinds
+pub mod Codecs

@@ -1,11 +1,7 @@
--- The eight kinds of record in a map's lumps. Assumes nothing.
+-- The kinds of record that a map's author draws: things, linedefs, sidedefs, vertices and sectors. Assumes nothing.
 
 pub mod Things
 pub mod Linedefs
 pub mod Sidedefs
 pub mod Vertexes
-pub mod Segs
-pub mod Subsectors
-pub mod Nodes
 pub mod Sectors
-pub mod Lossless

@@ -8,13 +8,13 @@ use Rattle.refusal.specs.declared.Check.{Check}
 use Rattle.refusal.specs.declared.Refusal.the-variants.{LinedefReference, SidedefReference, SegReference, SubsectorReference, NodeReference}
 use Rattle.refusal.specs.Checks.{unless}
 use Rattle.record.specs.declared.linedef.Linedef.{Linedef}
-use Rattle.record.specs.declared.seg.Seg.{Seg}
-use Rattle.record.specs.declared.subsector.Subsector.{Subsector}
+use Rattle.built.specs.declared.seg.Seg.{Seg}
+use Rattle.built.specs.declared.subsector.Subsector.{Subsector}
 use Rattle.field.specs.Records.{recordBytes}
 use Rattle.record.specs.Linedefs.{linedefOf}
 use Rattle.record.specs.Sidedefs.{sidedefOf}
-use Rattle.record.specs.Segs.{segOf}
-use Rattle.record.specs.Subsectors.{subsectorOf}
+use Rattle.built.specs.Segs.{segOf}
+use Rattle.built.specs.Subsectors.{subsectorOf}
 use Rattle.bsp.specs.Nodes.{nodeOk}
 
 -- a linedef without a left side says this number

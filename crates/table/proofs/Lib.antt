@@ -1,3 +1,4 @@
--- The laws of the table of lumps. Assumes nothing.
+-- The laws of the table of lumps and of the eight kinds. Assumes nothing.
 
 pub mod Lumps
+pub mod EightKinds

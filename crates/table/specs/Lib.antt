@@ -1,3 +1,4 @@
--- The table of a map's ten lumps. Assumes nothing.
+-- The table of a map's ten lumps, and that the records of all of them are read and written without loss. Assumes nothing.
 
 pub mod Lumps
+pub mod Lossless

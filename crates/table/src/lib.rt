@@ -3,12 +3,12 @@ ghost use mathlib.Core.Path.{_≡_};
 ghost use Prim.Native.Nat.{_<_};
 ghost use lib.ListN.{getD};
 ghost use Rattle.table.specs.Lumps.{nameOf, sizeOf, leastOf, mostOf, kinds, noKind};
+use built::Node;
+use built::Seg;
+use built::Subsector;
 use record::Linedef;
-use record::Node;
 use record::Sector;
-use record::Seg;
 use record::Sidedef;
-use record::Subsector;
 use record::Thing;
 use record::Vertex;
 

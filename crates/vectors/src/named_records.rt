@@ -2,7 +2,7 @@
 // back, written changed, and written past the end.
 use crate::print;
 use crate::records::left;
-use record::Node;
+use built::Node;
 use record::Sector;
 use record::Sidedef;
 

@@ -1,9 +1,9 @@
 // The kinds of map record that are numbers alone: the last of a lump, the one past it, a lump cut inside it; written
 // back, written changed, and written past the end.
 use crate::print;
+use built::Seg;
+use built::Subsector;
 use record::Linedef;
-use record::Seg;
-use record::Subsector;
 use record::Thing;
 use record::Vertex;
 use refusal::Check;

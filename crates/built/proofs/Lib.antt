@@ -1,0 +1,3 @@
+-- The laws of the kinds that a node builder makes. Assumes nothing.
+
+pub mod Codecs

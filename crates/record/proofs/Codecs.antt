@@ -1,0 +1,77 @@
+-- The five kinds that are drawn: the fields, read out of the bytes that were made of them, are those fields, and the bytes are
+-- the row of the fields. Assumes nothing.
+use mathlib.Core.Path.{refl}
+use mathlib.Core.List.{[], _∷_}
+use Rattle.endian.proofs.Unsigned.{u16-whole}
+use Rattle.field.specs.Lossless.{Codec}
+use Rattle.field.proofs.Fields.{i16-whole, name-whole}
+use Rattle.field.proofs.FieldRows.{number, signed16, name, written-whole}
+use Rattle.record.specs.Things.{thingOf, thingBytes, ThingFits}
+use Rattle.record.specs.Linedefs.{linedefOf, linedefBytes, LinedefFits}
+use Rattle.record.specs.Sidedefs.{sidedefOf, sidedefBytes, SidedefFits}
+use Rattle.record.specs.Vertexes.{vertexOf, vertexBytes, VertexFits}
+use Rattle.record.specs.Sectors.{sectorOf, sectorBytes, SectorFits}
+
+pub thing : Codec 10 thingOf thingBytes ThingFits
+thing =
+    record {
+      length-encode = λ t. refl;
+      decode-encode = λ t h. λ i. record {
+        x = i16-whole (t .x) (h .0) i;
+        y = i16-whole (t .y) (h .1) i;
+        angle = u16-whole (t .angle) i;
+        kind = u16-whole (t .kind) i;
+        flags = u16-whole (t .flags) i;
+      };
+      encode-decode = written-whole (signed16 ∷ signed16 ∷ number ∷ number ∷ number ∷ []);
+    }
+
+pub linedef : Codec 14 linedefOf linedefBytes LinedefFits
+linedef =
+    record {
+      length-encode = λ l. refl;
+      decode-encode = λ l h. simp u16-whole;
+      encode-decode = written-whole (number ∷ number ∷ number ∷ number ∷ number ∷ number ∷ number ∷ []);
+    }
+
+pub sidedef : Codec 30 sidedefOf sidedefBytes SidedefFits
+sidedef =
+    record {
+      length-encode = λ s. refl;
+      decode-encode = λ s h. λ i. record {
+        «x_offset» = i16-whole (s .«x_offset») (h .0) i;
+        «y_offset» = i16-whole (s .«y_offset») (h .1) i;
+        upper = name-whole (s .upper) (h .2) i;
+        lower = name-whole (s .lower) (h .3) i;
+        middle = name-whole (s .middle) (h .4) i;
+        sector = u16-whole (s .sector) i;
+      };
+      encode-decode = written-whole (signed16 ∷ signed16 ∷ name ∷ name ∷ name ∷ number ∷ []);
+    }
+
+pub vertex : Codec 4 vertexOf vertexBytes VertexFits
+vertex =
+    record {
+      length-encode = λ v. refl;
+      decode-encode = λ v h. λ i. record {
+        x = i16-whole (v .x) (h .0) i;
+        y = i16-whole (v .y) (h .1) i;
+      };
+      encode-decode = written-whole (signed16 ∷ signed16 ∷ []);
+    }
+
+pub sector : Codec 26 sectorOf sectorBytes SectorFits
+sector =
+    record {
+      length-encode = λ s. refl;
+      decode-encode = λ s h. λ i. record {
+        floor = i16-whole (s .floor) (h .0) i;
+        ceiling = i16-whole (s .ceiling) (h .1) i;
+        «floor_flat» = name-whole (s .«floor_flat») (h .2) i;
+        «ceiling_flat» = name-whole (s .«ceiling_flat») (h .3) i;
+        light = u16-whole (s .light) i;
+        special = u16-whole (s .special) i;
+        tag = u16-whole (s .tag) i;
+      };
+      encode-decode = written-whole (signed16 ∷ signed16 ∷ name ∷ name ∷ number ∷ number ∷ number ∷ []);
+    }

@@ -1,0 +1,26 @@
+-- Each of the eight kinds is lossless, by what is its own and the law for every kind. Assumes nothing.
+use Rattle.field.proofs.Lossless.{lossless}
+use Rattle.record.specs.Things.{thingOf, thingBytes, ThingFits}
+use Rattle.record.specs.Linedefs.{linedefOf, linedefBytes, LinedefFits}
+use Rattle.record.specs.Sidedefs.{sidedefOf, sidedefBytes, SidedefFits}
+use Rattle.record.specs.Vertexes.{vertexOf, vertexBytes, VertexFits}
+use Rattle.record.specs.Sectors.{sectorOf, sectorBytes, SectorFits}
+use Rattle.record.proofs.Codecs.{thing, linedef, sidedef, vertex, sector}
+use Rattle.built.specs.Segs.{segOf, segBytes, SegFits}
+use Rattle.built.specs.Subsectors.{subsectorOf, subsectorBytes, SubsectorFits}
+use Rattle.built.specs.Nodes.{nodeOf, nodeBytes, NodeFits}
+use Rattle.built.proofs.Codecs.{seg, subsector, node}
+use Rattle.table.specs.Lossless.{KindsLossless}
+
+pub kinds-lossless : KindsLossless
+kinds-lossless =
+    record {
+      thing = lossless 10 thingOf thingBytes ThingFits thing;
+      linedef = lossless 14 linedefOf linedefBytes LinedefFits linedef;
+      sidedef = lossless 30 sidedefOf sidedefBytes SidedefFits sidedef;
+      vertex = lossless 4 vertexOf vertexBytes VertexFits vertex;
+      seg = lossless 12 segOf segBytes SegFits seg;
+      subsector = lossless 4 subsectorOf subsectorBytes SubsectorFits subsector;
+      node = lossless 28 nodeOf nodeBytes NodeFits node;
+      sector = lossless 26 sectorOf sectorBytes SectorFits sector;
+    }
