@@ -7,7 +7,7 @@ use Rattle.bsp.specs.Heights.{stands, height, graphVerdict}
 use Rattle.bsp.specs.Walks.{descentFrom, descent}
 use Rattle.blockmap.specs.Blockmap.{endsWell}
 use Rattle.picture.specs.Judging.{postsCheck}
-use Rattle.picture.specs.Pixels.{overPosts, listOf}
+use Rattle.canvas.specs.Pixels.{overPosts, listOf}
 use Rattle.meshpigeon.specs.Examples.{Examples}
 
 pub examples : Examples

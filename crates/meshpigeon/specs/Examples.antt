@@ -21,8 +21,8 @@ use Rattle.level.specs.declared.Verdict.the-variants.{Accepted}
 use Rattle.level.specs.Verdict.{verdict}
 use Rattle.level.specs.Sizes.{rejectSize}
 use Rattle.blockmap.specs.Blockmap.{listOk}
-use Rattle.picture.specs.Judging.{paintCheck}
-use Rattle.picture.specs.Pixels.{planeOf, byColour, byCover}
+use Rattle.canvas.specs.Buffers.{paintCheck}
+use Rattle.canvas.specs.Pixels.{planeOf, byColour, byCover}
 
 -- (b)'s bytes, and the letters D E M O 1
 abbrev demo1 : List ℕ

@@ -7,8 +7,9 @@ use lib.ListN.{length}
 use Rattle.picture.specs.declared.Picture.{Picture}
 use Rattle.picture.specs.declared.Judged.{Judged}
 use Rattle.picture.specs.declared.Judged.the-variants.{Accepted, Refused as NotAccepted}
-use Rattle.picture.specs.Judging.{paintCheck, answerOf}
-use Rattle.picture.specs.Pixels.{planeOf, byColour, byCover, bufferAfter}
+use Rattle.picture.specs.Judging.{answerOf}
+use Rattle.canvas.specs.Buffers.{paintCheck}
+use Rattle.canvas.specs.Pixels.{planeOf, byColour, byCover, bufferAfter}
 use Rattle.meshpigeon.specs.declared.pictures.PictureAnswer.{PictureAnswer}
 use Rattle.meshpigeon.specs.Status.{accepted, refused}
 

@@ -51,5 +51,5 @@ pub extern "C" fn meshpigeon_paint_picture(
 ) -> PictureAnswer
     ensures { λ r. ⌜ PicturePainted (now (lump .entry)) (now (colour .entry)) (now (cover .entry)) r (now (colour .exit)) (now (cover .exit)) ⌝ }
 {
-    answer(picture::paint(lump, colour, cover))
+    answer(canvas::paint(lump, colour, cover))
 }

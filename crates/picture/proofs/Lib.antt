@@ -1,7 +1,4 @@
--- The laws of pictures. Assumes nothing.
+-- The laws of judging a picture. Assumes nothing.
 
 pub mod Checks
 pub mod Posts
-pub mod Strokes
-pub mod Painting
-pub mod Planes

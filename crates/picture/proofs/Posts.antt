@@ -5,17 +5,14 @@ use mathlib.Core.Bool.{Bool, true, false}
 use mathlib.Core.List.{List}
 use mathlib.Core.Path.{_≡_, refl, sym, ap, _∙_, subst}
 use native.Mathlib.Omega.{arith}
-use borrow.Author.Tests.{eq-eqb, ne-eqb, le-leb, lt-leb, leb-true, ltb-true, ltb-false}
+use borrow.Author.Tests.{eq-eqb, ne-eqb, le-leb, lt-leb, ltb-true, ltb-false}
+use lib.Dec.{ltb}
 use lib.ListN.{length, List·getD-eq-default}
 use Rattle.refusal.specs.declared.Refusal.the-variants.{PostBounds, PostRows}
 use Rattle.refusal.specs.declared.Check.{Check}
 use Rattle.refusal.specs.declared.Check.the-variants.{Pass, Refused}
-use Rattle.refusal.specs.Checks.{unless, _andThen_}
-use Rattle.refusal.proofs.Checks.{both, unless-pass, andThen-pass}
 use Rattle.picture.specs.Layout.{startAt, endRow, postEnd, Skips, stay, step}
 use Rattle.picture.specs.Judging.{postsCheck, rowsOk}
-use Rattle.picture.specs.Pixels.{overPost, overPosts}
-use lib.Dec.{leb, ltb}
 
 pub skips-on : {lump : List ℕ} {row from to : ℕ} → Skips lump row from to → from ≤ to
 skips-on stay = omega arith
@@ -74,38 +71,6 @@ module _ (lump : List ℕ) (height column : ℕ) where
           let h = ltb-false at (length lump) t in
           let q = rest-off (record { most = most; enough = omega arith; same = e }) h in
           let z : _≡_ {A = ℕ} 0 1 = cc in absurd (omega arith)
-
-  -- the end byte: nothing more is painted
-  pub posts-ended : (by : ℕ → ℕ) (most at : ℕ) → startAt lump at ≡ 255 → (row v : ℕ) → v ≡ overPosts by most lump at row v
-  unfolding overPosts
-  posts-ended by zero at e row v = refl
-  posts-ended by (suc most) at e row v = simp (eq-eqb _ _ e)
-
-  -- a post, and the rest of the column below it
-  pub record Next (most at : ℕ) : Type 0 where
-    pub left : ℕ
-    pub inside : postEnd lump at ≤ length lump
-    pub rows : endRow lump at ≤ height
-    pub rest : postsCheck left lump height column (postEnd lump at) (endRow lump at) ≡ Pass
-    pub shows : (by : ℕ → ℕ) (row v : ℕ)
-        → overPosts by left lump (postEnd lump at) row (overPost by lump at row v) ≡ overPosts by most lump at row v
-
-  pub next-of : (most at row : ℕ) → postsCheck most lump height column at row ≡ Pass → (startAt lump at ≡ 255 → ⊥) → Next most at
-  unfolding postsCheck overPosts
-  next-of zero at row e post = let z : _≡_ {A = ℕ} 0 1 = cc in absurd (omega arith)
-  next-of (suc most) at row e post =
-      let inside-part = unless (leb (postEnd lump at) (length lump)) (PostBounds column) in
-      let rows-part = unless (rowsOk lump height at row) (PostRows column) in
-      let rest = postsCheck most lump height column (postEnd lump at) (endRow lump at) in
-      let first = andThen-pass inside-part (rows-part andThen rest) (simp (ne-eqb _ _ post) at e) in
-      let second = andThen-pass rows-part rest (first .1) in
-      record {
-        left = most;
-        inside = leb-true _ _ (unless-pass _ (PostBounds column) (first .0));
-        rows = leb-true _ _ (both (leb row (startAt lump at)) _ (unless-pass _ (PostRows column) (second .0)) .1);
-        rest = second .1;
-        shows = λ by r v. simp (ne-eqb _ _ post);
-      }
 
   -- ---- posts of length 0
 

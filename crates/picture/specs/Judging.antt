@@ -1,17 +1,17 @@
--- Which pictures are refused, and with what (01, "Pictures" and the numbers 50 to 55 of "Refusal numbers", in their
+-- Which pictures are refused, and with what (01, "Pictures" and the numbers 50 to 54 of "Refusal numbers", in their
 -- order). Assumes nothing.
 use Prim.Native.Nat.{ℕ, zero, suc}
 use mathlib.Core.Bool.{Bool, _&&_, cond}
 use mathlib.Core.List.{List}
 use lib.Dec.{leb, eqb}
 use lib.ListN.{length}
-use Rattle.refusal.specs.declared.Refusal.the-variants.{PictureLength, PictureSize, PictureOffsets, PostBounds, PostRows, PixelBuffer}
+use Rattle.refusal.specs.declared.Refusal.the-variants.{PictureLength, PictureSize, PictureOffsets, PostBounds, PostRows}
 use Rattle.refusal.specs.declared.Check.{Check}
 use Rattle.refusal.specs.declared.Check.the-variants.{Pass, Refused}
 use Rattle.refusal.specs.Checks.{unless, _andThen_, each}
 use Rattle.picture.specs.declared.Judged.{Judged}
 use Rattle.picture.specs.declared.Judged.the-variants.{Accepted, Refused as NotAccepted}
-use Rattle.picture.specs.Layout.{widthOf, heightOf, areaOf, pictureOf, tableEnd, offsetOf, startAt, endRow, postEnd}
+use Rattle.picture.specs.Layout.{widthOf, heightOf, pictureOf, tableEnd, offsetOf, startAt, endRow, postEnd}
 
 -- width 1 to 320, height 1 to 200
 abbrev pub sizeOk : ℕ → ℕ → Bool
@@ -23,10 +23,6 @@ headerCheck lump =
     unless (leb 8 (length lump)) PictureLength
     andThen unless (sizeOk (widthOf lump) (heightOf lump)) PictureSize
     andThen unless (leb (tableEnd (widthOf lump)) (length lump)) PictureOffsets
-
--- 55: buffers of `colours` and `covers` bytes, each at least width × height
-abbrev pub roomCheck : List ℕ → ℕ → ℕ → Check
-roomCheck lump colours covers = unless (leb (areaOf lump) colours && leb (areaOf lump) covers) PixelBuffer
 
 -- the post at `at` starts at `row` or below, where the post before it ended, and ends at the height or above it
 abbrev pub rowsOk : List ℕ → ℕ → ℕ → ℕ → Bool
@@ -55,10 +51,6 @@ columnsCheck lump = each (columnCheck lump (widthOf lump) (heightOf lump)) (widt
 -- a picture as such
 abbrev pub judgeCheck : List ℕ → Check
 judgeCheck lump = headerCheck lump andThen columnsCheck lump
-
--- a picture to be painted into buffers of `colours` and `covers` bytes
-abbrev pub paintCheck : List ℕ → ℕ → ℕ → Check
-paintCheck lump colours covers = headerCheck lump andThen roomCheck lump colours covers andThen columnsCheck lump
 
 -- the answer: the header of a picture that passed, or the refusal
 abbrev pub answerOf : Check → List ℕ → Judged

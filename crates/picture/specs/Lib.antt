@@ -1,6 +1,4 @@
--- The picture format, the judging of a picture, and its pixels. Assumes nothing.
+-- The picture format, and the judging of a picture. Assumes nothing.
 
 pub mod Layout
 pub mod Judging
-pub mod Pixels
-pub mod Strokes

@@ -2,9 +2,8 @@
 ghost use mathlib.Core.Path.{_≡_};
 ghost use Prim.Native.Nat.{_≤_, _<_};
 ghost use lib.ListN.{length};
-ghost use Rattle.refusal.specs.Checks.{_andThen_};
 ghost use Rattle.picture.specs.Layout.{widthOf, heightOf, pictureOf};
-ghost use Rattle.picture.specs.Judging.{sizeOk, headerCheck, roomCheck};
+ghost use Rattle.picture.specs.Judging.{sizeOk, headerCheck};
 use super::Picture;
 use refusal::Check;
 use refusal::Refusal;
@@ -52,15 +51,4 @@ pub fn judge_header(lump: &[u8]) -> Check
         return Check::Refused(Refusal::PictureSize);
     }
     refusal::pass_if(8 + 4 * width <= lump.len(), Refusal::PictureOffsets)
-}
-
-// The header, and that the planes have enough bytes.
-pub fn judge_room(lump: &[u8], colours: usize, covers: usize) -> Check
-    ensures { λ r. ⌜ r ≡ headerCheck (now (lump .entry)) andThen roomCheck (now (lump .entry)) colours covers ⌝ }
-{
-    if let Check::Refused(r) = judge_header(lump) {
-        return Check::Refused(r);
-    }
-    let area = height_of(lump) * width_of(lump);
-    refusal::pass_if((area <= colours) & (area <= covers), Refusal::PixelBuffer)
 }

@@ -1,13 +1,14 @@
-// Pictures: judged, and painted into two lent planes. The format and the order of the refusals are in specs/. Nothing is
-// written before the whole picture has passed.
+// Pictures: judged. The format and the order of the refusals are in specs/.
 ghost use mathlib.Core.Path.{_≡_};
 ghost use Rattle.picture.specs.Judging.{judgeCheck, answerOf};
-ghost use Rattle.picture.specs.Pixels.{Painted};
 
-mod canvas;
 mod columns;
 mod header;
 
+pub use columns::skip_empty;
+pub use header::height_of;
+pub use header::judge_header;
+pub use header::width_of;
 use refusal::Check;
 use refusal::Refusal;
 
@@ -40,21 +41,4 @@ pub fn judge(lump: &[u8]) -> Judged
         return Judged::Refused(r);
     }
     Judged::Accepted(picture)
-}
-
-// Paints the picture into the first width × height bytes of both planes, row by row from the top: its colours, 0 where
-// nothing is painted, and its cover, 1 or 0. The numbers are 50 to 55. A refusal leaves both planes as they were.
-pub fn paint(lump: &[u8], colour: &mut [u8], cover: &mut [u8]) -> Judged
-    ensures { λ r. ⌜ Painted (now (lump .entry)) (now (colour .entry)) (now (cover .entry)) r (now (colour .exit)) (now (cover .exit)) ⌝ }
-{
-    if let Check::Refused(r) = header::judge_room(lump, colour.len(), cover.len()) {
-        return Judged::Refused(r);
-    }
-    match judge(lump) {
-        Judged::Refused(r) => Judged::Refused(r),
-        Judged::Accepted(picture) => {
-            canvas::paint_picture(lump, colour, cover);
-            Judged::Accepted(picture)
-        }
-    }
 }

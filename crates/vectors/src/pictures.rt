@@ -46,7 +46,7 @@ fn painted(label: &[u8], lump: &[u8], colour: &mut [u8], cover: &mut [u8]) {
     print::text(label);
     print::end_line();
     answer(b" judge", picture::judge(lump));
-    answer(b" paint", picture::paint(lump, colour, cover));
+    answer(b" paint", canvas::paint(lump, colour, cover));
     plane(b" colour", colour);
     plane(b" cover", cover);
 }
@@ -258,7 +258,7 @@ fn large_lump() -> [u8; 1491] {
 fn paint_large(lump: &[u8], colour: &mut [u8; 64000], cover: &mut [u8; 64000]) {
     print::text(b"320 x 200\n");
     answer(b" judge", picture::judge(lump));
-    answer(b" paint", picture::paint(lump, colour, cover));
+    answer(b" paint", canvas::paint(lump, colour, cover));
     print::line(b"colours covered", &[sum(colour), sum(cover)]);
 }
 

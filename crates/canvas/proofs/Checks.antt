@@ -1,0 +1,89 @@
+-- Laws of painting: what a picture that may be painted is known to have, and what is promised from a check's outcome. Assumes
+-- nothing.
+use Prim.Native.Nat.{ℕ, _≤_}
+use mathlib.Core.List.{List}
+use mathlib.Core.Path.{_≡_, refl, sym, ap, _∙_}
+use native.Mathlib.Omega.{arith}
+use borrow.Author.Tests.{leb-true}
+use lib.Dec.{leb}
+use lib.ListN.{length}
+use Rattle.refusal.specs.declared.Refusal.the-variants.{PixelBuffer}
+use Rattle.refusal.specs.declared.Refusal.{Refusal}
+use Rattle.refusal.specs.declared.Check.{Check}
+use Rattle.refusal.specs.declared.Check.the-variants.{Pass, Refused}
+use Rattle.refusal.specs.Checks.{_andThen_}
+use Rattle.refusal.proofs.Checks.{both, unless-pass, andThen-pass}
+use Rattle.picture.specs.Layout.{areaOf}
+use Rattle.picture.specs.Judging.{headerCheck, columnsCheck, answerOf}
+use Rattle.picture.specs.declared.Picture.{Picture}
+use Rattle.picture.specs.declared.Judged.{Judged}
+use Rattle.picture.specs.declared.Judged.the-variants.{Accepted, Refused as NotAccepted}
+use Rattle.picture.proofs.Checks.{Header, header-of}
+use Rattle.canvas.specs.Buffers.{roomCheck, paintCheck}
+use Rattle.canvas.specs.Pixels.{byColour, byCover, planeOf, bufferAfter, Painted}
+
+-- ---- a picture that may be painted
+
+pub record Good (lump : List ℕ) (colours covers : ℕ) : Type 0 where
+  pub header : Header lump
+  pub colours-fit : areaOf lump ≤ colours
+  pub covers-fit : areaOf lump ≤ covers
+  pub columns : columnsCheck lump ≡ Pass
+
+pub good-of : (lump : List ℕ) (colours covers : ℕ) → paintCheck lump colours covers ≡ Pass → Good lump colours covers
+good-of lump colours covers e =
+    let first = andThen-pass (headerCheck lump) (roomCheck lump colours covers andThen columnsCheck lump) e in
+    let second = andThen-pass (roomCheck lump colours covers) (columnsCheck lump) (first .1) in
+    let room = both (leb (areaOf lump) colours) (leb (areaOf lump) covers) (unless-pass _ PixelBuffer (second .0)) in
+    record {
+      header = header-of lump (first .0);
+      colours-fit = leb-true _ _ (room .0);
+      covers-fit = leb-true _ _ (room .1);
+      columns = second .1;
+    }
+
+-- ---- two questions for one: the header with the room, then the header with the columns
+
+pub room-refused : (a b c : Check) {r : Refusal} → a andThen b ≡ Refused r → a andThen b andThen c ≡ Refused r
+room-refused (Refused s) b c e = e
+room-refused Pass (Refused s) c e = e
+room-refused Pass Pass c e = let z : _≡_ {A = ℕ} 0 1 = cc in absurd (omega arith)
+
+pub room-passed : (a b c : Check) → a andThen b ≡ Pass → a andThen b andThen c ≡ a andThen c
+room-passed (Refused s) b c e = refl
+room-passed Pass (Refused s) c e = let z : _≡_ {A = ℕ} 0 1 = cc in absurd (omega arith)
+room-passed Pass Pass c e = refl
+
+-- ---- an answer, taken back to its check
+
+pub answer-refused : (lump : List ℕ) (check : Check) {r : Refusal} → answerOf check lump ≡ NotAccepted r → check ≡ Refused r
+answer-refused lump Pass e = let z : _≡_ {A = ℕ} 0 1 = cc in absurd (omega arith)
+answer-refused lump (Refused s) e = cc
+
+pub answer-accepted : (lump : List ℕ) (check : Check) {p : Picture} → answerOf check lump ≡ Accepted p → check ≡ Pass
+answer-accepted lump Pass e = refl
+answer-accepted lump (Refused s) e = let z : _≡_ {A = ℕ} 0 1 = cc in absurd (omega arith)
+
+-- ---- what painting promises, from the check's outcome
+
+module _ (lump colour cover : List ℕ) where
+  pub painted-refused : {r : Refusal} → paintCheck lump (length colour) (length cover) ≡ Refused r
+      → Painted lump colour cover (NotAccepted r) colour cover
+  painted-refused e =
+      record {
+        answered = ap (λ (k : Check). answerOf k lump) (sym e);
+        colours = ap (λ (k : Check). bufferAfter k (planeOf byColour lump) colour) (sym e);
+        covered = ap (λ (k : Check). bufferAfter k (planeOf byCover lump) cover) (sym e);
+      }
+
+  pub painted-passed : {answer : Judged} {colour' cover' : List ℕ} → paintCheck lump (length colour) (length cover) ≡ Pass
+      → answer ≡ answerOf (paintCheck lump (length colour) (length cover)) lump
+      → colour' ≡ bufferAfter Pass (planeOf byColour lump) colour
+      → cover' ≡ bufferAfter Pass (planeOf byCover lump) cover
+      → Painted lump colour cover answer colour' cover'
+  painted-passed e a b c =
+      record {
+        answered = a;
+        colours = b ∙ ap (λ (k : Check). bufferAfter k (planeOf byColour lump) colour) (sym e);
+        covered = c ∙ ap (λ (k : Check). bufferAfter k (planeOf byCover lump) cover) (sym e);
+      }

@@ -1,0 +1,77 @@
+-- `canvas::paint` meets its contract: the room's check and the judge's answer are the definition's check, and the
+-- planes are painted where it passed. Assumes nothing.
+use mathlib.Core.Path.{_≡_, sym, ap, _∙_}
+use denote.Ref.{now}
+use lib.ListN.{length}
+use Rattle.refusal.specs.declared.Check.{Check}
+use Rattle.refusal.specs.declared.Check.the-variants.{Pass}
+use Rattle.picture.specs.Judging.{headerCheck, columnsCheck, judgeCheck, answerOf}
+use Rattle.canvas.specs.Buffers.{roomCheck, paintCheck}
+use Rattle.canvas.proofs.Checks.{room-refused, room-passed, answer-refused, answer-accepted, painted-refused, painted-passed}
+use borrow.Author.Needs.{needs}
+use Rattle.canvas.proofs.paint.Statement.{statement}
+use Rattle.canvas.proofs.paint.Tie as tie
+
+-- the definition's check, of what was lent
+abbrev check : tie.Start → Check
+check c = paintCheck (now (c .args .lump)) (length (now (c .args .colour))) (length (now (c .args .cover)))
+
+abbrev room : tie.Start → Check
+room c = roomCheck (now (c .args .lump)) (length (now (c .args .colour))) (length (now (c .args .cover)))
+
+returns : tie.Need-returns
+returns c =
+    let s = c .before .before .before .before .before .before .before in
+    painted-refused _ _ _
+    (room-refused (headerCheck (now (s .args .lump))) (room s) (columnsCheck (now (s .args .lump)))
+    (sym (c .before .before .before .judge-room .ensures) ∙ c .before .r .given .1))
+
+-- once there is room, the judge's check is the whole
+judging : (c : tie.After-enum-told) → check (c .before .before .before .before .before .before) ≡ judgeCheck (now (c .before .before .before .before .before .before .args .lump))
+judging c =
+    let s = c .before .before .before .before .before .before in
+    room-passed (headerCheck (now (s .args .lump))) (room s) (columnsCheck (now (s .args .lump)))
+    (sym (c .before .before .judge-room .ensures) ∙ c .enum-told .given .1)
+
+passed : (c : tie.After-picture) → check (c .before .before .before .before .before .before .before .before .before) ≡ Pass
+passed c =
+    let judged = c .before .before in
+    let l = now (judged .before .before .before .before .before .before .before .args .lump) in
+    judging (judged .before) ∙ answer-accepted l (judgeCheck l) (sym (judged .judge .ensures) ∙ c .picture .given .1)
+
+paint-picture-requires : tie.Need-paint-picture-requires
+paint-picture-requires c κs = passed (c .before .before .before)
+
+returns-2 : tie.Need-returns-2
+returns-2 c =
+    let judged = c .before .before .before in
+    let l = now (judged .before .before .before .before .before .before .before .args .lump) in
+    painted-refused _ _ _
+    (judging (judged .before) ∙ answer-refused l (judgeCheck l) (sym (judged .judge .ensures) ∙ c .before .r2 .given .1))
+
+returns-3 : tie.Need-returns-3
+returns-3 c =
+    let called = c .before .before .before .before in
+    let met = called .before .before .before .before in
+    let judged = met .before .before in
+    let l = now (judged .before .before .before .before .before .before .before .args .lump) in
+    painted-passed l _ _ (passed met)
+    (sym (met .picture .given .1) ∙ judged .judge .ensures ∙ ap (λ (k : Check). answerOf k l) (sym (judging (judged .before))))
+    (called .paint-picture .ensures .0) (called .paint-picture .ensures .1)
+
+pub paint-spec : {M : Type 1} → statement M
+paint-spec =
+    tie.close
+    (tie.spec
+    (λ c κs. search needs)
+    (λ c. search needs)
+    returns
+    (λ c. search needs)
+    (λ c κs. search needs)
+    (λ c. search needs)
+    (λ c. search needs)
+    paint-picture-requires
+    returns-2
+    (λ c. search needs)
+    (λ c. search needs)
+    returns-3)

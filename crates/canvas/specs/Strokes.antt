@@ -1,0 +1,29 @@
+-- What the painting functions do to a plane of `area` pixels in rows of `width`, said of each pixel. Pixel (column, row)
+-- stands at row × width + column. Assumes nothing.
+use Prim.Native.Nat.{ℕ, _+_, _*_, _≤_, _<_}
+use mathlib.Core.List.{List}
+use mathlib.Core.Path.{_≡_}
+use lib.ListN.{length, getD, drop}
+use Rattle.picture.specs.Layout.{heightOf}
+
+-- two planes that a picture with rows of `width` fits into
+pub record Room (lump : List ℕ) (width : ℕ) (colour cover : List ℕ) : Type 0 where
+  pub colours : heightOf lump * width ≤ length colour
+  pub covers : heightOf lump * width ≤ length cover
+
+-- `old` has become `new` in one column alone, where row `row` shows `f row` of what it showed
+pub record Stroke (area width column : ℕ) (f : ℕ → ℕ → ℕ) (old new : List ℕ) : Type 0 where
+  pub same : length new ≡ length old
+  pub beyond : drop area new ≡ drop area old
+  pub here : (row : ℕ) → getD new (row * width + column) 0 ≡ f row (getD old (row * width + column) 0)
+  pub elsewhere : (other row : ℕ) → other < width → (other ≡ column → ⊥)
+      → getD new (row * width + other) 0 ≡ getD old (row * width + other) 0
+
+-- the same of all columns before `count`
+pub record Strokes (area width count : ℕ) (f : ℕ → ℕ → ℕ → ℕ) (old new : List ℕ) : Type 0 where
+  pub same : length new ≡ length old
+  pub beyond : drop area new ≡ drop area old
+  pub done : (column row : ℕ) → column < count
+      → getD new (row * width + column) 0 ≡ f column row (getD old (row * width + column) 0)
+  pub left : (column row : ℕ) → column < width → count ≤ column
+      → getD new (row * width + column) 0 ≡ getD old (row * width + column) 0

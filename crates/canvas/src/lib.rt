@@ -1,0 +1,133 @@
+// Painting: a picture into two lent planes, colour and cover. Nothing is written before the whole picture has passed.
+ghost use mathlib.Core.Path.{_≡_};
+ghost use mathlib.Core.List.{_++_};
+ghost use Prim.Native.Nat.{_+_, _*_, _≤_, _<_};
+ghost use lib.ListN.{length, drop, replicate};
+ghost use Rattle.refusal.specs.declared.Check.the-variants.{Pass};
+ghost use Rattle.refusal.specs.Checks.{_andThen_, each};
+ghost use Rattle.picture.specs.Layout.{heightOf, postEnd, endRow};
+ghost use Rattle.picture.specs.Judging.{headerCheck, postsCheck, columnCheck};
+ghost use Rattle.canvas.specs.Buffers.{roomCheck, paintCheck};
+ghost use Rattle.canvas.specs.Pixels.{Painted, byColour, byCover, overPost, overPosts, overColumn, planeOf, bufferAfter};
+ghost use Rattle.canvas.specs.Strokes.{Room, Stroke, Strokes};
+use picture::Judged;
+use picture::height_of;
+use picture::judge_header;
+use picture::skip_empty;
+use picture::width_of;
+use refusal::Check;
+use refusal::Refusal;
+
+// Paints the picture into the first width × height bytes of both planes, row by row from the top: its colours, 0 where
+// nothing is painted, and its cover, 1 or 0. The numbers are 50 to 55. A refusal leaves both planes as they were.
+pub fn paint(lump: &[u8], colour: &mut [u8], cover: &mut [u8]) -> Judged
+    ensures { λ r. ⌜ Painted (now (lump .entry)) (now (colour .entry)) (now (cover .entry)) r (now (colour .exit)) (now (cover .exit)) ⌝ }
+{
+    if let Check::Refused(r) = judge_room(lump, colour.len(), cover.len()) {
+        return Judged::Refused(r);
+    }
+    match picture::judge(lump) {
+        Judged::Refused(r) => Judged::Refused(r),
+        Judged::Accepted(picture) => {
+            paint_picture(lump, colour, cover);
+            Judged::Accepted(picture)
+        }
+    }
+}
+
+// The header, and that the planes have enough bytes.
+fn judge_room(lump: &[u8], colours: usize, covers: usize) -> Check
+    ensures { λ r. ⌜ r ≡ headerCheck (now (lump .entry)) andThen roomCheck (now (lump .entry)) colours covers ⌝ }
+{
+    if let Check::Refused(r) = judge_header(lump) {
+        return Check::Refused(r);
+    }
+    let area = height_of(lump) * width_of(lump);
+    refusal::pass_if((area <= colours) & (area <= covers), Refusal::PixelBuffer)
+}
+
+// Paints a picture that has passed, over cleared planes.
+fn paint_picture(lump: &[u8], colour: &mut [u8], cover: &mut [u8])
+    requires { ⌜ paintCheck (now lump) (length (now colour)) (length (now cover)) ≡ Pass ⌝ }
+    ensures { λ _. ⌜ now (colour .exit) ≡ bufferAfter Pass (planeOf byColour (now (lump .entry))) (now (colour .entry)) ⌝ }
+    ensures { λ _. ⌜ now (cover .exit) ≡ bufferAfter Pass (planeOf byCover (now (lump .entry))) (now (cover .entry)) ⌝ }
+{
+    let width = width_of(lump);
+    let area = height_of(lump) * width;
+    clear(colour, area);
+    clear(cover, area);
+    paint_columns(lump, width, colour, cover);
+}
+
+// Zeros the first `count` bytes.
+fn clear(plane: &mut [u8], count: usize)
+    requires { ⌜ count ≤ length (now plane) ⌝ }
+    ensures { λ _. ⌜ now (plane .exit) ≡ replicate count 0 ++ drop count (now (plane .entry)) ⌝ }
+{
+    for i in 0..count {
+        plane[i] = 0;
+    }
+}
+
+// Paints every column.
+fn paint_columns(lump: &[u8], width: usize, colour: &mut [u8], cover: &mut [u8])
+    requires { ⌜ (8 + 4 * width ≤ length (now lump)) × (each (columnCheck (now lump) width (heightOf (now lump))) width ≡ Pass) ⌝ }
+    requires { ⌜ Room (now lump) width (now colour) (now cover) ⌝ }
+    ensures { λ _. ⌜ Strokes (heightOf (now (lump .entry)) * width) width width (overColumn byColour (now (lump .entry))) (now (colour .entry)) (now (colour .exit)) ⌝ }
+    ensures { λ _. ⌜ Strokes (heightOf (now (lump .entry)) * width) width width (overColumn byCover (now (lump .entry))) (now (cover .entry)) (now (cover .exit)) ⌝ }
+{
+    for column in 0..width {
+        let offset = endian::u32_at(lump, 8 + 4 * column) as usize;
+        paint_posts(lump, offset, width, column, colour, cover);
+    }
+}
+
+// Paints the posts from `from` on, down to the end byte.
+fn paint_posts(
+    lump: &[u8],
+    from: usize,
+    width: usize,
+    column: usize,
+    colour: &mut [u8],
+    cover: &mut [u8],
+)
+    requires { ⌜ (column < width) × (postsCheck (length (now lump)) (now lump) (heightOf (now lump)) column from 0 ≡ Pass) ⌝ }
+    requires { ⌜ Room (now lump) width (now colour) (now cover) ⌝ }
+    ensures { λ _. ⌜ Stroke (heightOf (now (lump .entry)) * width) width column (overPosts byColour (length (now (lump .entry))) (now (lump .entry)) from) (now (colour .entry)) (now (colour .exit)) ⌝ }
+    ensures { λ _. ⌜ Stroke (heightOf (now (lump .entry)) * width) width column (overPosts byCover (length (now (lump .entry))) (now (lump .entry)) from) (now (cover .entry)) (now (cover .exit)) ⌝ }
+{
+    let mut at = from;
+    loop {
+        let start = lump[at];
+        if start == 255 {
+            return;
+        }
+        let next = paint_post(lump, at, width, column, colour, cover);
+        at = skip_empty(lump, next, start);
+    }
+}
+
+// Paints the post at `at`, and answers where the next one is.
+fn paint_post(
+    lump: &[u8],
+    at: usize,
+    width: usize,
+    column: usize,
+    colour: &mut [u8],
+    cover: &mut [u8],
+) -> usize
+    requires { ⌜ (column < width) × (postEnd (now lump) at ≤ length (now lump)) × (endRow (now lump) at ≤ heightOf (now lump)) ⌝ }
+    requires { ⌜ Room (now lump) width (now colour) (now cover) ⌝ }
+    ensures { λ r. ⌜ r ≡ postEnd (now (lump .entry)) at ⌝ }
+    ensures { λ _. ⌜ Stroke (heightOf (now (lump .entry)) * width) width column (overPost byColour (now (lump .entry)) at) (now (colour .entry)) (now (colour .exit)) ⌝ }
+    ensures { λ _. ⌜ Stroke (heightOf (now (lump .entry)) * width) width column (overPost byCover (now (lump .entry)) at) (now (cover .entry)) (now (cover .exit)) ⌝ }
+{
+    let start = lump[at] as usize;
+    let count = lump[at + 1] as usize;
+    for i in 0..count {
+        let to = (start + i) * width + column;
+        colour[to] = lump[at + 3 + i];
+        cover[to] = 1;
+    }
+    at + 4 + count
+}
