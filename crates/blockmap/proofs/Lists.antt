@@ -1,7 +1,7 @@
 -- Laws of BLOCKMAP's lists: one word more from the end, and what the pass over them notes. Assumes nothing.
-use Prim.Native.Nat.{ℕ, suc, _+_, _-_, _%_, _≤_, _<_}
-use mathlib.Core.Bool.{Bool, true, false, _&&_, cond, and-false, and-eq-true-iff}
-use mathlib.Core.List.{List}
+use Prim.Native.Nat.{ℕ, zero, suc, _+_, _-_, _%_, _≤_, _<_}
+use mathlib.Core.Bool.{Bool, true, false, _&&_, _||_, cond, and-false, and-eq-true-iff}
+use mathlib.Core.List.{List, [], _∷_}
 use mathlib.Core.Logic.{⊎-elim}
 use mathlib.Core.Path.{_≡_, refl, sym, ap, _∙_}
 use native.Mathlib.Nat.{eq-or-lt-of-le}
@@ -10,8 +10,8 @@ use borrow.Author.Tests.{le-leb, lt-leb, lt-ltb, le-ltb, leb-true}
 use lib.Dec.{leb, ltb, eqb}
 use lib.ListN.{length, getD, set}
 use lib.Seq.{getD-set-same, getD-set-other}
-use Rattle.blockmap.specs.Blockmap.{wordsOf, wordAt, cellsOf, sideOk, headerOk, endsWell, listOk}
-use Rattle.blockmap.specs.Noted.{bit, NotedFrom}
+use Rattle.blockmap.specs.Blockmap.{wordsOf, wordAt, cellsOf, sideOk, headerOk, listEnd, listEnds, numbersFrom, allUnder, listOk}
+use Rattle.blockmap.specs.Inner.{endsWell, bit, NotedFrom}
 
 module _ (lump : List ℕ) (linedefs : ℕ) where
   -- a list at word `w` ends well if the mark is there, or a linedef before a place that ends well
@@ -39,6 +39,25 @@ module _ (lump : List ℕ) (linedefs : ℕ) where
       t ∙ (λ i. ends (e i) (q i))
       ∙ ap (λ (n : ℕ). ends (wordAt lump n) (endsWell lump linedefs (wordsOf lump - suc at))) (sym place)
       ∙ sym (step (wordsOf lump - suc at)) ∙ sym (ap (endsWell lump linedefs) left)
+
+  -- the pass tells whether the mark comes, and every number before it is below `linedefs`
+  both-by : (b : Bool) (w : ℕ) (end all : Bool) (rest : List ℕ) → all ≡ allUnder linedefs rest
+      → cond b true (ltb w linedefs && (end && all)) ≡ ((b || end) && allUnder linedefs (cond b [] (w ∷ rest)))
+  both-by true w end all rest e = refl
+  both-by false w end all rest e = swap (ltb w linedefs) end ∙ ap (λ (a : Bool). end && (ltb w linedefs && a)) e
+    where
+      swap : (a b : Bool) → (a && (b && all)) ≡ (b && (a && all))
+      swap true b = refl
+      swap false true = refl
+      swap false false = refl
+
+  pub endsWell-list : (left : ℕ) → endsWell lump linedefs left ≡ (listEnds lump left && allUnder linedefs (numbersFrom lump left))
+  unfolding endsWell listEnds numbersFrom
+  endsWell-list zero = refl
+  endsWell-list (suc left) =
+      let w = wordAt lump (wordsOf lump - suc left) in
+      ap (λ (b : Bool). cond (eqb w listEnd) true (ltb w linedefs && b)) (endsWell-list left)
+      ∙ both-by (eqb w listEnd) w (listEnds lump left) (allUnder linedefs (numbersFrom lump left)) (numbersFrom lump left) refl
 
   -- a place noted before those that are noted already
   pub noted-more : (at top : ℕ) (notes : List ℕ) {b : Bool} {v : ℕ} → at < length notes
@@ -72,7 +91,7 @@ module _ (lump : List ℕ) (linedefs offset : ℕ) where
       → v ≡ bit (endsWell lump linedefs (wordsOf lump - (offset + 1))) → (eqb w 0 && eqb v 1) ≡ listOk lump linedefs offset
   listOk-noted low high e q =
       (λ i. eqb (e i) 0 && eqb (q i) 1)
-      ∙ rw (bit-one (endsWell lump linedefs (wordsOf lump - (offset + 1))), le-leb (4 + cellsOf lump) offset low, lt-ltb offset (wordsOf lump) high)
+      ∙ rw (bit-one (endsWell lump linedefs (wordsOf lump - (offset + 1))), endsWell-list lump linedefs (wordsOf lump - (offset + 1)), le-leb (4 + cellsOf lump) offset low, lt-ltb offset (wordsOf lump) high)
 
 -- ---- a good header
 

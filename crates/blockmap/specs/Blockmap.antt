@@ -1,8 +1,8 @@
 -- BLOCKMAP: 28 (01, "References"; documents 001 and 003). A lump of 16-bit words: origin x and y, columns, rows, an offset for
 -- each cell, and lists of linedef numbers. Assumes nothing.
 use Prim.Native.Nat.{ℕ, zero, suc, _+_, _-_, _*_, _/_, _%_}
-use mathlib.Core.Bool.{Bool, true, false, _&&_, cond}
-use mathlib.Core.List.{List}
+use mathlib.Core.Bool.{Bool, true, false, _&&_, _||_, cond}
+use mathlib.Core.List.{List, [], _∷_}
 use lib.Dec.{leb, ltb, eqb}
 use lib.ListN.{length}
 use Rattle.endian.specs.Unsigned.{u16At}
@@ -36,20 +36,32 @@ headerOk lump =
 abbrev pub listEnd : ℕ
 listEnd = 65535
 
--- the last `left` words of the lump, from word `wordsOf lump - left` on, begin with linedef numbers below `linedefs` and then the
--- mark; without a mark they run off the end
-unfoldable pub endsWell : List ℕ → ℕ → ℕ → Bool
-endsWell lump linedefs zero = false
-endsWell lump linedefs (suc left) =
-    cond (eqb (wordAt lump (wordsOf lump - suc left)) listEnd)
-    true
-    (ltb (wordAt lump (wordsOf lump - suc left)) linedefs && endsWell lump linedefs left)
+-- the mark is among the last `left` words of the lump
+unfoldable pub listEnds : List ℕ → ℕ → Bool
+listEnds lump zero = false
+listEnds lump (suc left) = eqb (wordAt lump (wordsOf lump - suc left)) listEnd || listEnds lump left
 
--- a list at word `offset`: behind the offsets and inside the lump, a 0, then linedef numbers, then the mark
+-- the last `left` words of the lump, up to the mark
+unfoldable pub numbersFrom : List ℕ → ℕ → List ℕ
+numbersFrom lump zero = []
+numbersFrom lump (suc left) =
+    cond (eqb (wordAt lump (wordsOf lump - suc left)) listEnd) []
+    (wordAt lump (wordsOf lump - suc left) ∷ numbersFrom lump left)
+
+-- the linedefs that a list at word `offset` names: the words behind its first, up to the mark
+abbrev pub linedefsNamed : List ℕ → ℕ → List ℕ
+linedefsNamed lump offset = numbersFrom lump (wordsOf lump - (offset + 1))
+
+-- every number of a list is below `n`
+abbrev pub allUnder : ℕ → List ℕ → Bool
+allUnder n [] = true
+allUnder n (x ∷ xs) = ltb x n && allUnder n xs
+
+-- a list at word `offset`: behind the offsets and inside the lump, a 0, then linedef numbers below `linedefs`, then the mark
 abbrev pub listOk : List ℕ → ℕ → ℕ → Bool
 listOk lump linedefs offset =
     leb (4 + cellsOf lump) offset && ltb offset (wordsOf lump) && eqb (wordAt lump offset) 0
-    && endsWell lump linedefs (wordsOf lump - (offset + 1))
+    && (listEnds lump (wordsOf lump - (offset + 1)) && allUnder linedefs (linedefsNamed lump offset))
 
 -- the list of cell `i`
 abbrev pub cellCheck : List ℕ → ℕ → ℕ → Check

@@ -1,4 +1,4 @@
--- BLOCKMAP's words, header, cells and lists, and what the pass over the lists notes. Assumes nothing.
+-- BLOCKMAP's words, header, cells and lists; and, for inner contracts alone, the pass over the lists. Assumes nothing.
 
 pub mod Blockmap
-pub mod Noted
+pub mod Inner

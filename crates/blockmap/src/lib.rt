@@ -7,8 +7,8 @@ ghost use Prim.Native.Nat.{_+_, _-_, _<_, _≤_, min};
 ghost use lib.Dec.{ltb, eqb};
 ghost use lib.ListN.{length};
 ghost use Rattle.refusal.specs.Checks.{each};
-ghost use Rattle.blockmap.specs.Blockmap.{wordsOf, wordAt, cellsOf, sideOk, headerOk, endsWell, listOk, cellCheck, blockmapCheck};
-ghost use Rattle.blockmap.specs.Noted.{bit, NotedFrom, Noted};
+ghost use Rattle.blockmap.specs.Blockmap.{wordsOf, wordAt, cellsOf, sideOk, headerOk, listOk, cellCheck, blockmapCheck};
+ghost use Rattle.blockmap.specs.Inner.{endsWell, bit, NotedFrom, Noted};
 use refusal::Check;
 use refusal::Refusal;
 

@@ -8,7 +8,6 @@ use native.Mathlib.Omega.{arith}
 use Rattle.bsp.specs.declared.Choice.{Choice}
 use Rattle.bsp.specs.declared.Choice.the-variants.{Right, Left}
 
--- both parts of an `&&`
 module _ (f : Choice → Bool) where
   some-by : (r : Bool) → f Right ≡ r → (r || f Left) ≡ true → (c : Choice) × (f c ≡ true)
   some-by true q e = (Right, q)

@@ -1,5 +1,5 @@
 -- Where the verdict is a depth, the descent of every point is its plain walk, and no longer than the depth. Assumes nothing.
-use Prim.Native.Nat.{ℕ, _+_, _%_, _<_}
+use Prim.Native.Nat.{ℕ, _+_, _*_, _%_, _≤_, _<_}
 use mathlib.Core.Bool.{Bool, true, false, _||_}
 use mathlib.Core.List.{List}
 use mathlib.Core.Path.{_≡_, refl, ap, _∙_}
@@ -7,14 +7,33 @@ use native.Mathlib.Decide.{decLt}
 use native.Mathlib.Omega.{arith}
 use borrow.Author.Tests.{lt-ltb, le-leb, eq-eqb}
 use lib.Dec.{ltb, eqb}
+use lib.IntN.{ℤ}
 use lib.ListN.{length}
+use Rattle.built.specs.Nodes.{nodeSize}
 use Rattle.bsp.specs.declared.Descent.the-variants.{Found}
 use Rattle.bsp.specs.Nodes.{nodesOf, root}
 use Rattle.bsp.specs.Walks.{nodesOk, subsectorsOk}
-use Rattle.bsp.specs.Promises.{Passed, DescentHolds}
-use Rattle.bsp.proofs.Nodes.{root-node}
+use Rattle.bsp.specs.declared.Graph.{Graph}
+use Rattle.bsp.specs.Heights.{graphVerdict}
+use Rattle.bsp.specs.Promises.{Descends}
+use Rattle.bsp.proofs.Nodes.{ChildrenInRange, root-node}
 use Rattle.bsp.proofs.Verdict.{depth-verdict}
 use Rattle.bsp.proofs.Walks.{walk-only, descent-root, finds}
+
+-- a NODES lump and a count of subsectors that have passed every check before the graph's
+pub record Passed (nodes : List ℕ) (subsectors : ℕ) : Type 0 where
+  pub whole : nodeSize * nodesOf nodes ≡ length nodes
+  pub few : nodesOf nodes ≤ 32767
+  pub least : 1 ≤ subsectors
+  pub most : subsectors ≤ 32767
+  pub alone : nodesOf nodes ≡ 0 → subsectors ≡ 1
+  pub inRange : ChildrenInRange nodes subsectors
+
+-- where the verdict is a depth, every point descends
+abbrev pub DescentHolds : List ℕ → ℕ → Type 0
+DescentHolds nodes subsectors =
+    Passed nodes subsectors → (depth : ℕ) → graphVerdict nodes ≡ Graph.HasDepth depth
+    → (x y : ℤ) → Descends nodes subsectors x y depth
 
 alone-ok : (count subsectors : ℕ) → (count ≡ 0 → subsectors ≡ 1) → (ltb 0 count || eqb subsectors 1) ≡ true
 alone-ok count subsectors one = by (decLt 0 count)

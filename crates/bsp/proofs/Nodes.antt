@@ -6,9 +6,17 @@ use mathlib.Core.Path.{_≡_}
 use native.Mathlib.Omega.{arith}
 use borrow.Author.Tests.{ltb-true, lt-ltb}
 use lib.ListN.{length}
+use Rattle.built.specs.Nodes.{nodeSize}
 use Rattle.refusal.proofs.Checks.{both}
+use Rattle.bsp.specs.declared.Choice.{Choice}
 use Rattle.bsp.specs.declared.Choice.the-variants.{Right, Left}
-use Rattle.bsp.specs.Nodes.{nodesOf, subsectorBit, root, childOf, childOk, nodeOk, ChildrenInRange, NodesInRange}
+use Rattle.bsp.specs.Nodes.{nodesOf, subsectorBit, root, childOf, childOk, nodeOk}
+use Rattle.bsp.specs.Inner.{NodesInRange}
+
+-- every child of every node is in range, whether a route reaches the node or not
+abbrev pub ChildrenInRange : List ℕ → ℕ → Type 0
+ChildrenInRange nodes subsectors =
+    (i : ℕ) → i < nodesOf nodes → (c : Choice) → childOk (nodesOf nodes) subsectors (childOf nodes i c) ≡ true
 
 -- a word in range that is a node is one of the lump's
 pub childOk-node : (count subsectors w : ℕ) → childOk count subsectors w ≡ true → w < subsectorBit → w < count
@@ -24,7 +32,7 @@ pub nodes-in-range : (nodes : List ℕ) (subsectors : ℕ) → ChildrenInRange n
 nodes-in-range nodes subsectors ok i h c n = childOk-node (nodesOf nodes) subsectors (childOf nodes i c) (ok i h c) n
 
 -- whole nodes are counted by their bytes
-pub nodesOf-whole : (nodes : List ℕ) (count : ℕ) → 28 * count ≡ length nodes → nodesOf nodes ≡ count
+pub nodesOf-whole : (nodes : List ℕ) (count : ℕ) → nodeSize * count ≡ length nodes → nodesOf nodes ≡ count
 nodesOf-whole nodes count e = omega arith
 
 pub root-last : (count : ℕ) → 0 < count → root count ≡ count - 1

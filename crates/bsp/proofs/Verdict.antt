@@ -19,54 +19,54 @@ abbrev pub rootHeight : List ℕ → ℕ
 rootHeight nodes = height nodes (nodesOf nodes) (root (nodesOf nodes))
 
 module _ (nodes : List ℕ) where
-  pub verdict-loop : looping nodes ≡ true → graphVerdict nodes ≡ Graph.Loop
+  pub verdict-loop : looping nodes ≡ true → graphVerdict nodes ≡ Graph.HasLoop
   unfolding graphVerdict
   verdict-loop e = rw e
 
   pub verdict-depth : looping nodes ≡ false
-      → graphVerdict nodes ≡ Graph.Depth (rootHeight nodes)
+      → graphVerdict nodes ≡ Graph.HasDepth (rootHeight nodes)
   unfolding graphVerdict
   verdict-depth e = rw e
 
   -- without nodes the depth is 0
-  pub verdict-none : nodesOf nodes ≡ 0 → graphVerdict nodes ≡ Graph.Depth 0
+  pub verdict-none : nodesOf nodes ≡ 0 → graphVerdict nodes ≡ Graph.HasDepth 0
   verdict-none e =
       let off : looping nodes ≡ false = rw e (stands-none nodes subsectorBit) in
       let is : rootHeight nodes ≡ 0 = rw e (height-none nodes subsectorBit) in
-      verdict-depth off ∙ ap Graph.Depth is
+      verdict-depth off ∙ ap Graph.HasDepth is
 
   -- the verdict's two cases
-  loop-by : (b : Bool) → looping nodes ≡ b → graphVerdict nodes ≡ Graph.Loop → b ≡ true
+  loop-by : (b : Bool) → looping nodes ≡ b → graphVerdict nodes ≡ Graph.HasLoop → b ≡ true
   loop-by true s e = refl
   loop-by false s e = let v = verdict-depth s in let z : _≡_ {A = ℕ} 0 1 = cc in absurd (omega arith)
 
-  depth-by : (b : Bool) → looping nodes ≡ b → {d : ℕ} → graphVerdict nodes ≡ Graph.Depth d
+  depth-by : (b : Bool) → looping nodes ≡ b → {d : ℕ} → graphVerdict nodes ≡ Graph.HasDepth d
       → (b ≡ false) × (rootHeight nodes ≡ d)
   depth-by true s e = let v = verdict-loop s in let z : _≡_ {A = ℕ} 0 1 = cc in absurd (omega arith)
   depth-by false s e = let v = verdict-depth s in (refl, cc)
 
-  pub depth-verdict : {d : ℕ} → graphVerdict nodes ≡ Graph.Depth d
+  pub depth-verdict : {d : ℕ} → graphVerdict nodes ≡ Graph.HasDepth d
       → (looping nodes ≡ false)
       × (rootHeight nodes ≡ d)
   depth-verdict e = depth-by (looping nodes) refl e
 
-  loops : graphVerdict nodes ≡ Graph.Loop → Loop nodes
+  loops : graphVerdict nodes ≡ Graph.HasLoop → Loop nodes
   loops e =
       let on = loop-by (looping nodes) refl e in
       let (m, node) = stands-made nodes (nodesOf nodes) (root (nodesOf nodes)) on in
       record { choices = m .choices; many = m .many; stand = m .stand; leads = m .leads; onNode = node }
 
-  looped : Loop nodes → graphVerdict nodes ≡ Graph.Loop
+  looped : Loop nodes → graphVerdict nodes ≡ Graph.HasLoop
   looped l =
       let on = made-stands nodes (l .choices) (root (nodesOf nodes)) (l .leads) (l .onNode) in
       verdict-loop (sym (ap (λ (k : ℕ). stands nodes k (root (nodesOf nodes))) (l .many)) ∙ on)
 
   noLoop-by : (b : Bool) → looping nodes ≡ b → (Loop nodes → ⊥)
-      → (depth : ℕ) × (graphVerdict nodes ≡ Graph.Depth depth)
+      → (depth : ℕ) × (graphVerdict nodes ≡ Graph.HasDepth depth)
   noLoop-by true s none = absurd (none (loops (verdict-loop s)))
   noLoop-by false s none = (rootHeight nodes, verdict-depth s)
 
-  deep : (d : ℕ) → graphVerdict nodes ≡ Graph.Depth d → Depth nodes d
+  deep : (d : ℕ) → graphVerdict nodes ≡ Graph.HasDepth d → Depth nodes d
   deep d e =
       let (off, is) = depth-verdict e in
       let (m, end) = height-made nodes (nodesOf nodes) (root (nodesOf nodes)) off in

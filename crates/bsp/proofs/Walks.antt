@@ -15,12 +15,12 @@ use Rattle.refusal.specs.declared.Refusal.the-variants.{DescentNodes, DescentSu
 use Rattle.bsp.specs.declared.Choice.{Choice}
 use Rattle.bsp.specs.declared.Descent.{Descent}
 use Rattle.bsp.specs.declared.Descent.the-variants.{Found, Refused}
-use Rattle.bsp.specs.Nodes.{nodesOf, subsectorBit, root, childOf, childOk, ChildrenInRange}
+use Rattle.bsp.specs.Nodes.{nodesOf, subsectorBit, root, childOf, childOk}
 use Rattle.bsp.specs.Heights.{stands, height}
 use Rattle.bsp.specs.Side.{sideAt, chosen}
 use Rattle.bsp.specs.Walks.{Walk, ends, goes, descentFrom, nodesOk, subsectorsOk, descent}
 use Rattle.bsp.proofs.Choices.{le-larger}
-use Rattle.bsp.proofs.Nodes.{childOk-node}
+use Rattle.bsp.proofs.Nodes.{ChildrenInRange, childOk-node}
 use Rattle.bsp.proofs.Heights.{node-or-end, stands-none, stands-child, height-node}
 
 module _ (nodes : List ℕ) (x y : ℤ) where

@@ -22,5 +22,5 @@ height nodes (suc k) w =
 unfoldable pub graphVerdict : List ℕ → Graph
 graphVerdict nodes =
     cond (stands nodes (nodesOf nodes) (root (nodesOf nodes)))
-    Graph.Loop
-    (Graph.Depth (height nodes (nodesOf nodes) (root (nodesOf nodes))))
+    Graph.HasLoop
+    (Graph.HasDepth (height nodes (nodesOf nodes) (root (nodesOf nodes))))

@@ -6,3 +6,4 @@ pub mod Heights
 pub mod Side
 pub mod Walks
 pub mod Promises
+pub mod Inner

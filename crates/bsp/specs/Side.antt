@@ -1,13 +1,12 @@
 -- On which side of a node's line a point lies (01, "The node graph"). Assumes nothing.
-use Prim.Native.Nat.{ℕ, _+_, _*_}
+use Prim.Native.Nat.{ℕ}
 use mathlib.Core.Bool.{cond}
 use mathlib.Core.List.{List}
 use lib.IntN.{ℤ, _-ℤ_, _*ℤ_}
 use lib.Signed.{ltZ}
-use Rattle.endian.specs.Signed.{i16At}
 use Rattle.bsp.specs.declared.Choice.{Choice}
 use Rattle.bsp.specs.declared.Choice.the-variants.{Right, Left}
-use Rattle.bsp.specs.Nodes.{childOf}
+use Rattle.bsp.specs.Nodes.{nodeIn, childOf}
 
 -- right exactly if (x - px) × dy > (y - py) × dx over whole numbers, for the point (x, y) and a line from (px, py) in the
 -- direction (dx, dy)
@@ -17,7 +16,7 @@ side x y px py dx dy = cond (ltZ ((y -ℤ py) *ℤ dx) ((x -ℤ px) *ℤ dy)) Ri
 -- the choice of the point (x, y) at node `i`
 unfoldable pub sideAt : List ℕ → ℤ → ℤ → ℕ → Choice
 sideAt nodes x y i =
-    side x y (i16At nodes (28 * i)) (i16At nodes (28 * i + 2)) (i16At nodes (28 * i + 4)) (i16At nodes (28 * i + 6))
+    side x y (nodeIn nodes i .x) (nodeIn nodes i .y) (nodeIn nodes i .dx) (nodeIn nodes i .dy)
 
 -- the child of node `i` that the point (x, y) takes
 abbrev pub chosen : List ℕ → ℤ → ℤ → ℕ → ℕ

@@ -8,6 +8,10 @@ use lib.Dec.{leb, ltb, eqb}
 use lib.IntN.{ℤ}
 use lib.ListN.{length}
 use Rattle.refusal.specs.declared.Refusal.the-variants.{DescentNodes, DescentSubsectors, DescentChild, DescentLoop}
+use Rattle.refusal.specs.declared.Check.{Check}
+use Rattle.refusal.specs.declared.Check.the-variants.{Pass, Refused as NotPassed}
+use Rattle.refusal.specs.Checks.{unless, _andThen_}
+use Rattle.built.specs.Nodes.{nodeSize}
 use Rattle.bsp.specs.declared.Descent.{Descent}
 use Rattle.bsp.specs.declared.Descent.the-variants.{Found, Refused}
 use Rattle.bsp.specs.Nodes.{nodesOf, subsectorBit, isNode, root, childOk}
@@ -19,20 +23,24 @@ pub data Walk (nodes : List ℕ) (x y : ℤ) : ℕ → ℕ → ℕ → Type 0 wh
   goes : {w subsector count : ℕ} → w < subsectorBit → Walk nodes x y (chosen nodes x y w) subsector count
       → Walk nodes x y w subsector (suc count)
 
+-- the refusal of a check, and where it passes the descent that follows
+abbrev pub descentBy : Check → Descent → Descent
+descentBy Pass descent = descent
+descentBy (NotPassed r) descent = Refused r
+
 -- the descent from the word `w` with `count` nodes passed, where `more` choices may still be made. Only the chosen child
 -- is judged, and the last choice is judged like any other.
 unfoldable pub descentFrom : List ℕ → ℕ → ℤ → ℤ → ℕ → ℕ → ℕ → Descent
 descentFrom nodes subsectors x y zero count w = cond (isNode w) (Refused DescentLoop) (Found (w - subsectorBit) count)
 descentFrom nodes subsectors x y (suc more) count w =
     cond (isNode w)
-    (cond (childOk (nodesOf nodes) subsectors (chosen nodes x y w))
-    (descentFrom nodes subsectors x y more (count + 1) (chosen nodes x y w))
-    (Refused (DescentChild w)))
+    (descentBy (unless (childOk (nodesOf nodes) subsectors (chosen nodes x y w)) (DescentChild w))
+    (descentFrom nodes subsectors x y more (count + 1) (chosen nodes x y w)))
     (Found (w - subsectorBit) count)
 
 -- whole nodes, and no more of them than a word can name
 abbrev pub nodesOk : List ℕ → Bool
-nodesOk nodes = eqb (length nodes % 28) 0 && leb (nodesOf nodes) 32767
+nodesOk nodes = eqb (length nodes % nodeSize) 0 && leb (nodesOf nodes) 32767
 
 -- 1 to 32767 subsectors, and 1 where there are no nodes
 abbrev pub subsectorsOk : ℕ → ℕ → Bool
@@ -41,8 +49,6 @@ subsectorsOk count subsectors = leb 1 subsectors && leb subsectors 32767 && (ltb
 -- the descent of the point (x, y) from the root
 unfoldable pub descent : List ℕ → ℕ → ℤ → ℤ → Descent
 descent nodes subsectors x y =
-    cond (nodesOk nodes)
-    (cond (subsectorsOk (nodesOf nodes) subsectors)
+    descentBy
+    (unless (nodesOk nodes) DescentNodes andThen unless (subsectorsOk (nodesOf nodes) subsectors) DescentSubsectors)
     (descentFrom nodes subsectors x y (nodesOf nodes) 0 (root (nodesOf nodes)))
-    (Refused DescentSubsectors))
-    (Refused DescentNodes)

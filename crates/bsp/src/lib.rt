@@ -1,17 +1,16 @@
 // The node graph of a map, and the descent of a point to its subsector. The definitions are in specs/.
 mod side;
 
+use built::Node;
 use refusal::Refusal;
 ghost use mathlib.Core.Path.{_≡_};
 ghost use Prim.Native.Nat.{_+_, _*_, _≤_, _<_};
 ghost use lib.ListN.{length};
 ghost use Rattle.endian.specs.Unsigned.{u16At};
+ghost use Rattle.built.specs.Nodes.{nodeSize};
 ghost use Rattle.bsp.specs.Nodes.{root, childOf, childOk, nodeOk};
 ghost use Rattle.bsp.specs.Side.{chosen};
 ghost use Rattle.bsp.specs.Walks.{nodesOk, subsectorsOk, descentFrom, descent};
-
-// A node's record, in bytes.
-const NODE_SIZE: usize = 28;
 
 // A word from here on is a subsector's, a word below it a node's.
 pub const SUBSECTOR_BIT: usize = 32768;
@@ -27,8 +26,8 @@ pub enum Choice {
 
 // What the graph of a NODES lump is: it has a loop, or its depth is known.
 pub enum Graph {
-    Loop,
-    Depth(usize),
+    HasLoop,
+    HasDepth(usize),
 }
 
 // What the descent of a point answers.
@@ -45,7 +44,7 @@ pub fn descend(nodes: &[u8], subsectors: usize, x: i16, y: i16) -> Descent
     if !nodes_ok(nodes) {
         return Descent::Refused(Refusal::DescentNodes);
     }
-    let count = nodes.len() / NODE_SIZE;
+    let count = nodes.len() / Node::SIZE;
     if !subsectors_ok(count, subsectors) {
         return Descent::Refused(Refusal::DescentSubsectors);
     }
@@ -55,7 +54,7 @@ pub fn descend(nodes: &[u8], subsectors: usize, x: i16, y: i16) -> Descent
 fn nodes_ok(nodes: &[u8]) -> bool
     ensures { λ r. ⌜ r ≡ nodesOk (now (nodes .entry)) ⌝ }
 {
-    (nodes.len() % NODE_SIZE == 0) & (nodes.len() / NODE_SIZE <= MOST)
+    (nodes.len() % Node::SIZE == 0) & (nodes.len() / Node::SIZE <= MOST)
 }
 
 fn subsectors_ok(count: usize, subsectors: usize) -> bool
@@ -66,7 +65,7 @@ fn subsectors_ok(count: usize, subsectors: usize) -> bool
 
 // The walk from the root: a choice at each node, and no more choices than nodes.
 fn descend_from_root(nodes: &[u8], count: usize, subsectors: usize, x: i16, y: i16) -> Descent
-    requires { ⌜ 28 * count ≡ length (now nodes) ⌝ }
+    requires { ⌜ nodeSize * count ≡ length (now nodes) ⌝ }
     ensures { λ r. ⌜ r ≡ descentFrom (now (nodes .entry)) subsectors x y count 0 (root count) ⌝ }
 {
     let mut word = root_word(count);
@@ -95,7 +94,7 @@ fn root_word(count: usize) -> usize
 }
 
 fn chosen_child(nodes: &[u8], x: i16, y: i16, node: usize) -> usize
-    requires { ⌜ 28 * node + 28 ≤ length (now nodes) ⌝ }
+    requires { ⌜ nodeSize * node + nodeSize ≤ length (now nodes) ⌝ }
     ensures { λ r. ⌜ r ≡ chosen (now (nodes .entry)) x y node ⌝ }
 {
     let choice = side::side_at(nodes, x, y, node);
@@ -104,10 +103,10 @@ fn chosen_child(nodes: &[u8], x: i16, y: i16, node: usize) -> usize
 
 // The word of a node's child.
 pub fn child_of(nodes: &[u8], node: usize, choice: Choice) -> usize
-    requires { ⌜ 28 * node + 28 ≤ length (now nodes) ⌝ }
+    requires { ⌜ nodeSize * node + nodeSize ≤ length (now nodes) ⌝ }
     ensures { λ r. ⌜ r ≡ childOf (now (nodes .entry)) node choice ⌝ }
 {
-    let at = NODE_SIZE * node;
+    let at = Node::SIZE * node;
     match choice {
         Choice::Right => word_at(nodes, at + 24),
         Choice::Left => word_at(nodes, at + 26),
@@ -134,10 +133,10 @@ fn child_ok(count: usize, subsectors: usize, word: usize) -> bool
 
 // Both children of a node are in range.
 pub fn node_ok(nodes: &[u8], subsectors: usize, node: usize) -> bool
-    requires { ⌜ 28 * node + 28 ≤ length (now nodes) ⌝ }
+    requires { ⌜ nodeSize * node + nodeSize ≤ length (now nodes) ⌝ }
     ensures { λ r. ⌜ r ≡ nodeOk (now (nodes .entry)) subsectors node ⌝ }
 {
-    let count = nodes.len() / NODE_SIZE;
+    let count = nodes.len() / Node::SIZE;
     let right = child_ok(count, subsectors, child_of(nodes, node, Choice::Right));
     let left = child_ok(count, subsectors, child_of(nodes, node, Choice::Left));
     right & left

@@ -1,11 +1,13 @@
 // On which side of a node's line a point lies, over whole numbers: coordinates are widened before they are subtracted, and
 // the two products are compared, not subtracted. Each signed operation has a function of its own.
 use super::Choice;
+use built::Node;
 ghost use mathlib.Core.Path.{_≡_};
 ghost use Prim.Native.Nat.{_+_, _*_, _≤_};
 ghost use lib.IntN.{_-ℤ_, _*ℤ_};
 ghost use lib.ListN.{length};
 ghost use lib.Signed.{ltZ};
+ghost use Rattle.built.specs.Nodes.{nodeSize};
 ghost use Rattle.bsp.specs.Side.{side, sideAt};
 
 fn wide(v: i16) -> i64
@@ -45,10 +47,10 @@ fn side_of(x: i16, y: i16, px: i16, py: i16, dx: i16, dy: i16) -> Choice
 
 // The choice of the point (x, y) at a node.
 pub fn side_at(nodes: &[u8], x: i16, y: i16, node: usize) -> Choice
-    requires { ⌜ 28 * node + 28 ≤ length (now nodes) ⌝ }
+    requires { ⌜ nodeSize * node + nodeSize ≤ length (now nodes) ⌝ }
     ensures { λ r. ⌜ r ≡ sideAt (now (nodes .entry)) x y node ⌝ }
 {
-    let at = super::NODE_SIZE * node;
+    let at = Node::SIZE * node;
     side_of(
         x,
         y,

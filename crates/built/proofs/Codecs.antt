@@ -3,14 +3,14 @@
 use mathlib.Core.Path.{refl}
 use mathlib.Core.List.{[], _∷_}
 use Rattle.endian.proofs.Unsigned.{u16-whole}
-use Rattle.field.specs.Lossless.{Codec}
+use Rattle.field.proofs.Lossless.{Codec}
 use Rattle.field.proofs.Fields.{i16-whole, four-whole}
 use Rattle.field.proofs.FieldRows.{number, signed16, written-whole}
-use Rattle.built.specs.Segs.{segOf, segBytes, SegFits}
-use Rattle.built.specs.Subsectors.{subsectorOf, subsectorBytes, SubsectorFits}
-use Rattle.built.specs.Nodes.{nodeOf, nodeBytes, NodeFits}
+use Rattle.built.specs.Segs.{segSize, segOf, segBytes, SegFits}
+use Rattle.built.specs.Subsectors.{subsectorSize, subsectorOf, subsectorBytes, SubsectorFits}
+use Rattle.built.specs.Nodes.{nodeSize, nodeOf, nodeBytes, NodeFits}
 
-pub seg : Codec 12 segOf segBytes SegFits
+pub seg : Codec segSize segOf segBytes SegFits
 seg =
     record {
       length-encode = λ s. refl;
@@ -25,7 +25,7 @@ seg =
       encode-decode = written-whole (number ∷ number ∷ number ∷ number ∷ number ∷ signed16 ∷ []);
     }
 
-pub subsector : Codec 4 subsectorOf subsectorBytes SubsectorFits
+pub subsector : Codec subsectorSize subsectorOf subsectorBytes SubsectorFits
 subsector =
     record {
       length-encode = λ s. refl;
@@ -33,7 +33,7 @@ subsector =
       encode-decode = written-whole (number ∷ number ∷ []);
     }
 
-pub node : Codec 28 nodeOf nodeBytes NodeFits
+pub node : Codec nodeSize nodeOf nodeBytes NodeFits
 node =
     record {
       length-encode = λ n. refl;

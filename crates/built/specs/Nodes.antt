@@ -9,6 +9,13 @@ use Rattle.field.specs.Records.{insideCheck, bytesOrZeros}
 use Rattle.built.specs.declared.node.Node.{Node}
 use Rattle.built.specs.declared.node.NodeRead.{NodeRead}
 
+-- a record's bytes, and the place of its lump
+abbrev pub nodeSize : ℕ
+nodeSize = 28
+
+abbrev pub nodePlace : ℕ
+nodePlace = 7
+
 -- the fields of a record's bytes
 abbrev pub nodeOf : List ℕ → Node
 nodeOf bytes =
@@ -41,4 +48,4 @@ NodeFits n = Int16 (n .x) × Int16 (n .y) × Int16 (n .dx) × Int16 (n .dy) × F
 
 -- record `index` of a lump, all 0 where refused
 abbrev pub nodeAt : List ℕ → ℕ → NodeRead
-nodeAt lump index = record { check = insideCheck lump 28 index; node = nodeOf (bytesOrZeros lump 28 index) }
+nodeAt lump index = record { check = insideCheck lump nodeSize index; node = nodeOf (bytesOrZeros lump nodeSize index) }

@@ -8,6 +8,13 @@ use Rattle.field.specs.Records.{insideCheck, bytesOrZeros}
 use Rattle.built.specs.declared.seg.Seg.{Seg}
 use Rattle.built.specs.declared.seg.SegRead.{SegRead}
 
+-- a record's bytes, and the place of its lump
+abbrev pub segSize : ℕ
+segSize = 12
+
+abbrev pub segPlace : ℕ
+segPlace = 5
+
 -- the fields of a record's bytes
 abbrev pub segOf : List ℕ → Seg
 segOf bytes =
@@ -36,4 +43,4 @@ SegFits s = Int16 (s .offset)
 
 -- record `index` of a lump, all 0 where refused
 abbrev pub segAt : List ℕ → ℕ → SegRead
-segAt lump index = record { check = insideCheck lump 12 index; seg = segOf (bytesOrZeros lump 12 index) }
+segAt lump index = record { check = insideCheck lump segSize index; seg = segOf (bytesOrZeros lump segSize index) }

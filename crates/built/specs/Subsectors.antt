@@ -6,6 +6,13 @@ use Rattle.field.specs.Records.{insideCheck, bytesOrZeros}
 use Rattle.built.specs.declared.subsector.Subsector.{Subsector}
 use Rattle.built.specs.declared.subsector.SubsectorRead.{SubsectorRead}
 
+-- a record's bytes, and the place of its lump
+abbrev pub subsectorSize : ℕ
+subsectorSize = 4
+
+abbrev pub subsectorPlace : ℕ
+subsectorPlace = 6
+
 -- the fields of a record's bytes
 abbrev pub subsectorOf : List ℕ → Subsector
 subsectorOf bytes =
@@ -26,4 +33,4 @@ SubsectorFits s = Unit
 
 -- record `index` of a lump, all 0 where refused
 abbrev pub subsectorAt : List ℕ → ℕ → SubsectorRead
-subsectorAt lump index = record { check = insideCheck lump 4 index; subsector = subsectorOf (bytesOrZeros lump 4 index) }
+subsectorAt lump index = record { check = insideCheck lump subsectorSize index; subsector = subsectorOf (bytesOrZeros lump subsectorSize index) }

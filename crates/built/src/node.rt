@@ -2,7 +2,7 @@
 ghost use mathlib.Core.Path.{_≡_};
 ghost use lib.ListN.{length};
 ghost use Rattle.field.specs.Records.{Written};
-ghost use Rattle.built.specs.Nodes.{nodeOf, nodeBytes, nodeAt};
+ghost use Rattle.built.specs.Nodes.{nodeSize, nodeOf, nodeBytes, nodeAt};
 use refusal::Check;
 
 #[repr(C)]
@@ -33,7 +33,7 @@ impl Node {
 
     // The fields of a record's bytes.
     pub fn parse(b: &[u8]) -> Node
-        requires { ⌜ length (now b) ≡ 28 ⌝ }
+        requires { ⌜ length (now b) ≡ nodeSize ⌝ }
         ensures { λ r. ⌜ r ≡ nodeOf (now (b .entry)) ⌝ }
     {
         let right_box = field::four_at(b, 8);
@@ -80,7 +80,7 @@ impl Node {
 
     // Record `index` of a lump replaced, or 60 and nothing written.
     pub fn write(lump: &mut [u8], index: usize, node: Node) -> Check
-        ensures { λ r. ⌜ Written (now (lump .entry)) 28 index (nodeBytes node) r (now (lump .exit)) ⌝ }
+        ensures { λ r. ⌜ Written (now (lump .entry)) nodeSize index (nodeBytes node) r (now (lump .exit)) ⌝ }
     {
         let bytes = node.bytes();
         field::replace(lump, Node::SIZE, index, &bytes)

@@ -2,7 +2,7 @@
 ghost use mathlib.Core.Path.{_≡_};
 ghost use lib.ListN.{length};
 ghost use Rattle.field.specs.Records.{Written};
-ghost use Rattle.built.specs.Segs.{segOf, segBytes, segAt};
+ghost use Rattle.built.specs.Segs.{segSize, segOf, segBytes, segAt};
 use refusal::Check;
 
 #[repr(C)]
@@ -32,7 +32,7 @@ impl Seg {
 
     // The fields of a record's bytes.
     pub fn parse(b: &[u8]) -> Seg
-        requires { ⌜ length (now b) ≡ 12 ⌝ }
+        requires { ⌜ length (now b) ≡ segSize ⌝ }
         ensures { λ r. ⌜ r ≡ segOf (now (b .entry)) ⌝ }
     {
         Seg {
@@ -71,7 +71,7 @@ impl Seg {
 
     // Record `index` of a lump replaced, or 60 and nothing written.
     pub fn write(lump: &mut [u8], index: usize, seg: Seg) -> Check
-        ensures { λ r. ⌜ Written (now (lump .entry)) 12 index (segBytes seg) r (now (lump .exit)) ⌝ }
+        ensures { λ r. ⌜ Written (now (lump .entry)) segSize index (segBytes seg) r (now (lump .exit)) ⌝ }
     {
         let bytes = seg.bytes();
         field::replace(lump, Seg::SIZE, index, &bytes)

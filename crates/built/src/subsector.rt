@@ -2,7 +2,7 @@
 ghost use mathlib.Core.Path.{_≡_};
 ghost use lib.ListN.{length};
 ghost use Rattle.field.specs.Records.{Written};
-ghost use Rattle.built.specs.Subsectors.{subsectorOf, subsectorBytes, subsectorAt};
+ghost use Rattle.built.specs.Subsectors.{subsectorSize, subsectorOf, subsectorBytes, subsectorAt};
 use refusal::Check;
 
 #[repr(C)]
@@ -25,7 +25,7 @@ impl Subsector {
 
     // The fields of a record's bytes.
     pub fn parse(b: &[u8]) -> Subsector
-        requires { ⌜ length (now b) ≡ 4 ⌝ }
+        requires { ⌜ length (now b) ≡ subsectorSize ⌝ }
         ensures { λ r. ⌜ r ≡ subsectorOf (now (b .entry)) ⌝ }
     {
         Subsector {
@@ -61,7 +61,7 @@ impl Subsector {
 
     // Record `index` of a lump replaced, or 60 and nothing written.
     pub fn write(lump: &mut [u8], index: usize, subsector: Subsector) -> Check
-        ensures { λ r. ⌜ Written (now (lump .entry)) 4 index (subsectorBytes subsector) r (now (lump .exit)) ⌝ }
+        ensures { λ r. ⌜ Written (now (lump .entry)) subsectorSize index (subsectorBytes subsector) r (now (lump .exit)) ⌝ }
     {
         let bytes = subsector.bytes();
         field::replace(lump, Subsector::SIZE, index, &bytes)

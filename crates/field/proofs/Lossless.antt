@@ -3,10 +3,17 @@ use Prim.Native.Nat.{ℕ}
 use mathlib.Core.Bool.{Bool, true, cond}
 use mathlib.Core.Path.{_≡_, ap, _∙_}
 use mathlib.Core.List.{List}
-use lib.ListN.{replicate}
+use lib.ListN.{length, replicate}
+use Rattle.endian.specs.Unsigned.{Bytes}
 use Rattle.field.specs.Records.{inside, recordBytes}
-use Rattle.field.specs.Lossless.{Codec, Lossless}
+use Rattle.field.specs.Lossless.{Lossless}
 use Rattle.field.proofs.Records.{inside-fits, length-recordBytes, bytes-recordBytes, replaced-same, length-replaced, take-replaced, drop-replaced, bytesOrZeros-replaced}
+
+-- a record's fields and its bytes determine each other
+pub record Codec {R : Type 0} (size : ℕ) (decode : List ℕ → R) (encode : R → List ℕ) (InRange : R → Type 0) : Type 0 where
+  pub length-encode : (r : R) → length (encode r) ≡ size
+  pub decode-encode : (r : R) → InRange r → decode (encode r) ≡ r
+  pub encode-decode : (bytes : List ℕ) → length bytes ≡ size → Bytes bytes → encode (decode bytes) ≡ bytes
 
 pub lossless : {R : Type 0} (size : ℕ) (decode : List ℕ → R) (encode : R → List ℕ) (InRange : R → Type 0)
     → Codec size decode encode InRange → Lossless size decode encode InRange

@@ -9,13 +9,7 @@ use lib.ListN.{length, take, drop}
 use Rattle.endian.specs.Unsigned.{Bytes}
 use Rattle.field.specs.Records.{inside, bytesOrZeros, replaced}
 
--- a record's fields and its bytes determine each other
-pub record Codec {R : Type 0} (size : ℕ) (decode : List ℕ → R) (encode : R → List ℕ) (InRange : R → Type 0) : Type 0 where
-  pub length-encode : (r : R) → length (encode r) ≡ size
-  pub decode-encode : (r : R) → InRange r → decode (encode r) ≡ r
-  pub encode-decode : (bytes : List ℕ) → length bytes ≡ size → Bytes bytes → encode (decode bytes) ≡ bytes
-
--- so reading and writing by number lose nothing
+-- reading and writing by number lose nothing
 pub record Lossless {R : Type 0} (size : ℕ) (decode : List ℕ → R) (encode : R → List ℕ) (InRange : R → Type 0) : Type 0 where
   -- a record written back as it was read leaves the very bytes
   pub write-back : (lump : List ℕ) (index : ℕ) → Bytes lump

@@ -11,8 +11,8 @@ use Rattle.bsp.specs.declared.Choice.the-variants.{Right, Left}
 use Rattle.graph.specs.declared.Look.{Look}
 use Rattle.graph.specs.declared.Look.the-variants.{New, OnPath, Height}
 use Rattle.bsp.specs.Nodes.{subsectorBit, isNode, childOf}
-use Rattle.graph.specs.Looks.{pathMark, markOf, markSays, lookAt, joined, lookBelow}
-use Rattle.graph.specs.Searching.{unmet, Tall, State}
+use Rattle.graph.specs.Inner.Looks.{pathMark, markOf, markSays, lookAt, joined, lookBelow}
+use Rattle.graph.specs.Inner.Searching.{unmet, Tall, State}
 use Rattle.graph.proofs.Tall.{tall-end, tall-node}
 
 module _ (nodes : List ℕ) (count : ℕ) (words : List ℕ) (sp : ℕ) where

@@ -15,7 +15,7 @@ use Rattle.bsp.specs.declared.Choice.{Choice}
 use Rattle.bsp.specs.declared.Graph.{Graph}
 use Rattle.bsp.specs.Nodes.{nodesOf, subsectorBit, childOf}
 use Rattle.bsp.specs.Heights.{stands, graphVerdict}
-use Rattle.graph.specs.Searching.{unmet, Tall, Searching}
+use Rattle.graph.specs.Inner.Searching.{unmet, Tall, Searching}
 use Rattle.bsp.proofs.Nodes.{root-last}
 use Rattle.bsp.proofs.Heights.{stands-none, stands-node}
 use Rattle.graph.proofs.Unmet.{same-or-not, unmet-all, unmet-same, unmet-less}
@@ -28,14 +28,14 @@ module _ (nodes : List ℕ) (count : ℕ) (least : 1 ≤ count) (most : count �
   -- ---- the verdict at the root
 
   module _ (whole : nodesOf nodes ≡ count) where
-    loop-at-root : stands nodes count (count - 1) ≡ true → graphVerdict nodes ≡ Graph.Loop
+    loop-at-root : stands nodes count (count - 1) ≡ true → graphVerdict nodes ≡ Graph.HasLoop
     loop-at-root e = verdict-loop nodes (rw (whole, root-last count least) e)
 
-    depth-at-root : {h : ℕ} → Tall nodes (count - 1) h → h ≤ count → graphVerdict nodes ≡ Graph.Depth h
+    depth-at-root : {h : ℕ} → Tall nodes (count - 1) h → h ≤ count → graphVerdict nodes ≡ Graph.HasDepth h
     depth-at-root {h} t l =
         let off : looping nodes ≡ false = rw (whole, root-last count least) (t count l .0) in
         let is : rootHeight nodes ≡ h = rw (whole, root-last count least) (t count l .1) in
-        verdict-depth nodes off ∙ ap Graph.Depth is
+        verdict-depth nodes off ∙ ap Graph.HasDepth is
 
   module _ (mark path : ℕ → ℕ) (sp : ℕ) (s : Searching nodes count mark path sp) where
     -- ---- a child on the path
@@ -58,12 +58,12 @@ module _ (nodes : List ℕ) (count : ℕ) (least : 1 ≤ count) (most : count �
               let (i, m, is) = s .onPath (childOf nodes (path (sp - 1)) c) l e in
               stands-node nodes k (node-on-path j h) c (rw (is, last) at (before i m))
 
-      pub path-loop : nodesOf nodes ≡ count → 0 < sp → graphVerdict nodes ≡ Graph.Loop
+      pub path-loop : nodesOf nodes ≡ count → 0 < sp → graphVerdict nodes ≡ Graph.HasLoop
       path-loop whole h = loop-at-root whole (rw (s .first h) at (loop-stands count 0 h))
 
     -- ---- the path is empty
 
-    pub path-done : nodesOf nodes ≡ count → sp ≡ 0 → graphVerdict nodes ≡ Graph.Depth (mark (count - 1))
+    pub path-done : nodesOf nodes ≡ count → sp ≡ 0 → graphVerdict nodes ≡ Graph.HasDepth (mark (count - 1))
     path-done whole none =
         let l : count - 1 < count = omega arith in
         let off : mark (count - 1) ≡ 65535 → ⊥ = λ e. (let (j, h, is) = s .onPath (count - 1) l e in omega arith) in

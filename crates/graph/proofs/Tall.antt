@@ -10,7 +10,7 @@ use Rattle.bsp.specs.declared.Choice.{Choice}
 use Rattle.bsp.specs.declared.Choice.the-variants.{Right, Left}
 use Rattle.bsp.specs.Nodes.{subsectorBit, childOf}
 use Rattle.bsp.specs.Heights.{stands}
-use Rattle.graph.specs.Searching.{Tall}
+use Rattle.graph.specs.Inner.Searching.{Tall}
 use Rattle.bsp.proofs.Heights.{stands-end, height-end, stands-not, height-node}
 
 module _ (nodes : List ℕ) where

@@ -12,8 +12,8 @@ use Rattle.bsp.specs.declared.Graph.{Graph}
 use Rattle.bsp.specs.Nodes.{nodesOf, subsectorBit, childOf}
 use Rattle.bsp.specs.Heights.{graphVerdict}
 use Rattle.graph.specs.Judging.{cleared}
-use Rattle.graph.specs.Looks.{markOf, pathOf, lookBelow, LooksInside, pushed, begun}
-use Rattle.graph.specs.Searching.{unmet, Tall, Searchable, State, effort}
+use Rattle.graph.specs.Inner.Looks.{markOf, pathOf, lookBelow, LooksInside, pushed, begun}
+use Rattle.graph.specs.Inner.Searching.{unmet, Tall, Searchable, State, effort}
 use Rattle.graph.proofs.Searching.{path-loop, path-done, push, finish, start}
 use Rattle.graph.proofs.Unmet.{unmet-some}
 use Rattle.graph.proofs.Looks.{SaidBelow, said-below}
@@ -91,7 +91,7 @@ module _ (nodes : List ℕ) (count : ℕ) (words : List ℕ) (g : Searchable nod
         said-below nodes count words sp s (pathOf words count (sp - 1)) (omega arith) child-below
 
     pub top-looped : (c : Choice) → childOf nodes (pathOf words count (sp - 1)) c < count
-        → markOf words (childOf nodes (pathOf words count (sp - 1)) c) ≡ 65535 → graphVerdict nodes ≡ Graph.Loop
+        → markOf words (childOf nodes (pathOf words count (sp - 1)) c) ≡ 65535 → graphVerdict nodes ≡ Graph.HasLoop
     top-looped c l e = path-loop nodes count (g .least) (g .most) (markOf words) (pathOf words count) sp s c l e counted some
 
     -- ---- a node that is put on the path
@@ -138,7 +138,7 @@ module _ (nodes : List ℕ) (count : ℕ) (words : List ℕ) (g : Searchable nod
           (markOf (set words top (h + 1))) (pathOf (set words top (h + 1)) count) h done is fits other below in
           (state, omega arith)
 
-  pub state-done : State nodes count words 0 → graphVerdict nodes ≡ Graph.Depth (markOf words (count - 1))
+  pub state-done : State nodes count words 0 → graphVerdict nodes ≡ Graph.HasDepth (markOf words (count - 1))
   state-done s = path-done nodes count (g .least) (g .most) (markOf words) (pathOf words count) 0 s counted refl
 
 -- what the search is given goes by the number of words

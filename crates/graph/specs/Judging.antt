@@ -5,12 +5,13 @@ use mathlib.Core.List.{List, _++_}
 use mathlib.Core.Path.{_≡_}
 use lib.ListN.{length, drop, replicate}
 use Rattle.bsp.specs.declared.Graph.{Graph}
-use Rattle.bsp.specs.Nodes.{NodesInRange}
+use Rattle.built.specs.Nodes.{nodeSize}
+use Rattle.bsp.specs.Inner.{NodesInRange}
 use Rattle.bsp.specs.Heights.{graphVerdict}
 
 -- whole nodes, no more than a word can name, whose children are in range, and four words for each
 pub record Judgeable (nodes : List ℕ) (count : ℕ) (words : List ℕ) : Type 0 where
-  pub whole : 28 * count ≡ length nodes
+  pub whole : nodeSize * count ≡ length nodes
   pub most : count ≤ 32767
   pub enough : 4 * count ≤ length words
   pub inRange : NodesInRange nodes
@@ -20,6 +21,6 @@ abbrev pub cleared : List ℕ → ℕ → List ℕ
 cleared words n = replicate n 0 ++ drop n words
 
 -- the answer, and the words afterwards
-pub record Judged (nodes : List ℕ) (count : ℕ) (before after : List ℕ) (answer : Graph) : Type 0 where
+pub record GraphJudged (nodes : List ℕ) (count : ℕ) (before after : List ℕ) (answer : Graph) : Type 0 where
   pub verdict : answer ≡ graphVerdict nodes
   pub words : after ≡ cleared before (4 * count)

@@ -1,5 +1,4 @@
--- What the check of a node graph promises, and what its search keeps in the work words. Assumes nothing.
+-- What the check of a node graph promises; and, for its inner contracts alone, what its search keeps. Assumes nothing.
 
 pub mod Judging
-pub mod Looks
-pub mod Searching
+pub mod Inner

@@ -1,15 +1,15 @@
 // Loop or depth of a node graph, by a search from the root: always to a child not met yet, back where there is none. Each
-// node is put on the path once and taken off it once. specs/Looks.antt says what the work words hold.
+// node is put on the path once and taken off it once. specs/Inner/Looks.antt says what the work words hold.
 use bsp::Choice;
 use bsp::Graph;
 ghost use mathlib.Core.Path.{_≡_};
 ghost use Prim.Native.Nat.{max, _+_, _≤_, _<_};
 ghost use lib.ListN.{length};
 ghost use Rattle.bsp.specs.Heights.{graphVerdict};
-ghost use Rattle.graph.specs.Judging.{Judgeable, Judged, cleared};
+ghost use Rattle.graph.specs.Judging.{Judgeable, GraphJudged, cleared};
 ghost use Rattle.bsp.specs.Nodes.{subsectorBit};
-ghost use Rattle.graph.specs.Looks.{lookAt, joined, lookBelow, LooksInside, pushed, begun};
-ghost use Rattle.graph.specs.Searching.{State, Searchable, Stepped};
+ghost use Rattle.graph.specs.Inner.Looks.{lookAt, joined, lookBelow, LooksInside, pushed, begun};
+ghost use Rattle.graph.specs.Inner.Searching.{State, Searchable, Stepped};
 
 // The mark of a node on the path. A height is at most the count of nodes.
 const ON_PATH: u16 = 65535;
@@ -35,10 +35,10 @@ pub enum Step {
 // four for each node are zero, and the others as found.
 pub fn judge(nodes: &[u8], count: usize, words: &mut [u16]) -> Graph
     requires { ⌜ Judgeable (now nodes) count (now words) ⌝ }
-    ensures { λ r. ⌜ Judged (now (nodes .entry)) count (now (words .entry)) (now (words .exit)) r ⌝ }
+    ensures { λ r. ⌜ GraphJudged (now (nodes .entry)) count (now (words .entry)) (now (words .exit)) r ⌝ }
 {
     if count == 0 {
-        return Graph::Depth(0);
+        return Graph::HasDepth(0);
     }
     let used = 4 * count;
     let answer = graph_of(nodes, count, &mut words[..used]);
@@ -65,12 +65,12 @@ fn graph_of(nodes: &[u8], count: usize, words: &mut [u16]) -> Graph
     let mut sp = 1;
     while 0 < sp {
         match take_step(nodes, count, words, sp) {
-            Step::Looped => return Graph::Loop,
+            Step::Looped => return Graph::HasLoop,
             Step::Path(next) => sp = next,
         }
     }
     let depth = words[count - 1] as usize;
-    Graph::Depth(depth)
+    Graph::HasDepth(depth)
 }
 
 // No node is met but the root, which is the path.

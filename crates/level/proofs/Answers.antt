@@ -14,20 +14,21 @@ use Rattle.refusal.specs.Checks.{unless, _andThen_}
 use Rattle.refusal.proofs.Checks.{andThen-pass}
 use Rattle.wad.specs.declared.map.Marker.{Marker}
 use Rattle.wad.specs.declared.map.Marker.the-variants.{Entry, Refused as NoMarker}
-use Rattle.wad.specs.Header.{headOf, countOf}
-use Rattle.wad.specs.Entries.{directoryOf, nameAt, fileCheck}
+use Rattle.wad.specs.Header.{headOf, entryCount}
+use Rattle.wad.specs.Entries.{directoryOf, entryName, fileCheck}
 use Rattle.wad.specs.Map.{findMarker, found, markerAnswer}
 use Rattle.name.specs.Names.{sameName, mapNameOk}
 use Rattle.wad.proofs.Search.{findMarker-none, findMarker-found, findMarker-on}
 use Rattle.bsp.specs.Heights.{graphVerdict}
 use Rattle.level.specs.declared.Verdict.{Verdict}
 use Rattle.level.specs.declared.Verdict.the-variants.{Refused as NotAccepted}
-use Rattle.level.specs.Verdict.{judged, wordsBy, checkAt, nodesAt, verdictBy, wordsAfterBy, Answered, AnsweredAt, AnsweredBy}
+use Rattle.level.specs.Verdict.{judged, wordsBy, checkAt, nodesAt, verdictBy, wordsAfterBy, Answered}
+use Rattle.level.specs.Inner.{AnsweredAt, AnsweredBy}
 
 -- ---- a marker that was found
 
 module _ (dir name : List ℕ) where
-  below-by : (n : ℕ) (b : Bool) → sameName (nameAt dir n) name ≡ b → {m : ℕ} → findMarker dir name (suc n) ≡ Entry m
+  below-by : (n : ℕ) (b : Bool) → sameName (entryName dir n) name ≡ b → {m : ℕ} → findMarker dir name (suc n) ≡ Entry m
       → (findMarker dir name n ≡ Entry m → m < n) → m < suc n
   below-by n true e {m} q rec =
       let same : n ≡ m = (let f = findMarker-found dir name n (suc n) refl refl e in cc) in omega arith
@@ -35,18 +36,18 @@ module _ (dir name : List ℕ) where
 
   pub findMarker-below : (n : ℕ) {m : ℕ} → findMarker dir name n ≡ Entry m → m < n
   findMarker-below zero e = let f = findMarker-none dir name in let z : _≡_ {A = ℕ} 0 1 = cc in absurd (omega arith)
-  findMarker-below (suc n) e = below-by n (sameName (nameAt dir n) name) refl e (findMarker-below n)
+  findMarker-below (suc n) e = below-by n (sameName (entryName dir n) name) refl e (findMarker-below n)
 
 found-by : (c : Check) (a : Marker) {m : ℕ} → found c a ≡ Entry m → (c ≡ Pass) × (a ≡ Entry m)
 found-by Pass a e = (refl, e)
 found-by (Refused r) a e = let z : _≡_ {A = ℕ} 0 1 = cc in absurd (omega arith)
 
 -- the file passes, and the marker is one of its entries
-pub marker-known : (wad name : List ℕ) {m : ℕ} → markerAnswer wad name ≡ Entry m → (fileCheck wad ≡ Pass) × (m < countOf (headOf wad))
+pub marker-known : (wad name : List ℕ) {m : ℕ} → markerAnswer wad name ≡ Entry m → (fileCheck wad ≡ Pass) × (m < entryCount (headOf wad))
 marker-known wad name e =
-    let p = found-by (fileCheck wad andThen unless (mapNameOk name) MapName) (findMarker (directoryOf wad) name (countOf (headOf wad))) e in (
+    let p = found-by (fileCheck wad andThen unless (mapNameOk name) MapName) (findMarker (directoryOf wad) name (entryCount (headOf wad))) e in (
       andThen-pass (fileCheck wad) (unless (mapNameOk name) MapName) (p .0) .0,
-      findMarker-below (directoryOf wad) name (countOf (headOf wad)) (p .1),
+      findMarker-below (directoryOf wad) name (entryCount (headOf wad)) (p .1),
     )
 
 -- ---- answers

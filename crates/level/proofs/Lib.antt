@@ -1,6 +1,6 @@
 -- The laws of the map check. Assumes nothing.
 
-pub mod Rows
+pub mod Places
 pub mod Passing
 pub mod Answers
 pub mod Numbers

@@ -10,19 +10,19 @@ use Rattle.refusal.specs.declared.Refusal.the-variants.{MarkerRun, HexenMap, Re
 use Rattle.refusal.specs.Table.{numberOf}
 use Rattle.refusal.specs.Checks.{unless, each}
 use Rattle.refusal.proofs.Numbers.{AtMost, unless-atMost, andThen-atMost, each-atMost}
-use Rattle.wad.specs.Lump.{sizeOf}
-use Rattle.table.specs.Lumps.{nameOf}
+use Rattle.wad.specs.Lump.{entrySize}
+use Rattle.table.specs.Lumps.{lumpName, LINEDEFS, SIDEDEFS, VERTEXES, SEGS, SSECTORS, NODES, SECTORS, REJECT, BLOCKMAP}
 use Rattle.field.specs.Records.{recordBytes}
-use Rattle.record.specs.Linedefs.{linedefOf}
-use Rattle.record.specs.Sidedefs.{sidedefOf}
-use Rattle.built.specs.Segs.{segOf}
-use Rattle.built.specs.Subsectors.{subsectorOf}
+use Rattle.record.specs.Linedefs.{linedefSize, linedefOf}
+use Rattle.record.specs.Sidedefs.{sidedefSize, sidedefOf}
+use Rattle.built.specs.Segs.{segSize, segOf}
+use Rattle.built.specs.Subsectors.{subsectorSize, subsectorOf}
 use Rattle.bsp.specs.Nodes.{nodeOk}
 use Rattle.reference.specs.References.{linedefOk, segOk, subsectorOk}
 use Rattle.blockmap.specs.Blockmap.{wordAt, cellsOf, headerOk, listOk, blockmapCheck}
-use Rattle.level.specs.Lumps.{lumpOf, countOf}
+use Rattle.level.specs.Lumps.{mapLump, recordCount}
 use Rattle.level.specs.Run.{namedOk, behavior, runCheck}
-use Rattle.level.specs.Sizes.{wholeOk, countOk, rejectSize, sizeCheck, sizesCheck}
+use Rattle.level.specs.Sizes.{wholeOk, recordCountOk, rejectSize, sizeCheck, sizesCheck}
 use Rattle.level.specs.References.{linedefsCheck, sidedefsCheck, segsCheck, subsectorsCheck, nodesCheck, referencesCheck}
 use Rattle.level.specs.Verdict.{mapCheck}
 
@@ -33,31 +33,31 @@ tests ok r h n = each-atMost _ (λ i. unless-atMost (ok i) (r i) (h i)) n
 
 run : (dir : List ℕ) (count marker : ℕ) → AtMost 30 (runCheck dir count marker)
 run dir count marker =
-    andThen-atMost _ _ (unless-atMost (eqb (sizeOf dir marker) 0) (MarkerRun 0) (omega arith))
+    andThen-atMost _ _ (unless-atMost (eqb (entrySize dir marker) 0) (MarkerRun 0) (omega arith))
     (andThen-atMost _ _
-    (tests (λ i. namedOk dir count (marker + 1 + i) (nameOf i)) (λ i. MarkerRun (i + 1)) (λ i. omega arith) 10)
+    (tests (λ i. namedOk dir count (marker + (i + 1)) (lumpName (i + 1))) (λ i. MarkerRun (i + 1)) (λ i. omega arith) 10)
     (unless-atMost (not (namedOk dir count (marker + 11) behavior)) HexenMap (omega arith)))
 
 module _ (lumps : List (List ℕ)) where
   sizes : AtMost 30 (sizesCheck lumps)
   sizes =
       andThen-atMost _ _
-      (each-atMost (sizeCheck lumps) (λ i.
-      andThen-atMost _ _ (unless-atMost (wholeOk lumps i) (RecordSize (i + 1)) (omega arith))
-      (unless-atMost (countOk lumps i) (RecordCount (i + 1)) (omega arith))) 8)
-      (unless-atMost (eqb (length (lumpOf lumps 8)) (rejectSize (countOf lumps 7))) RejectLength (omega arith))
+      (each-atMost (λ i. sizeCheck lumps (i + 1)) (λ i.
+      andThen-atMost _ _ (unless-atMost (wholeOk lumps (i + 1)) (RecordSize (i + 1)) (omega arith))
+      (unless-atMost (recordCountOk lumps (i + 1)) (RecordCount (i + 1)) (omega arith))) 8)
+      (unless-atMost (eqb (length (mapLump lumps REJECT)) (rejectSize (recordCount lumps SECTORS))) RejectLength (omega arith))
 
   references : AtMost 30 (referencesCheck lumps)
   references =
       andThen-atMost (linedefsCheck lumps) _
-      (tests (λ i. linedefOk (countOf lumps 3) (countOf lumps 2) (linedefOf (recordBytes (lumpOf lumps 1) 14 i))) LinedefReference (λ i. omega arith) _)
+      (tests (λ i. linedefOk (recordCount lumps VERTEXES) (recordCount lumps SIDEDEFS) (linedefOf (recordBytes (mapLump lumps LINEDEFS) linedefSize i))) LinedefReference (λ i. omega arith) _)
       (andThen-atMost (sidedefsCheck lumps) _
-      (tests (λ i. ltb (sidedefOf (recordBytes (lumpOf lumps 2) 30 i) .sector) (countOf lumps 7)) SidedefReference (λ i. omega arith) _)
+      (tests (λ i. ltb (sidedefOf (recordBytes (mapLump lumps SIDEDEFS) sidedefSize i) .sector) (recordCount lumps SECTORS)) SidedefReference (λ i. omega arith) _)
       (andThen-atMost (segsCheck lumps) _
-      (tests (λ i. segOk (lumpOf lumps 1) (countOf lumps 3) (segOf (recordBytes (lumpOf lumps 4) 12 i))) SegReference (λ i. omega arith) _)
+      (tests (λ i. segOk (mapLump lumps LINEDEFS) (recordCount lumps VERTEXES) (segOf (recordBytes (mapLump lumps SEGS) segSize i))) SegReference (λ i. omega arith) _)
       (andThen-atMost (subsectorsCheck lumps) (nodesCheck lumps)
-      (tests (λ i. subsectorOk (countOf lumps 4) (subsectorOf (recordBytes (lumpOf lumps 5) 4 i))) SubsectorReference (λ i. omega arith) _)
-      (tests (λ i. nodeOk (lumpOf lumps 6) (countOf lumps 5) i) NodeReference (λ i. omega arith) _))))
+      (tests (λ i. subsectorOk (recordCount lumps SEGS) (subsectorOf (recordBytes (mapLump lumps SSECTORS) subsectorSize i))) SubsectorReference (λ i. omega arith) _)
+      (tests (λ i. nodeOk (mapLump lumps NODES) (recordCount lumps SSECTORS) i) NodeReference (λ i. omega arith) _))))
 
 blockmaps : (lump : List ℕ) (linedefs : ℕ) → AtMost 30 (blockmapCheck lump linedefs)
 blockmaps lump linedefs =
@@ -71,5 +71,5 @@ map-atMost dir count marker lumps lent =
     andThen-atMost (runCheck dir count marker) _ (run dir count marker)
     (andThen-atMost (sizesCheck lumps) _ (sizes lumps)
     (andThen-atMost (referencesCheck lumps) _ (references lumps)
-    (andThen-atMost _ _ (blockmaps (lumpOf lumps 9) (countOf lumps 1))
-    (unless-atMost (leb (4 * countOf lumps 6) lent) WorkWords (omega arith)))))
+    (andThen-atMost _ _ (blockmaps (mapLump lumps BLOCKMAP) (recordCount lumps LINEDEFS))
+    (unless-atMost (leb (4 * recordCount lumps NODES) lent) WorkWords (omega arith)))))

@@ -9,66 +9,69 @@ use lib.Dec.{leb, ltb, eqb}
 use lib.ListN.{length}
 use Rattle.refusal.specs.declared.Check.the-variants.{Pass}
 use Rattle.refusal.specs.declared.Refusal.the-variants.{MarkerRun, HexenMap, RecordSize, RecordCount, NodeReference, WorkWords}
-use Rattle.refusal.specs.Checks.{unless, _andThen_, each}
+use Rattle.refusal.specs.Checks.{unless, _andThen_}
 use Rattle.refusal.proofs.Checks.{both, andThen-pass, unless-pass, each-pass}
-use Rattle.wad.specs.Entries.{nameAt}
-use Rattle.wad.specs.Lump.{sizeOf as entrySize}
+use Rattle.wad.specs.Entries.{entryName}
+use Rattle.wad.specs.Lump.{entrySize}
 use Rattle.name.specs.Names.{sameName}
-use Rattle.table.specs.Lumps.{nameOf, leastOf, mostOf}
+use Rattle.table.specs.Lumps.{lumpName, leastCount, mostCount, LINEDEFS, SSECTORS, NODES, BLOCKMAP}
+use Rattle.built.specs.Nodes.{nodeSize}
 use Rattle.bsp.specs.Nodes.{nodesOf, nodeOk}
 use Rattle.graph.specs.Judging.{Judgeable}
-use Rattle.bsp.specs.Promises.{Passed}
 use Rattle.bsp.proofs.Nodes.{nodes-ok, nodes-in-range}
+use Rattle.bsp.proofs.Descends.{Passed}
 use Rattle.reference.specs.References.{nodeCheck}
 use Rattle.blockmap.specs.Blockmap.{blockmapCheck}
-use Rattle.level.specs.Lumps.{lumpOf, countOf}
-use Rattle.level.specs.Run.{namedOk, rowCheck, runCheck, behavior}
-use Rattle.level.specs.Sizes.{wholeOk, aloneOk, countOk, sizeCheck, rejectCheck, sizesCheck}
+use Rattle.level.specs.Lumps.{mapLump, recordCount, eachPlace}
+use Rattle.level.specs.Run.{namedOk, placeCheck, runCheck, behavior}
+use Rattle.level.specs.Sizes.{wholeOk, aloneOk, recordCountOk, sizeCheck, rejectCheck, sizesCheck}
 use Rattle.level.specs.References.{linedefsCheck, sidedefsCheck, segsCheck, subsectorsCheck, nodesCheck, referencesCheck}
 use Rattle.level.specs.Verdict.{workCheck, lumpsCheck}
+use Rattle.level.proofs.Places.{eachPlace-pass}
 
 -- ---- 12: the ten lumps follow the marker
 
 pub run-long : (dir : List ℕ) (count marker : ℕ) → runCheck dir count marker ≡ Pass → marker + 11 ≤ count
 run-long dir count marker e =
     let p = andThen-pass (unless (eqb (entrySize dir marker) 0) (MarkerRun 0)) _ e in
-    let q = andThen-pass (each (rowCheck dir count marker) 10) (unless (not (namedOk dir count (marker + 11) behavior)) HexenMap) (p .1) in
-    let nine : 9 < 10 = omega arith in
-    let last = each-pass (rowCheck dir count marker) 10 (q .0) 9 nine in
-    let named = unless-pass (namedOk dir count (marker + 1 + 9) (nameOf 9)) (MarkerRun 10) last in
-    let there = ltb-true (marker + 1 + 9) count (both (ltb (marker + 1 + 9) count) (sameName (nameAt dir (marker + 1 + 9)) (nameOf 9)) named .0) in
+    let q = andThen-pass (eachPlace (placeCheck dir count marker) 10) (unless (not (namedOk dir count (marker + 11) behavior)) HexenMap) (p .1) in
+    let last = eachPlace-pass (placeCheck dir count marker) 10 (q .0) BLOCKMAP (omega arith) (omega arith) in
+    let named = unless-pass (namedOk dir count (marker + BLOCKMAP) (lumpName BLOCKMAP)) (MarkerRun BLOCKMAP) last in
+    let there = ltb-true (marker + BLOCKMAP) count (both (ltb (marker + BLOCKMAP) count) (sameName (entryName dir (marker + BLOCKMAP)) (lumpName BLOCKMAP)) named .0) in
     omega arith
 
 -- ---- 20 and 21: sizes and counts
 
-module _ (lumps : List (List ℕ)) (e : each (sizeCheck lumps) 8 ≡ Pass) where
-  sized : (i : ℕ) → i < 8 → (wholeOk lumps i ≡ true) × (countOk lumps i ≡ true)
-  sized i h =
-      let p = andThen-pass (unless (wholeOk lumps i) (RecordSize (i + 1))) (unless (countOk lumps i) (RecordCount (i + 1))) (each-pass (sizeCheck lumps) 8 e i h) in
-      (unless-pass (wholeOk lumps i) (RecordSize (i + 1)) (p .0), unless-pass (countOk lumps i) (RecordCount (i + 1)) (p .1))
+module _ (lumps : List (List ℕ)) (e : eachPlace (sizeCheck lumps) 8 ≡ Pass) where
+  module _ (place : ℕ) (low : 1 ≤ place) (high : place ≤ 8) where
+    sized : (wholeOk lumps place ≡ true) × (recordCountOk lumps place ≡ true)
+    sized =
+        let p = andThen-pass (unless (wholeOk lumps place) (RecordSize place)) (unless (recordCountOk lumps place) (RecordCount place)) (eachPlace-pass (sizeCheck lumps) 8 e place low high) in
+        (unless-pass (wholeOk lumps place) (RecordSize place) (p .0), unless-pass (recordCountOk lumps place) (RecordCount place) (p .1))
 
-  limits : (i : ℕ) → i < 8 → (leb (leastOf i) (countOf lumps i) && leb (countOf lumps i) (mostOf i)) ≡ true
-  limits i h = both (leb (leastOf i) (countOf lumps i) && leb (countOf lumps i) (mostOf i)) (aloneOk lumps i) (sized i h .1) .0
+    limits : (leb (leastCount place) (recordCount lumps place) && leb (recordCount lumps place) (mostCount place)) ≡ true
+    limits = both (leb (leastCount place) (recordCount lumps place) && leb (recordCount lumps place) (mostCount place)) (aloneOk lumps place) (sized .1) .0
 
-  pub count-least : (i : ℕ) → i < 8 → leastOf i ≤ countOf lumps i
-  count-least i h = leb-true (leastOf i) (countOf lumps i) (both (leb (leastOf i) (countOf lumps i)) (leb (countOf lumps i) (mostOf i)) (limits i h) .0)
+    pub count-least : leastCount place ≤ recordCount lumps place
+    count-least = leb-true (leastCount place) (recordCount lumps place) (both (leb (leastCount place) (recordCount lumps place)) (leb (recordCount lumps place) (mostCount place)) limits .0)
 
-  pub count-most : (i : ℕ) → i < 8 → countOf lumps i ≤ mostOf i
-  count-most i h = leb-true (countOf lumps i) (mostOf i) (both (leb (leastOf i) (countOf lumps i)) (leb (countOf lumps i) (mostOf i)) (limits i h) .1)
+    pub count-most : recordCount lumps place ≤ mostCount place
+    count-most = leb-true (recordCount lumps place) (mostCount place) (both (leb (leastCount place) (recordCount lumps place)) (leb (recordCount lumps place) (mostCount place)) limits .1)
 
-  pub nodes-whole : 28 * nodesOf (lumpOf lumps 6) ≡ length (lumpOf lumps 6)
-  nodes-whole = let z : length (lumpOf lumps 6) % 28 ≡ 0 = eqb-true (length (lumpOf lumps 6) % 28) 0 (sized 6 (omega arith) .0) in omega arith
+  pub nodes-whole : nodeSize * nodesOf (mapLump lumps NODES) ≡ length (mapLump lumps NODES)
+  nodes-whole = let z : length (mapLump lumps NODES) % nodeSize ≡ 0 = eqb-true (length (mapLump lumps NODES) % nodeSize) 0 (sized NODES (omega arith) (omega arith) .0) in omega arith
 
-  alone-by : (b c : Bool) → ltb 0 (nodesOf (lumpOf lumps 6)) ≡ b → (b || c) ≡ true → nodesOf (lumpOf lumps 6) ≡ 0 → c ≡ true
-  alone-by true c q t z = let h : 0 < nodesOf (lumpOf lumps 6) = ltb-true 0 (nodesOf (lumpOf lumps 6)) q in absurd (omega arith)
+  alone-by : (b c : Bool) → ltb 0 (nodesOf (mapLump lumps NODES)) ≡ b → (b || c) ≡ true → nodesOf (mapLump lumps NODES) ≡ 0 → c ≡ true
+  alone-by true c q t z = let h : 0 < nodesOf (mapLump lumps NODES) = ltb-true 0 (nodesOf (mapLump lumps NODES)) q in absurd (omega arith)
   alone-by false c q t z = t
 
   -- without nodes there is one subsector
-  pub nodes-alone : nodesOf (lumpOf lumps 6) ≡ 0 → countOf lumps 5 ≡ 1
+  pub nodes-alone : nodesOf (mapLump lumps NODES) ≡ 0 → recordCount lumps SSECTORS ≡ 1
   nodes-alone z =
-      let both = both (leb (leastOf 6) (countOf lumps 6) && leb (countOf lumps 6) (mostOf 6)) (aloneOk lumps 6) (sized 6 (omega arith) .1) in
-      eqb-true (countOf lumps 5) 1
-      (alone-by (ltb 0 (nodesOf (lumpOf lumps 6))) (eqb (countOf lumps 5) 1) refl (both .1) z)
+      let counted = leb (leastCount NODES) (recordCount lumps NODES) && leb (recordCount lumps NODES) (mostCount NODES) in
+      let alone = both counted (aloneOk lumps NODES) (sized NODES (omega arith) (omega arith) .1) .1 in
+      eqb-true (recordCount lumps SSECTORS) 1
+      (alone-by (ltb 0 (nodesOf (mapLump lumps NODES))) (eqb (recordCount lumps SSECTORS) 1) refl alone z)
 
 -- ---- 20 to 30
 
@@ -76,10 +79,10 @@ module _ (lumps : List (List ℕ)) (words : ℕ) (e : lumpsCheck lumps words ≡
   sizes : sizesCheck lumps ≡ Pass
   sizes = andThen-pass (sizesCheck lumps) _ e .0
 
-  counts : each (sizeCheck lumps) 8 ≡ Pass
-  counts = andThen-pass (each (sizeCheck lumps) 8) (rejectCheck lumps) sizes .0
+  counts : eachPlace (sizeCheck lumps) 8 ≡ Pass
+  counts = andThen-pass (eachPlace (sizeCheck lumps) 8) (rejectCheck lumps) sizes .0
 
-  rest : (referencesCheck lumps andThen (blockmapCheck (lumpOf lumps 9) (countOf lumps 1) andThen workCheck lumps words)) ≡ Pass
+  rest : (referencesCheck lumps andThen (blockmapCheck (mapLump lumps BLOCKMAP) (recordCount lumps LINEDEFS) andThen workCheck lumps words)) ≡ Pass
   rest = andThen-pass (sizesCheck lumps) _ e .1
 
   nodes-pass : nodesCheck lumps ≡ Pass
@@ -93,33 +96,33 @@ module _ (lumps : List (List ℕ)) (words : ℕ) (e : lumpsCheck lumps words ≡
   work-pass : workCheck lumps words ≡ Pass
   work-pass =
       let p = andThen-pass (referencesCheck lumps) _ rest .1 in
-      andThen-pass (blockmapCheck (lumpOf lumps 9) (countOf lumps 1)) (workCheck lumps words) p .1
+      andThen-pass (blockmapCheck (mapLump lumps BLOCKMAP) (recordCount lumps LINEDEFS)) (workCheck lumps words) p .1
 
   -- what the descent relies on
-  pub passed : Passed (lumpOf lumps 6) (countOf lumps 5)
+  pub passed : Passed (mapLump lumps NODES) (recordCount lumps SSECTORS)
   passed =
       record {
         whole = nodes-whole lumps counts;
-        few = count-most lumps counts 6 (omega arith);
-        least = count-least lumps counts 5 (omega arith);
-        most = count-most lumps counts 5 (omega arith);
+        few = count-most lumps counts NODES (omega arith) (omega arith);
+        least = count-least lumps counts SSECTORS (omega arith) (omega arith);
+        most = count-most lumps counts SSECTORS (omega arith) (omega arith);
         alone = nodes-alone lumps counts;
         inRange =
-            nodes-ok (lumpOf lumps 6) (countOf lumps 5)
-            (λ (i : ℕ) (h : i < nodesOf (lumpOf lumps 6)).
-            unless-pass (nodeOk (lumpOf lumps 6) (countOf lumps 5) i) (NodeReference i)
-            (each-pass (nodeCheck (lumpOf lumps 6) (countOf lumps 5)) (countOf lumps 6) nodes-pass i h));
+            nodes-ok (mapLump lumps NODES) (recordCount lumps SSECTORS)
+            (λ (i : ℕ) (h : i < nodesOf (mapLump lumps NODES)).
+            unless-pass (nodeOk (mapLump lumps NODES) (recordCount lumps SSECTORS) i) (NodeReference i)
+            (each-pass (nodeCheck (mapLump lumps NODES) (recordCount lumps SSECTORS)) (recordCount lumps NODES) nodes-pass i h));
       }
 
   -- what the node graph's check relies on
-  pub judgeable : (lent : List ℕ) → length lent ≡ words → Judgeable (lumpOf lumps 6) (nodesOf (lumpOf lumps 6)) lent
+  pub judgeable : (lent : List ℕ) → length lent ≡ words → Judgeable (mapLump lumps NODES) (nodesOf (mapLump lumps NODES)) lent
   judgeable lent l =
-      let enough = leb-true (4 * countOf lumps 6) words (unless-pass (leb (4 * countOf lumps 6) words) WorkWords work-pass) in
+      let enough = leb-true (4 * recordCount lumps NODES) words (unless-pass (leb (4 * recordCount lumps NODES) words) WorkWords work-pass) in
       record {
         whole = nodes-whole lumps counts;
-        most = count-most lumps counts 6 (omega arith);
+        most = count-most lumps counts NODES (omega arith) (omega arith);
         enough = omega arith;
-        inRange = nodes-in-range (lumpOf lumps 6) (countOf lumps 5) (passed .inRange);
+        inRange = nodes-in-range (mapLump lumps NODES) (recordCount lumps SSECTORS) (passed .inRange);
       }
 
 -- ---- 30, as the code tests it

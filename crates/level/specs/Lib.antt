@@ -7,3 +7,4 @@ pub mod Sizes
 pub mod References
 pub mod Verdict
 pub mod Demands
+pub mod Inner

@@ -1,51 +1,29 @@
--- A map's own ten lumps (01, "One map"), as the parts of the file that the ten entries after the marker name. Row `i` is
--- place `i + 1`. Assumes nothing.
+-- A map's own ten lumps (01, "One map"), as the parts of the file that the ten entries after the marker name, by their
+-- places. Assumes nothing.
 use Prim.Native.Nat.{ℕ, _+_, _/_}
 use mathlib.Core.List.{List, [], _∷_, map}
 use lib.ListN.{length, getD}
+use Rattle.refusal.specs.declared.Check.{Check}
+use Rattle.refusal.specs.Checks.{each}
 use Rattle.wad.specs.Lump.{lumpAt}
-use Rattle.table.specs.Lumps.{sizeOf}
+use Rattle.table.specs.Lumps.{recordSize, THINGS, LINEDEFS, SIDEDEFS, VERTEXES, SEGS, SSECTORS, NODES, SECTORS, REJECT, BLOCKMAP}
 
--- the rows by the lumps' names
-abbrev pub LINEDEFS : ℕ
-LINEDEFS = 1
+-- all ten
+abbrev pub places : List ℕ
+places = THINGS ∷ LINEDEFS ∷ SIDEDEFS ∷ VERTEXES ∷ SEGS ∷ SSECTORS ∷ NODES ∷ SECTORS ∷ REJECT ∷ BLOCKMAP ∷ []
 
-abbrev pub SIDEDEFS : ℕ
-SIDEDEFS = 2
-
-abbrev pub VERTEXES : ℕ
-VERTEXES = 3
-
-abbrev pub SEGS : ℕ
-SEGS = 4
-
-abbrev pub SSECTORS : ℕ
-SSECTORS = 5
-
-abbrev pub NODES : ℕ
-NODES = 6
-
-abbrev pub SECTORS : ℕ
-SECTORS = 7
-
-abbrev pub REJECT : ℕ
-REJECT = 8
-
-abbrev pub BLOCKMAP : ℕ
-BLOCKMAP = 9
-
--- all ten; THINGS is row 0
-abbrev pub rows : List ℕ
-rows = 0 ∷ 1 ∷ 2 ∷ 3 ∷ 4 ∷ 5 ∷ 6 ∷ 7 ∷ 8 ∷ 9 ∷ []
-
--- the ten lumps of the map whose marker is entry `marker`
+-- the lumps of the map whose marker is entry `marker`, from place 0 on: the marker has no bytes
 abbrev pub mapLumps : List ℕ → List ℕ → ℕ → List (List ℕ)
-mapLumps wad dir marker = map (λ i. lumpAt wad dir (marker + 1 + i)) rows
+mapLumps wad dir marker = [] ∷ map (λ place. lumpAt wad dir (marker + place)) places
 
--- the lump of row `i`
-abbrev pub lumpOf : List (List ℕ) → ℕ → List ℕ
-lumpOf lumps i = getD lumps i []
+-- the lump at `place`
+abbrev pub mapLump : List (List ℕ) → ℕ → List ℕ
+mapLump lumps place = getD lumps place []
 
--- how many records the lump of row `i` has
-abbrev pub countOf : List (List ℕ) → ℕ → ℕ
-countOf lumps i = length (lumpOf lumps i) / sizeOf i
+-- how many records it has
+abbrev pub recordCount : List (List ℕ) → ℕ → ℕ
+recordCount lumps place = length (mapLump lumps place) / recordSize place
+
+-- the first refusal among the checks of places 1 to `n`, in turn
+abbrev pub eachPlace : (ℕ → Check) → ℕ → Check
+eachPlace f n = each (λ i. f (i + 1)) n

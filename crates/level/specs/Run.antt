@@ -5,19 +5,20 @@ use mathlib.Core.List.{List, [], _∷_}
 use lib.Dec.{ltb, eqb}
 use Rattle.refusal.specs.declared.Check.{Check}
 use Rattle.refusal.specs.declared.Refusal.the-variants.{MarkerRun, HexenMap}
-use Rattle.refusal.specs.Checks.{unless, _andThen_, each}
-use Rattle.wad.specs.Entries.{nameAt}
-use Rattle.wad.specs.Lump.{sizeOf}
+use Rattle.refusal.specs.Checks.{unless, _andThen_}
+use Rattle.wad.specs.Entries.{entryName}
+use Rattle.wad.specs.Lump.{entrySize}
 use Rattle.name.specs.Names.{sameName}
-use Rattle.table.specs.Lumps.{nameOf}
+use Rattle.table.specs.Lumps.{lumpName}
+use Rattle.level.specs.Lumps.{eachPlace}
 
 -- entry `i` of a directory of `count` entries is there and has the name
 abbrev pub namedOk : List ℕ → ℕ → ℕ → List ℕ → Bool
-namedOk dir count i name = ltb i count && sameName (nameAt dir i) name
+namedOk dir count i name = ltb i count && sameName (entryName dir i) name
 
--- the lump of row `i` follows the marker in its place
-abbrev pub rowCheck : List ℕ → ℕ → ℕ → ℕ → Check
-rowCheck dir count marker i = unless (namedOk dir count (marker + 1 + i) (nameOf i)) (MarkerRun (i + 1))
+-- the lump of `place` follows the marker in its place
+abbrev pub placeCheck : List ℕ → ℕ → ℕ → ℕ → Check
+placeCheck dir count marker place = unless (namedOk dir count (marker + place) (lumpName place)) (MarkerRun place)
 
 -- BEHAVIOR, the lump that makes a Hexen map
 abbrev pub behavior : List ℕ
@@ -26,6 +27,6 @@ behavior = 66 ∷ 69 ∷ 72 ∷ 65 ∷ 86 ∷ 73 ∷ 79 ∷ 82 ∷ []
 -- 12 in place order, then 13
 abbrev pub runCheck : List ℕ → ℕ → ℕ → Check
 runCheck dir count marker =
-    unless (eqb (sizeOf dir marker) 0) (MarkerRun 0)
-    andThen each (rowCheck dir count marker) 10
+    unless (eqb (entrySize dir marker) 0) (MarkerRun 0)
+    andThen eachPlace (placeCheck dir count marker) 10
     andThen unless (not (namedOk dir count (marker + 11) behavior)) HexenMap

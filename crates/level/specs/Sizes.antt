@@ -6,25 +6,27 @@ use lib.Dec.{leb, ltb, eqb}
 use lib.ListN.{length}
 use Rattle.refusal.specs.declared.Check.{Check}
 use Rattle.refusal.specs.declared.Refusal.the-variants.{RecordSize, RecordCount, RejectLength}
-use Rattle.refusal.specs.Checks.{unless, _andThen_, each}
-use Rattle.table.specs.Lumps.{sizeOf, leastOf, mostOf}
-use Rattle.level.specs.Lumps.{lumpOf, countOf, SSECTORS, NODES, SECTORS, REJECT}
+use Rattle.refusal.specs.Checks.{unless, _andThen_}
+use Rattle.table.specs.Lumps.{recordSize, leastCount, mostCount, SSECTORS, NODES, SECTORS, REJECT}
+use Rattle.level.specs.Lumps.{mapLump, recordCount, eachPlace}
 
--- the lump of row `i` has whole records only
+-- the lump at `place` has whole records only
 abbrev pub wholeOk : List (List ℕ) → ℕ → Bool
-wholeOk lumps i = eqb (length (lumpOf lumps i) % sizeOf i) 0
+wholeOk lumps place = eqb (length (mapLump lumps place) % recordSize place) 0
 
 -- where NODES has none, SSECTORS has exactly one
 abbrev pub aloneOk : List (List ℕ) → ℕ → Bool
-aloneOk lumps i = not (eqb i NODES) || ltb 0 (countOf lumps NODES) || eqb (countOf lumps SSECTORS) 1
+aloneOk lumps place = not (eqb place NODES) || ltb 0 (recordCount lumps NODES) || eqb (recordCount lumps SSECTORS) 1
 
--- the count of row `i` is one that the table allows
-abbrev pub countOk : List (List ℕ) → ℕ → Bool
-countOk lumps i = leb (leastOf i) (countOf lumps i) && leb (countOf lumps i) (mostOf i) && aloneOk lumps i
+-- the count at `place` is one that the table allows
+abbrev pub recordCountOk : List (List ℕ) → ℕ → Bool
+recordCountOk lumps place =
+    leb (leastCount place) (recordCount lumps place) && leb (recordCount lumps place) (mostCount place) && aloneOk lumps place
 
--- 20, then 21, of row `i`
+-- 20, then 21, at `place`
 abbrev pub sizeCheck : List (List ℕ) → ℕ → Check
-sizeCheck lumps i = unless (wholeOk lumps i) (RecordSize (i + 1)) andThen unless (countOk lumps i) (RecordCount (i + 1))
+sizeCheck lumps place =
+    unless (wholeOk lumps place) (RecordSize place) andThen unless (recordCountOk lumps place) (RecordCount place)
 
 -- the bytes of REJECT: sectors² bits, rounded up to whole bytes
 abbrev pub rejectSize : ℕ → ℕ
@@ -32,8 +34,9 @@ rejectSize sectors = (sectors * sectors + 7) / 8
 
 -- 22
 abbrev pub rejectCheck : List (List ℕ) → Check
-rejectCheck lumps = unless (eqb (length (lumpOf lumps REJECT)) (rejectSize (countOf lumps SECTORS))) RejectLength
+rejectCheck lumps =
+    unless (eqb (length (mapLump lumps REJECT)) (rejectSize (recordCount lumps SECTORS))) RejectLength
 
 -- 20 and 21 lump by lump, then 22
 abbrev pub sizesCheck : List (List ℕ) → Check
-sizesCheck lumps = each (sizeCheck lumps) 8 andThen rejectCheck lumps
+sizesCheck lumps = eachPlace (sizeCheck lumps) 8 andThen rejectCheck lumps

@@ -11,32 +11,33 @@ use Rattle.refusal.specs.declared.Refusal.the-variants.{WorkWords, NodeLoop}
 use Rattle.refusal.specs.Checks.{unless, _andThen_}
 use Rattle.wad.specs.declared.map.Marker.{Marker}
 use Rattle.wad.specs.declared.map.Marker.the-variants.{Entry, Refused as NoMarker}
-use Rattle.wad.specs.Header.{headOf, countOf as entriesOf}
+use Rattle.wad.specs.Header.{headOf, entryCount}
 use Rattle.wad.specs.Entries.{directoryOf}
 use Rattle.wad.specs.Map.{markerAnswer}
 use Rattle.bsp.specs.declared.Graph.{Graph}
-use Rattle.bsp.specs.declared.Graph.the-variants.{Loop, Depth}
+use Rattle.bsp.specs.declared.Graph.the-variants.{HasLoop, HasDepth}
 use Rattle.bsp.specs.Nodes.{nodesOf}
 use Rattle.bsp.specs.Heights.{graphVerdict}
 use Rattle.graph.specs.Judging.{cleared}
 use Rattle.blockmap.specs.Blockmap.{blockmapCheck}
 use Rattle.level.specs.declared.Verdict.{Verdict}
 use Rattle.level.specs.declared.Verdict.the-variants.{Accepted, Refused as NotAccepted}
-use Rattle.level.specs.Lumps.{mapLumps, lumpOf, countOf, LINEDEFS, SSECTORS, NODES, BLOCKMAP}
+use Rattle.table.specs.Lumps.{LINEDEFS, SSECTORS, NODES, BLOCKMAP}
+use Rattle.level.specs.Lumps.{mapLumps, mapLump, recordCount}
 use Rattle.level.specs.Run.{runCheck}
 use Rattle.level.specs.Sizes.{sizesCheck}
 use Rattle.level.specs.References.{referencesCheck}
 
 -- 30: fewer than four work words for each node
 abbrev pub workCheck : List (List ℕ) → ℕ → Check
-workCheck lumps lent = unless (leb (4 * countOf lumps NODES) lent) WorkWords
+workCheck lumps lent = unless (leb (4 * recordCount lumps NODES) lent) WorkWords
 
 -- 20 to 30, which look at the map's own lumps and at how many words are lent, `lent`
 abbrev pub lumpsCheck : List (List ℕ) → ℕ → Check
 lumpsCheck lumps lent =
     sizesCheck lumps
     andThen referencesCheck lumps
-    andThen blockmapCheck (lumpOf lumps BLOCKMAP) (countOf lumps LINEDEFS)
+    andThen blockmapCheck (mapLump lumps BLOCKMAP) (recordCount lumps LINEDEFS)
     andThen workCheck lumps lent
 
 -- 12 to 30, of the map whose marker is entry `marker` of a directory of `count` entries
@@ -45,8 +46,8 @@ mapCheck dir count marker lumps lent = runCheck dir count marker andThen lumpsCh
 
 -- 31, or accepted
 abbrev pub graphAnswer : Graph → ℕ → Verdict
-graphAnswer Loop marker = NotAccepted NodeLoop
-graphAnswer (Depth depth) marker = Accepted depth marker
+graphAnswer HasLoop marker = NotAccepted NodeLoop
+graphAnswer (HasDepth depth) marker = Accepted depth marker
 
 -- the verdict by all checks below 31, and where they pass by the node graph
 abbrev pub judged : Check → Graph → ℕ → Verdict
@@ -61,14 +62,14 @@ wordsBy (Refused r) nodes words = words
 -- the check of the map at entry `marker` of a file
 abbrev pub checkAt : List ℕ → ℕ → ℕ → Check
 checkAt wad marker lent =
-    mapCheck (directoryOf wad) (entriesOf (headOf wad)) marker (mapLumps wad (directoryOf wad) marker) lent
+    mapCheck (directoryOf wad) (entryCount (headOf wad)) marker (mapLumps wad (directoryOf wad) marker) lent
 
 -- its NODES lump, and its count of subsectors
 abbrev pub nodesAt : List ℕ → ℕ → List ℕ
-nodesAt wad marker = lumpOf (mapLumps wad (directoryOf wad) marker) NODES
+nodesAt wad marker = mapLump (mapLumps wad (directoryOf wad) marker) NODES
 
 abbrev pub subsectorsAt : List ℕ → ℕ → ℕ
-subsectorsAt wad marker = countOf (mapLumps wad (directoryOf wad) marker) SSECTORS
+subsectorsAt wad marker = recordCount (mapLumps wad (directoryOf wad) marker) SSECTORS
 
 -- 1 to 11 by the search for the marker, then the rest
 abbrev pub verdictBy : List ℕ → List ℕ → Marker → Verdict
@@ -91,13 +92,3 @@ wordsAfter wad name words = wordsAfterBy wad words (markerAnswer wad name)
 pub record Answered (wad name words : List ℕ) (answer : Verdict) (after : List ℕ) : Type 0 where
   pub verdicts : answer ≡ verdict wad name words
   pub leaves : after ≡ wordsAfter wad name words
-
--- the same from a marker on
-pub record AnsweredAt (wad : List ℕ) (marker : ℕ) (words : List ℕ) (answer : Verdict) (after : List ℕ) : Type 0 where
-  pub verdicts : answer ≡ verdictBy wad words (Entry marker)
-  pub leaves : after ≡ wordsAfterBy wad words (Entry marker)
-
--- and where only the node graph is left to judge
-pub record AnsweredBy (nodes : List ℕ) (marker : ℕ) (words : List ℕ) (answer : Verdict) (after : List ℕ) : Type 0 where
-  pub verdicts : answer ≡ graphAnswer (graphVerdict nodes) marker
-  pub leaves : after ≡ cleared words (4 * nodesOf nodes)

@@ -7,13 +7,15 @@ ghost use mathlib.Core.Path.{_≡_};
 ghost use Prim.Native.Nat.{_*_, _/_, _<_, _≤_};
 ghost use lib.ListN.{length};
 ghost use Rattle.refusal.specs.declared.Check.the-variants.{Pass};
-ghost use Rattle.wad.specs.Header.{headOf, countOf};
+ghost use Rattle.wad.specs.Header.{headOf, entryCount};
 ghost use Rattle.wad.specs.Entries.{fileCheck};
 ghost use Rattle.bsp.specs.Nodes.{nodesOf};
 ghost use Rattle.graph.specs.Judging.{Judgeable};
 ghost use Rattle.level.specs.Lumps.{mapLumps};
-ghost use Rattle.level.specs.Verdict.{mapCheck, Answered, AnsweredAt, AnsweredBy};
+ghost use Rattle.level.specs.Inner.{AnsweredAt, AnsweredBy};
+ghost use Rattle.level.specs.Verdict.{mapCheck, Answered};
 use bsp::Graph;
+use built::Node;
 use refusal::Check;
 use refusal::Refusal;
 use wad::Marker;
@@ -38,14 +40,18 @@ pub fn judge_map(wad: &[u8], name: &[u8], words: &mut [u16]) -> Verdict
 
 // The map at a marker that was found.
 fn judge_at(wad: &[u8], marker: usize, words: &mut [u16]) -> Verdict
-    requires { ⌜ (fileCheck (now wad) ≡ Pass) × (marker < countOf (headOf (now wad))) ⌝ }
+    requires { ⌜ (fileCheck (now wad) ≡ Pass) × (marker < entryCount (headOf (now wad))) ⌝ }
     ensures { λ r. ⌜ AnsweredAt (now (wad .entry)) marker (now (words .entry)) r (now (words .exit)) ⌝ }
 {
     let dir = wad::directory_of(wad);
     if let Check::Refused(r) = judge_below(wad, dir, wad::entry_count(wad), marker, words.len()) {
         return Verdict::Refused(r);
     }
-    judge_graph(sizes::row_lump(wad, dir, marker, 6), marker, words)
+    judge_graph(
+        sizes::map_lump(wad, dir, marker, Node::PLACE),
+        marker,
+        words,
+    )
 }
 
 // 12 to 30.
@@ -64,8 +70,8 @@ fn judge_graph(nodes: &[u8], marker: usize, words: &mut [u16]) -> Verdict
     requires { ⌜ Judgeable (now nodes) (nodesOf (now nodes)) (now words) ⌝ }
     ensures { λ r. ⌜ AnsweredBy (now (nodes .entry)) marker (now (words .entry)) r (now (words .exit)) ⌝ }
 {
-    match graph::judge(nodes, nodes.len() / 28, words) {
-        Graph::Loop => Verdict::Refused(Refusal::NodeLoop),
-        Graph::Depth(depth) => Verdict::Accepted { depth, marker },
+    match graph::judge(nodes, nodes.len() / Node::SIZE, words) {
+        Graph::HasLoop => Verdict::Refused(Refusal::NodeLoop),
+        Graph::HasDepth(depth) => Verdict::Accepted { depth, marker },
     }
 }

@@ -3,17 +3,24 @@ ghost use mathlib.Core.Path.{_≡_};
 ghost use Prim.Native.Nat.{_+_, _*_, _≤_};
 ghost use lib.ListN.{length};
 ghost use Rattle.refusal.specs.declared.Check.the-variants.{Pass};
-ghost use Rattle.refusal.specs.Checks.{each};
+ghost use Rattle.table.specs.Lumps.{LINEDEFS, BLOCKMAP};
 ghost use Rattle.blockmap.specs.Blockmap.{blockmapCheck};
-ghost use Rattle.level.specs.Lumps.{mapLumps, lumpOf, countOf};
+ghost use Rattle.level.specs.Lumps.{mapLumps, mapLump, recordCount, eachPlace};
 ghost use Rattle.level.specs.Sizes.{sizeCheck, rejectCheck, sizesCheck};
 ghost use Rattle.level.specs.References.{linedefsCheck, sidedefsCheck, segsCheck, subsectorsCheck, nodesCheck, referencesCheck};
 ghost use Rattle.level.specs.Verdict.{workCheck, lumpsCheck};
 use crate::sizes::judge_reject;
 use crate::sizes::judge_sizes;
-use crate::sizes::row_count;
-use crate::sizes::row_lump;
+use crate::sizes::map_lump;
+use crate::sizes::record_count;
 use blockmap::judge_blockmap;
+use built::Node;
+use built::Seg;
+use built::Subsector;
+use record::Linedef;
+use record::Sector;
+use record::Sidedef;
+use record::Vertex;
 use reference::judge_linedefs;
 use reference::judge_nodes;
 use reference::judge_segs;
@@ -21,16 +28,18 @@ use reference::judge_sidedefs;
 use reference::judge_subsectors;
 use refusal::Check;
 use refusal::Refusal;
+use table::BLOCKMAP;
+use table::REJECT;
 
 // 22. The counts have passed.
 fn check_reject(wad: &[u8], dir: &[u8], marker: usize) -> Check
     requires { ⌜ 16 * (marker + 11) ≤ length (now dir) ⌝ }
-    requires { ⌜ each (sizeCheck (mapLumps (now wad) (now dir) marker)) 8 ≡ Pass ⌝ }
+    requires { ⌜ eachPlace (sizeCheck (mapLumps (now wad) (now dir) marker)) 8 ≡ Pass ⌝ }
     ensures { λ r. ⌜ r ≡ rejectCheck (mapLumps (now (wad .entry)) (now (dir .entry)) marker) ⌝ }
 {
     judge_reject(
-        row_lump(wad, dir, marker, 8).len(),
-        row_count(wad, dir, marker, 7),
+        map_lump(wad, dir, marker, REJECT).len(),
+        record_count(wad, dir, marker, Sector::PLACE),
     )
 }
 
@@ -50,9 +59,9 @@ fn check_linedefs(wad: &[u8], dir: &[u8], marker: usize) -> Check
     ensures { λ r. ⌜ r ≡ linedefsCheck (mapLumps (now (wad .entry)) (now (dir .entry)) marker) ⌝ }
 {
     judge_linedefs(
-        row_lump(wad, dir, marker, 1),
-        row_count(wad, dir, marker, 3),
-        row_count(wad, dir, marker, 2),
+        map_lump(wad, dir, marker, Linedef::PLACE),
+        record_count(wad, dir, marker, Vertex::PLACE),
+        record_count(wad, dir, marker, Sidedef::PLACE),
     )
 }
 
@@ -61,8 +70,8 @@ fn check_sidedefs(wad: &[u8], dir: &[u8], marker: usize) -> Check
     ensures { λ r. ⌜ r ≡ sidedefsCheck (mapLumps (now (wad .entry)) (now (dir .entry)) marker) ⌝ }
 {
     judge_sidedefs(
-        row_lump(wad, dir, marker, 2),
-        row_count(wad, dir, marker, 7),
+        map_lump(wad, dir, marker, Sidedef::PLACE),
+        record_count(wad, dir, marker, Sector::PLACE),
     )
 }
 
@@ -71,9 +80,9 @@ fn check_segs(wad: &[u8], dir: &[u8], marker: usize) -> Check
     ensures { λ r. ⌜ r ≡ segsCheck (mapLumps (now (wad .entry)) (now (dir .entry)) marker) ⌝ }
 {
     judge_segs(
-        row_lump(wad, dir, marker, 4),
-        row_lump(wad, dir, marker, 1),
-        row_count(wad, dir, marker, 3),
+        map_lump(wad, dir, marker, Seg::PLACE),
+        map_lump(wad, dir, marker, Linedef::PLACE),
+        record_count(wad, dir, marker, Vertex::PLACE),
     )
 }
 
@@ -82,8 +91,8 @@ fn check_subsectors(wad: &[u8], dir: &[u8], marker: usize) -> Check
     ensures { λ r. ⌜ r ≡ subsectorsCheck (mapLumps (now (wad .entry)) (now (dir .entry)) marker) ⌝ }
 {
     judge_subsectors(
-        row_lump(wad, dir, marker, 5),
-        row_count(wad, dir, marker, 4),
+        map_lump(wad, dir, marker, Subsector::PLACE),
+        record_count(wad, dir, marker, Seg::PLACE),
     )
 }
 
@@ -92,8 +101,8 @@ fn check_nodes(wad: &[u8], dir: &[u8], marker: usize) -> Check
     ensures { λ r. ⌜ r ≡ nodesCheck (mapLumps (now (wad .entry)) (now (dir .entry)) marker) ⌝ }
 {
     judge_nodes(
-        row_lump(wad, dir, marker, 6),
-        row_count(wad, dir, marker, 5),
+        map_lump(wad, dir, marker, Node::PLACE),
+        record_count(wad, dir, marker, Subsector::PLACE),
     )
 }
 
@@ -120,11 +129,11 @@ fn check_references(wad: &[u8], dir: &[u8], marker: usize) -> Check
 // 28.
 fn check_blockmap(wad: &[u8], dir: &[u8], marker: usize) -> Check
     requires { ⌜ 16 * (marker + 11) ≤ length (now dir) ⌝ }
-    ensures { λ r. ⌜ r ≡ blockmapCheck (lumpOf (mapLumps (now (wad .entry)) (now (dir .entry)) marker) 9) (countOf (mapLumps (now (wad .entry)) (now (dir .entry)) marker) 1) ⌝ }
+    ensures { λ r. ⌜ r ≡ blockmapCheck (mapLump (mapLumps (now (wad .entry)) (now (dir .entry)) marker) BLOCKMAP) (recordCount (mapLumps (now (wad .entry)) (now (dir .entry)) marker) LINEDEFS) ⌝ }
 {
     judge_blockmap(
-        row_lump(wad, dir, marker, 9),
-        row_count(wad, dir, marker, 1),
+        map_lump(wad, dir, marker, BLOCKMAP),
+        record_count(wad, dir, marker, Linedef::PLACE),
     )
 }
 
@@ -134,7 +143,7 @@ fn check_work(wad: &[u8], dir: &[u8], marker: usize, words: usize) -> Check
     ensures { λ r. ⌜ r ≡ workCheck (mapLumps (now (wad .entry)) (now (dir .entry)) marker) words ⌝ }
 {
     refusal::pass_if(
-        row_count(wad, dir, marker, 6) <= words / 4,
+        record_count(wad, dir, marker, Node::PLACE) <= words / 4,
         Refusal::WorkWords,
     )
 }

@@ -2,8 +2,8 @@
 ghost use mathlib.Core.Path.{_≡_};
 ghost use Prim.Native.Nat.{_+_, _*_, _<_, _≤_};
 ghost use lib.ListN.{length};
-ghost use Rattle.refusal.specs.Checks.{each};
-ghost use Rattle.level.specs.Run.{namedOk, rowCheck, runCheck};
+ghost use Rattle.level.specs.Lumps.{eachPlace};
+ghost use Rattle.level.specs.Run.{namedOk, placeCheck, runCheck};
 use refusal::Check;
 use refusal::Refusal;
 
@@ -17,23 +17,23 @@ fn named_ok(dir: &[u8], count: usize, i: usize, name: &[u8]) -> bool
     false
 }
 
-fn judge_row(dir: &[u8], count: usize, marker: usize, i: usize) -> Check
-    requires { ⌜ (16 * count ≤ length (now dir)) × ((marker < count) × (i < 10)) ⌝ }
-    ensures { λ r. ⌜ r ≡ rowCheck (now (dir .entry)) count marker i ⌝ }
+fn judge_place(dir: &[u8], count: usize, marker: usize, place: usize) -> Check
+    requires { ⌜ (16 * count ≤ length (now dir)) × (marker < count) × (1 ≤ place) × (place ≤ 10) ⌝ }
+    ensures { λ r. ⌜ r ≡ placeCheck (now (dir .entry)) count marker place ⌝ }
 {
-    let name = table::name_of(i);
+    let name = table::lump_name(place);
     refusal::pass_if(
-        named_ok(dir, count, marker + 1 + i, &name),
-        Refusal::MarkerRun(i + 1),
+        named_ok(dir, count, marker + place, &name),
+        Refusal::MarkerRun(place),
     )
 }
 
-fn judge_rows(dir: &[u8], count: usize, marker: usize) -> Check
+fn judge_places(dir: &[u8], count: usize, marker: usize) -> Check
     requires { ⌜ (16 * count ≤ length (now dir)) × (marker < count) ⌝ }
-    ensures { λ r. ⌜ r ≡ each (rowCheck (now (dir .entry)) count marker) 10 ⌝ }
+    ensures { λ r. ⌜ r ≡ eachPlace (placeCheck (now (dir .entry)) count marker) 10 ⌝ }
 {
     for i in 0..10 {
-        if let Check::Refused(r) = judge_row(dir, count, marker, i) {
+        if let Check::Refused(r) = judge_place(dir, count, marker, i + 1) {
             return Check::Refused(r);
         }
     }
@@ -45,12 +45,12 @@ pub fn judge_run(dir: &[u8], count: usize, marker: usize) -> Check
     requires { ⌜ (16 * count ≤ length (now dir)) × (marker < count) ⌝ }
     ensures { λ r. ⌜ r ≡ runCheck (now (dir .entry)) count marker ⌝ }
 {
-    let empty = wad::size_of(dir, marker) == 0;
+    let empty = wad::entry_size(dir, marker) == 0;
     let hexen = named_ok(dir, count, marker + 11, b"BEHAVIOR");
     refusal::then(
         refusal::pass_if(empty, Refusal::MarkerRun(0)),
         refusal::then(
-            judge_rows(dir, count, marker),
+            judge_places(dir, count, marker),
             refusal::pass_if(!hexen, Refusal::HexenMap),
         ),
     )

@@ -4,64 +4,68 @@ ghost use Prim.Native.Nat.{_+_, _*_, _/_, _<_, _≤_};
 ghost use lib.ListN.{length};
 ghost use lib.Dec.{eqb};
 ghost use Rattle.refusal.specs.declared.Refusal.the-variants.{RejectLength};
-ghost use Rattle.refusal.specs.Checks.{unless, each};
-ghost use Rattle.level.specs.Lumps.{mapLumps, lumpOf, countOf};
-ghost use Rattle.level.specs.Sizes.{wholeOk, aloneOk, countOk, sizeCheck, rejectSize};
+ghost use Rattle.refusal.specs.Checks.{unless};
+ghost use Rattle.level.specs.Lumps.{mapLumps, mapLump, recordCount, eachPlace};
+ghost use Rattle.level.specs.Sizes.{wholeOk, aloneOk, recordCountOk, sizeCheck, rejectSize};
+use built::Node;
+use built::Subsector;
 use refusal::Check;
 use refusal::Refusal;
 
-// The lump of a row of the map whose marker is an entry of the directory.
-pub fn row_lump<'a>(wad: &'a [u8], dir: &[u8], marker: usize, row: usize) -> &'a [u8]
-    requires { ⌜ (16 * (marker + 11) ≤ length (now dir)) × (row < 10) ⌝ }
-    ensures { λ r. ⌜ now r ≡ lumpOf (mapLumps (now (wad .entry)) (now (dir .entry)) marker) row ⌝ }
+// The lump at a place of the map whose marker is an entry of the directory.
+pub fn map_lump<'a>(wad: &'a [u8], dir: &[u8], marker: usize, place: usize) -> &'a [u8]
+    requires { ⌜ (16 * (marker + 11) ≤ length (now dir)) × (1 ≤ place) × (place ≤ 10) ⌝ }
+    ensures { λ r. ⌜ now r ≡ mapLump (mapLumps (now (wad .entry)) (now (dir .entry)) marker) place ⌝ }
 {
-    wad::lump_at(wad, dir, marker + 1 + row)
+    wad::lump_at(wad, dir, marker + place)
 }
 
-// How many records the lump of a row has.
-pub fn row_count(wad: &[u8], dir: &[u8], marker: usize, row: usize) -> usize
-    requires { ⌜ (16 * (marker + 11) ≤ length (now dir)) × (row < 8) ⌝ }
-    ensures { λ r. ⌜ r ≡ countOf (mapLumps (now (wad .entry)) (now (dir .entry)) marker) row ⌝ }
+// How many records the lump at a place has.
+pub fn record_count(wad: &[u8], dir: &[u8], marker: usize, place: usize) -> usize
+    requires { ⌜ (16 * (marker + 11) ≤ length (now dir)) × (1 ≤ place) × (place ≤ 8) ⌝ }
+    ensures { λ r. ⌜ r ≡ recordCount (mapLumps (now (wad .entry)) (now (dir .entry)) marker) place ⌝ }
 {
-    row_lump(wad, dir, marker, row).len() / table::size_of(row)
+    map_lump(wad, dir, marker, place).len() / table::record_size(place)
 }
 
-fn whole_ok(wad: &[u8], dir: &[u8], marker: usize, row: usize) -> bool
-    requires { ⌜ (16 * (marker + 11) ≤ length (now dir)) × (row < 8) ⌝ }
-    ensures { λ r. ⌜ r ≡ wholeOk (mapLumps (now (wad .entry)) (now (dir .entry)) marker) row ⌝ }
+fn whole_ok(wad: &[u8], dir: &[u8], marker: usize, place: usize) -> bool
+    requires { ⌜ (16 * (marker + 11) ≤ length (now dir)) × (1 ≤ place) × (place ≤ 8) ⌝ }
+    ensures { λ r. ⌜ r ≡ wholeOk (mapLumps (now (wad .entry)) (now (dir .entry)) marker) place ⌝ }
 {
-    row_lump(wad, dir, marker, row).len() % table::size_of(row) == 0
+    map_lump(wad, dir, marker, place).len() % table::record_size(place) == 0
 }
 
 // Without nodes the count of subsectors must be 1.
-fn alone_ok(wad: &[u8], dir: &[u8], marker: usize, row: usize) -> bool
+fn alone_ok(wad: &[u8], dir: &[u8], marker: usize, place: usize) -> bool
     requires { ⌜ 16 * (marker + 11) ≤ length (now dir) ⌝ }
-    ensures { λ r. ⌜ r ≡ aloneOk (mapLumps (now (wad .entry)) (now (dir .entry)) marker) row ⌝ }
+    ensures { λ r. ⌜ r ≡ aloneOk (mapLumps (now (wad .entry)) (now (dir .entry)) marker) place ⌝ }
 {
-    !(row == 6) | (0 < row_count(wad, dir, marker, 6)) | (row_count(wad, dir, marker, 5) == 1)
+    !(place == Node::PLACE)
+        | (0 < record_count(wad, dir, marker, Node::PLACE))
+        | (record_count(wad, dir, marker, Subsector::PLACE) == 1)
 }
 
-fn count_ok(wad: &[u8], dir: &[u8], marker: usize, row: usize) -> bool
-    requires { ⌜ (16 * (marker + 11) ≤ length (now dir)) × (row < 8) ⌝ }
-    ensures { λ r. ⌜ r ≡ countOk (mapLumps (now (wad .entry)) (now (dir .entry)) marker) row ⌝ }
+fn record_count_ok(wad: &[u8], dir: &[u8], marker: usize, place: usize) -> bool
+    requires { ⌜ (16 * (marker + 11) ≤ length (now dir)) × (1 ≤ place) × (place ≤ 8) ⌝ }
+    ensures { λ r. ⌜ r ≡ recordCountOk (mapLumps (now (wad .entry)) (now (dir .entry)) marker) place ⌝ }
 {
-    let count = row_count(wad, dir, marker, row);
-    (table::least_of(row) <= count)
-        & (count <= table::most_of(row))
-        & alone_ok(wad, dir, marker, row)
+    let count = record_count(wad, dir, marker, place);
+    (table::least_count(place) <= count)
+        & (count <= table::most_count(place))
+        & alone_ok(wad, dir, marker, place)
 }
 
-fn judge_size(wad: &[u8], dir: &[u8], marker: usize, row: usize) -> Check
-    requires { ⌜ (16 * (marker + 11) ≤ length (now dir)) × (row < 8) ⌝ }
-    ensures { λ r. ⌜ r ≡ sizeCheck (mapLumps (now (wad .entry)) (now (dir .entry)) marker) row ⌝ }
+fn judge_size(wad: &[u8], dir: &[u8], marker: usize, place: usize) -> Check
+    requires { ⌜ (16 * (marker + 11) ≤ length (now dir)) × (1 ≤ place) × (place ≤ 8) ⌝ }
+    ensures { λ r. ⌜ r ≡ sizeCheck (mapLumps (now (wad .entry)) (now (dir .entry)) marker) place ⌝ }
 {
     let whole = refusal::pass_if(
-        whole_ok(wad, dir, marker, row),
-        Refusal::RecordSize(row + 1),
+        whole_ok(wad, dir, marker, place),
+        Refusal::RecordSize(place),
     );
     let count = refusal::pass_if(
-        count_ok(wad, dir, marker, row),
-        Refusal::RecordCount(row + 1),
+        record_count_ok(wad, dir, marker, place),
+        Refusal::RecordCount(place),
     );
     refusal::then(whole, count)
 }
@@ -69,10 +73,10 @@ fn judge_size(wad: &[u8], dir: &[u8], marker: usize, row: usize) -> Check
 // 20 and 21, lump by lump.
 pub fn judge_sizes(wad: &[u8], dir: &[u8], marker: usize) -> Check
     requires { ⌜ 16 * (marker + 11) ≤ length (now dir) ⌝ }
-    ensures { λ r. ⌜ r ≡ each (sizeCheck (mapLumps (now (wad .entry)) (now (dir .entry)) marker)) 8 ⌝ }
+    ensures { λ r. ⌜ r ≡ eachPlace (sizeCheck (mapLumps (now (wad .entry)) (now (dir .entry)) marker)) 8 ⌝ }
 {
-    for row in 0..8 {
-        if let Check::Refused(r) = judge_size(wad, dir, marker, row) {
+    for i in 0..8 {
+        if let Check::Refused(r) = judge_size(wad, dir, marker, i + 1) {
             return Check::Refused(r);
         }
     }

@@ -7,11 +7,11 @@ use Rattle.meshpigeon.specs.declared.status.Status.{Status}
 
 -- nothing was refused
 abbrev pub accepted : Status
-accepted = record { number = 0; place = 0; item = 0 }
+accepted = record { number = 0; place = 0; «record» = 0 }
 
 -- a refusal by the paper's table
 abbrev pub refused : Refusal → Status
-refused r = record { number = numberOf r; place = placeOf r; item = recordOf r }
+refused r = record { number = numberOf r; place = placeOf r; «record» = recordOf r }
 
 -- what a check answered
 abbrev pub statusOf : Check → Status

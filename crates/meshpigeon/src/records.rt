@@ -1,13 +1,13 @@
 // The eight kinds of map record, read and written by number: 60.
 ghost use mathlib.Core.Path.{_≡_};
-ghost use Rattle.record.specs.Things.{thingAt, thingBytes};
-ghost use Rattle.record.specs.Linedefs.{linedefAt, linedefBytes};
-ghost use Rattle.record.specs.Sidedefs.{sidedefAt, sidedefBytes};
-ghost use Rattle.record.specs.Vertexes.{vertexAt, vertexBytes};
-ghost use Rattle.built.specs.Segs.{segAt, segBytes};
-ghost use Rattle.built.specs.Subsectors.{subsectorAt, subsectorBytes};
-ghost use Rattle.built.specs.Nodes.{nodeAt, nodeBytes};
-ghost use Rattle.record.specs.Sectors.{sectorAt, sectorBytes};
+ghost use Rattle.record.specs.Things.{thingSize, thingAt, thingBytes};
+ghost use Rattle.record.specs.Linedefs.{linedefSize, linedefAt, linedefBytes};
+ghost use Rattle.record.specs.Sidedefs.{sidedefSize, sidedefAt, sidedefBytes};
+ghost use Rattle.record.specs.Vertexes.{vertexSize, vertexAt, vertexBytes};
+ghost use Rattle.built.specs.Segs.{segSize, segAt, segBytes};
+ghost use Rattle.built.specs.Subsectors.{subsectorSize, subsectorAt, subsectorBytes};
+ghost use Rattle.built.specs.Nodes.{nodeSize, nodeAt, nodeBytes};
+ghost use Rattle.record.specs.Sectors.{sectorSize, sectorAt, sectorBytes};
 ghost use Rattle.meshpigeon.specs.Records.{RecordWritten, thingOut, linedefOut, sidedefOut, vertexOut, segOut, subsectorOut, nodeOut, sectorOut};
 use crate::status::Status;
 use crate::status::status_of;
@@ -43,7 +43,7 @@ pub extern "C" fn meshpigeon_read_thing(lump: &[u8], index: usize) -> ThingAnswe
 // Record `index` of THINGS replaced.
 #[no_mangle]
 pub extern "C" fn meshpigeon_write_thing(lump: &mut [u8], index: usize, thing: Thing) -> Status
-    ensures { λ r. ⌜ RecordWritten (now (lump .entry)) 10 index (thingBytes thing) r (now (lump .exit)) ⌝ }
+    ensures { λ r. ⌜ RecordWritten (now (lump .entry)) thingSize index (thingBytes thing) r (now (lump .exit)) ⌝ }
 {
     status_of(Thing::write(lump, index, thing))
 }
@@ -75,7 +75,7 @@ pub extern "C" fn meshpigeon_write_linedef(
     index: usize,
     linedef: Linedef,
 ) -> Status
-    ensures { λ r. ⌜ RecordWritten (now (lump .entry)) 14 index (linedefBytes linedef) r (now (lump .exit)) ⌝ }
+    ensures { λ r. ⌜ RecordWritten (now (lump .entry)) linedefSize index (linedefBytes linedef) r (now (lump .exit)) ⌝ }
 {
     status_of(Linedef::write(lump, index, linedef))
 }
@@ -107,7 +107,7 @@ pub extern "C" fn meshpigeon_write_sidedef(
     index: usize,
     sidedef: Sidedef,
 ) -> Status
-    ensures { λ r. ⌜ RecordWritten (now (lump .entry)) 30 index (sidedefBytes sidedef) r (now (lump .exit)) ⌝ }
+    ensures { λ r. ⌜ RecordWritten (now (lump .entry)) sidedefSize index (sidedefBytes sidedef) r (now (lump .exit)) ⌝ }
 {
     status_of(Sidedef::write(lump, index, sidedef))
 }
@@ -135,7 +135,7 @@ pub extern "C" fn meshpigeon_read_vertex(lump: &[u8], index: usize) -> VertexAns
 // Record `index` of VERTEXES replaced.
 #[no_mangle]
 pub extern "C" fn meshpigeon_write_vertex(lump: &mut [u8], index: usize, vertex: Vertex) -> Status
-    ensures { λ r. ⌜ RecordWritten (now (lump .entry)) 4 index (vertexBytes vertex) r (now (lump .exit)) ⌝ }
+    ensures { λ r. ⌜ RecordWritten (now (lump .entry)) vertexSize index (vertexBytes vertex) r (now (lump .exit)) ⌝ }
 {
     status_of(Vertex::write(lump, index, vertex))
 }
@@ -163,7 +163,7 @@ pub extern "C" fn meshpigeon_read_seg(lump: &[u8], index: usize) -> SegAnswer
 // Record `index` of SEGS replaced.
 #[no_mangle]
 pub extern "C" fn meshpigeon_write_seg(lump: &mut [u8], index: usize, seg: Seg) -> Status
-    ensures { λ r. ⌜ RecordWritten (now (lump .entry)) 12 index (segBytes seg) r (now (lump .exit)) ⌝ }
+    ensures { λ r. ⌜ RecordWritten (now (lump .entry)) segSize index (segBytes seg) r (now (lump .exit)) ⌝ }
 {
     status_of(Seg::write(lump, index, seg))
 }
@@ -195,7 +195,7 @@ pub extern "C" fn meshpigeon_write_subsector(
     index: usize,
     subsector: Subsector,
 ) -> Status
-    ensures { λ r. ⌜ RecordWritten (now (lump .entry)) 4 index (subsectorBytes subsector) r (now (lump .exit)) ⌝ }
+    ensures { λ r. ⌜ RecordWritten (now (lump .entry)) subsectorSize index (subsectorBytes subsector) r (now (lump .exit)) ⌝ }
 {
     status_of(Subsector::write(lump, index, subsector))
 }
@@ -223,7 +223,7 @@ pub extern "C" fn meshpigeon_read_node(lump: &[u8], index: usize) -> NodeAnswer
 // Record `index` of NODES replaced.
 #[no_mangle]
 pub extern "C" fn meshpigeon_write_node(lump: &mut [u8], index: usize, node: Node) -> Status
-    ensures { λ r. ⌜ RecordWritten (now (lump .entry)) 28 index (nodeBytes node) r (now (lump .exit)) ⌝ }
+    ensures { λ r. ⌜ RecordWritten (now (lump .entry)) nodeSize index (nodeBytes node) r (now (lump .exit)) ⌝ }
 {
     status_of(Node::write(lump, index, node))
 }
@@ -251,7 +251,7 @@ pub extern "C" fn meshpigeon_read_sector(lump: &[u8], index: usize) -> SectorAns
 // Record `index` of SECTORS replaced.
 #[no_mangle]
 pub extern "C" fn meshpigeon_write_sector(lump: &mut [u8], index: usize, sector: Sector) -> Status
-    ensures { λ r. ⌜ RecordWritten (now (lump .entry)) 26 index (sectorBytes sector) r (now (lump .exit)) ⌝ }
+    ensures { λ r. ⌜ RecordWritten (now (lump .entry)) sectorSize index (sectorBytes sector) r (now (lump .exit)) ⌝ }
 {
     status_of(Sector::write(lump, index, sector))
 }

@@ -9,7 +9,7 @@ use refusal::Refusal;
 pub struct Status {
     pub number: u32,
     pub place: usize,
-    pub item: usize,
+    pub record: usize,
 }
 
 pub fn nothing_refused() -> Status
@@ -18,7 +18,7 @@ pub fn nothing_refused() -> Status
     Status {
         number: 0,
         place: 0,
-        item: 0,
+        record: 0,
     }
 }
 
@@ -26,9 +26,9 @@ pub fn refused(r: Refusal) -> Status
     ensures { λ a. ⌜ a ≡ refused r ⌝ }
 {
     Status {
-        number: refusal::number(r),
-        place: refusal::place(r),
-        item: refusal::index(r),
+        number: refusal::number_of(r),
+        place: refusal::place_of(r),
+        record: refusal::record_of(r),
     }
 }
 

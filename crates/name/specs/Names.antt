@@ -7,9 +7,9 @@ use lib.Dec.{leb, eqb}
 use lib.ListN.{length, getD}
 
 -- the test holds of 0 to `n - 1`
-abbrev pub all : ℕ → (ℕ → Bool) → Bool
-all zero ok = true
-all (suc n) ok = all n ok && ok n
+abbrev pub allBelow : ℕ → (ℕ → Bool) → Bool
+allBelow zero ok = true
+allBelow (suc n) ok = allBelow n ok && ok n
 
 -- `c` is a byte from `least` to `most`
 abbrev pub within : ℕ → ℕ → ℕ → Bool
@@ -25,15 +25,15 @@ followsOk before c = eqb c 0 || (characterOk c && not (eqb before 0))
 
 -- one to eight characters, then zeros only
 abbrev pub nameOk : List ℕ → Bool
-nameOk name = characterOk (getD name 0 0) && all 7 (λ i. followsOk (getD name i 0) (getD name (i + 1) 0))
+nameOk name = characterOk (getD name 0 0) && allBelow 7 (λ i. followsOk (getD name i 0) (getD name (i + 1) 0))
 
 -- two names of eight bytes are the same
 abbrev pub sameName : List ℕ → List ℕ → Bool
-sameName a b = all 8 (λ i. eqb (getD a i 0) (getD b i 0))
+sameName a b = allBelow 8 (λ i. eqb (getD a i 0) (getD b i 0))
 
 -- the bytes from `at` to 7 are zero
 abbrev pub zerosFrom : ℕ → List ℕ → Bool
-zerosFrom at name = all 8 (λ i. not (leb at i) || eqb (getD name i 0) 0)
+zerosFrom at name = allBelow 8 (λ i. not (leb at i) || eqb (getD name i 0) 0)
 
 -- `E`, 1-9, `M`, 1-9
 abbrev pub episodeName : List ℕ → Bool

@@ -3,16 +3,16 @@
 use mathlib.Core.Path.{refl}
 use mathlib.Core.List.{[], _∷_}
 use Rattle.endian.proofs.Unsigned.{u16-whole}
-use Rattle.field.specs.Lossless.{Codec}
+use Rattle.field.proofs.Lossless.{Codec}
 use Rattle.field.proofs.Fields.{i16-whole, name-whole}
 use Rattle.field.proofs.FieldRows.{number, signed16, name, written-whole}
-use Rattle.record.specs.Things.{thingOf, thingBytes, ThingFits}
-use Rattle.record.specs.Linedefs.{linedefOf, linedefBytes, LinedefFits}
-use Rattle.record.specs.Sidedefs.{sidedefOf, sidedefBytes, SidedefFits}
-use Rattle.record.specs.Vertexes.{vertexOf, vertexBytes, VertexFits}
-use Rattle.record.specs.Sectors.{sectorOf, sectorBytes, SectorFits}
+use Rattle.record.specs.Things.{thingSize, thingOf, thingBytes, ThingFits}
+use Rattle.record.specs.Linedefs.{linedefSize, linedefOf, linedefBytes, LinedefFits}
+use Rattle.record.specs.Sidedefs.{sidedefSize, sidedefOf, sidedefBytes, SidedefFits}
+use Rattle.record.specs.Vertexes.{vertexSize, vertexOf, vertexBytes, VertexFits}
+use Rattle.record.specs.Sectors.{sectorSize, sectorOf, sectorBytes, SectorFits}
 
-pub thing : Codec 10 thingOf thingBytes ThingFits
+pub thing : Codec thingSize thingOf thingBytes ThingFits
 thing =
     record {
       length-encode = λ t. refl;
@@ -26,7 +26,7 @@ thing =
       encode-decode = written-whole (signed16 ∷ signed16 ∷ number ∷ number ∷ number ∷ []);
     }
 
-pub linedef : Codec 14 linedefOf linedefBytes LinedefFits
+pub linedef : Codec linedefSize linedefOf linedefBytes LinedefFits
 linedef =
     record {
       length-encode = λ l. refl;
@@ -34,7 +34,7 @@ linedef =
       encode-decode = written-whole (number ∷ number ∷ number ∷ number ∷ number ∷ number ∷ number ∷ []);
     }
 
-pub sidedef : Codec 30 sidedefOf sidedefBytes SidedefFits
+pub sidedef : Codec sidedefSize sidedefOf sidedefBytes SidedefFits
 sidedef =
     record {
       length-encode = λ s. refl;
@@ -49,7 +49,7 @@ sidedef =
       encode-decode = written-whole (signed16 ∷ signed16 ∷ name ∷ name ∷ name ∷ number ∷ []);
     }
 
-pub vertex : Codec 4 vertexOf vertexBytes VertexFits
+pub vertex : Codec vertexSize vertexOf vertexBytes VertexFits
 vertex =
     record {
       length-encode = λ v. refl;
@@ -60,7 +60,7 @@ vertex =
       encode-decode = written-whole (signed16 ∷ signed16 ∷ []);
     }
 
-pub sector : Codec 26 sectorOf sectorBytes SectorFits
+pub sector : Codec sectorSize sectorOf sectorBytes SectorFits
 sector =
     record {
       length-encode = λ s. refl;

@@ -7,6 +7,13 @@ use Rattle.field.specs.Records.{insideCheck, bytesOrZeros}
 use Rattle.record.specs.declared.linedef.Linedef.{Linedef}
 use Rattle.record.specs.declared.linedef.LinedefRead.{LinedefRead}
 
+-- a record's bytes, and the place of its lump
+abbrev pub linedefSize : ℕ
+linedefSize = 14
+
+abbrev pub linedefPlace : ℕ
+linedefPlace = 2
+
 -- as a sidedef's number: none
 abbrev pub noSidedef : ℕ
 noSidedef = 65535
@@ -41,4 +48,4 @@ LinedefFits l = Unit
 
 -- record `index` of a lump, all 0 where refused
 abbrev pub linedefAt : List ℕ → ℕ → LinedefRead
-linedefAt lump index = record { check = insideCheck lump 14 index; linedef = linedefOf (bytesOrZeros lump 14 index) }
+linedefAt lump index = record { check = insideCheck lump linedefSize index; linedef = linedefOf (bytesOrZeros lump linedefSize index) }

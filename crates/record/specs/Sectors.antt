@@ -8,6 +8,13 @@ use Rattle.field.specs.Records.{insideCheck, bytesOrZeros}
 use Rattle.record.specs.declared.sector.Sector.{Sector}
 use Rattle.record.specs.declared.sector.SectorRead.{SectorRead}
 
+-- a record's bytes, and the place of its lump
+abbrev pub sectorSize : ℕ
+sectorSize = 26
+
+abbrev pub sectorPlace : ℕ
+sectorPlace = 8
+
 -- the fields of a record's bytes
 abbrev pub sectorOf : List ℕ → Sector
 sectorOf bytes =
@@ -38,4 +45,4 @@ SectorFits s = Int16 (s .floor) × Int16 (s .ceiling) × Name (s .«floor_flat»
 
 -- record `index` of a lump, all 0 where refused
 abbrev pub sectorAt : List ℕ → ℕ → SectorRead
-sectorAt lump index = record { check = insideCheck lump 26 index; sector = sectorOf (bytesOrZeros lump 26 index) }
+sectorAt lump index = record { check = insideCheck lump sectorSize index; sector = sectorOf (bytesOrZeros lump sectorSize index) }

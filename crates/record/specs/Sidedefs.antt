@@ -8,6 +8,13 @@ use Rattle.field.specs.Records.{insideCheck, bytesOrZeros}
 use Rattle.record.specs.declared.sidedef.Sidedef.{Sidedef}
 use Rattle.record.specs.declared.sidedef.SidedefRead.{SidedefRead}
 
+-- a record's bytes, and the place of its lump
+abbrev pub sidedefSize : ℕ
+sidedefSize = 30
+
+abbrev pub sidedefPlace : ℕ
+sidedefPlace = 3
+
 -- the fields of a record's bytes
 abbrev pub sidedefOf : List ℕ → Sidedef
 sidedefOf bytes =
@@ -36,4 +43,4 @@ SidedefFits s = Int16 (s .«x_offset») × Int16 (s .«y_offset») × Name (s .u
 
 -- record `index` of a lump, all 0 where refused
 abbrev pub sidedefAt : List ℕ → ℕ → SidedefRead
-sidedefAt lump index = record { check = insideCheck lump 30 index; sidedef = sidedefOf (bytesOrZeros lump 30 index) }
+sidedefAt lump index = record { check = insideCheck lump sidedefSize index; sidedef = sidedefOf (bytesOrZeros lump sidedefSize index) }

@@ -8,6 +8,13 @@ use Rattle.field.specs.Records.{insideCheck, bytesOrZeros}
 use Rattle.record.specs.declared.thing.Thing.{Thing}
 use Rattle.record.specs.declared.thing.ThingRead.{ThingRead}
 
+-- a record's bytes, and the place of its lump
+abbrev pub thingSize : ℕ
+thingSize = 10
+
+abbrev pub thingPlace : ℕ
+thingPlace = 1
+
 -- the fields of a record's bytes
 abbrev pub thingOf : List ℕ → Thing
 thingOf bytes =
@@ -34,4 +41,4 @@ ThingFits t = Int16 (t .x) × Int16 (t .y)
 
 -- record `index` of a lump, all 0 where refused
 abbrev pub thingAt : List ℕ → ℕ → ThingRead
-thingAt lump index = record { check = insideCheck lump 10 index; thing = thingOf (bytesOrZeros lump 10 index) }
+thingAt lump index = record { check = insideCheck lump thingSize index; thing = thingOf (bytesOrZeros lump thingSize index) }

@@ -7,6 +7,13 @@ use Rattle.field.specs.Records.{insideCheck, bytesOrZeros}
 use Rattle.record.specs.declared.vertex.Vertex.{Vertex}
 use Rattle.record.specs.declared.vertex.VertexRead.{VertexRead}
 
+-- a record's bytes, and the place of its lump
+abbrev pub vertexSize : ℕ
+vertexSize = 4
+
+abbrev pub vertexPlace : ℕ
+vertexPlace = 4
+
 -- the fields of a record's bytes
 abbrev pub vertexOf : List ℕ → Vertex
 vertexOf bytes =
@@ -27,4 +34,4 @@ VertexFits v = Int16 (v .x) × Int16 (v .y)
 
 -- record `index` of a lump, all 0 where refused
 abbrev pub vertexAt : List ℕ → ℕ → VertexRead
-vertexAt lump index = record { check = insideCheck lump 4 index; vertex = vertexOf (bytesOrZeros lump 4 index) }
+vertexAt lump index = record { check = insideCheck lump vertexSize index; vertex = vertexOf (bytesOrZeros lump vertexSize index) }

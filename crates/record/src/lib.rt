@@ -7,6 +7,7 @@ pub mod thing;
 pub mod vertex;
 
 pub use linedef::Linedef;
+pub use linedef::NO_SIDEDEF;
 pub use sector::Sector;
 pub use sidedef::Sidedef;
 pub use thing::Thing;

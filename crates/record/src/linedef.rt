@@ -2,11 +2,11 @@
 ghost use mathlib.Core.Path.{_≡_};
 ghost use lib.ListN.{length};
 ghost use Rattle.field.specs.Records.{Written};
-ghost use Rattle.record.specs.Linedefs.{linedefOf, linedefBytes, linedefAt};
+ghost use Rattle.record.specs.Linedefs.{linedefSize, linedefOf, linedefBytes, linedefAt};
 use refusal::Check;
 
-// As a sidedef's number: none.
-pub const NO_SIDEDEF: u16 = 65535;
+// As a sidedef's number: none. Sidedefs are counted up to 65,535, so that no sidedef has this number.
+pub const NO_SIDEDEF: usize = 65535;
 
 #[repr(C)]
 pub struct Linedef {
@@ -34,7 +34,7 @@ impl Linedef {
 
     // The fields of a record's bytes.
     pub fn parse(b: &[u8]) -> Linedef
-        requires { ⌜ length (now b) ≡ 14 ⌝ }
+        requires { ⌜ length (now b) ≡ linedefSize ⌝ }
         ensures { λ r. ⌜ r ≡ linedefOf (now (b .entry)) ⌝ }
     {
         Linedef {
@@ -75,7 +75,7 @@ impl Linedef {
 
     // Record `index` of a lump replaced, or 60 and nothing written.
     pub fn write(lump: &mut [u8], index: usize, linedef: Linedef) -> Check
-        ensures { λ r. ⌜ Written (now (lump .entry)) 14 index (linedefBytes linedef) r (now (lump .exit)) ⌝ }
+        ensures { λ r. ⌜ Written (now (lump .entry)) linedefSize index (linedefBytes linedef) r (now (lump .exit)) ⌝ }
     {
         let bytes = linedef.bytes();
         field::replace(lump, Linedef::SIZE, index, &bytes)

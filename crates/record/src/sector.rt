@@ -2,7 +2,7 @@
 ghost use mathlib.Core.Path.{_≡_};
 ghost use lib.ListN.{length};
 ghost use Rattle.field.specs.Records.{Written};
-ghost use Rattle.record.specs.Sectors.{sectorOf, sectorBytes, sectorAt};
+ghost use Rattle.record.specs.Sectors.{sectorSize, sectorOf, sectorBytes, sectorAt};
 use refusal::Check;
 
 #[repr(C)]
@@ -31,7 +31,7 @@ impl Sector {
 
     // The fields of a record's bytes.
     pub fn parse(b: &[u8]) -> Sector
-        requires { ⌜ length (now b) ≡ 26 ⌝ }
+        requires { ⌜ length (now b) ≡ sectorSize ⌝ }
         ensures { λ r. ⌜ r ≡ sectorOf (now (b .entry)) ⌝ }
     {
         let floor_flat = field::name_at(b, 4);
@@ -76,7 +76,7 @@ impl Sector {
 
     // Record `index` of a lump replaced, or 60 and nothing written.
     pub fn write(lump: &mut [u8], index: usize, sector: Sector) -> Check
-        ensures { λ r. ⌜ Written (now (lump .entry)) 26 index (sectorBytes sector) r (now (lump .exit)) ⌝ }
+        ensures { λ r. ⌜ Written (now (lump .entry)) sectorSize index (sectorBytes sector) r (now (lump .exit)) ⌝ }
     {
         let bytes = sector.bytes();
         field::replace(lump, Sector::SIZE, index, &bytes)

@@ -2,7 +2,7 @@
 ghost use mathlib.Core.Path.{_≡_};
 ghost use lib.ListN.{length};
 ghost use Rattle.field.specs.Records.{Written};
-ghost use Rattle.record.specs.Sidedefs.{sidedefOf, sidedefBytes, sidedefAt};
+ghost use Rattle.record.specs.Sidedefs.{sidedefSize, sidedefOf, sidedefBytes, sidedefAt};
 use refusal::Check;
 
 #[repr(C)]
@@ -30,7 +30,7 @@ impl Sidedef {
 
     // The fields of a record's bytes.
     pub fn parse(b: &[u8]) -> Sidedef
-        requires { ⌜ length (now b) ≡ 30 ⌝ }
+        requires { ⌜ length (now b) ≡ sidedefSize ⌝ }
         ensures { λ r. ⌜ r ≡ sidedefOf (now (b .entry)) ⌝ }
     {
         let upper = field::name_at(b, 4);
@@ -75,7 +75,7 @@ impl Sidedef {
 
     // Record `index` of a lump replaced, or 60 and nothing written.
     pub fn write(lump: &mut [u8], index: usize, sidedef: Sidedef) -> Check
-        ensures { λ r. ⌜ Written (now (lump .entry)) 30 index (sidedefBytes sidedef) r (now (lump .exit)) ⌝ }
+        ensures { λ r. ⌜ Written (now (lump .entry)) sidedefSize index (sidedefBytes sidedef) r (now (lump .exit)) ⌝ }
     {
         let bytes = sidedef.bytes();
         field::replace(lump, Sidedef::SIZE, index, &bytes)

@@ -2,7 +2,7 @@
 ghost use mathlib.Core.Path.{_≡_};
 ghost use lib.ListN.{length};
 ghost use Rattle.field.specs.Records.{Written};
-ghost use Rattle.record.specs.Things.{thingOf, thingBytes, thingAt};
+ghost use Rattle.record.specs.Things.{thingSize, thingOf, thingBytes, thingAt};
 use refusal::Check;
 
 #[repr(C)]
@@ -29,7 +29,7 @@ impl Thing {
 
     // The fields of a record's bytes.
     pub fn parse(b: &[u8]) -> Thing
-        requires { ⌜ length (now b) ≡ 10 ⌝ }
+        requires { ⌜ length (now b) ≡ thingSize ⌝ }
         ensures { λ r. ⌜ r ≡ thingOf (now (b .entry)) ⌝ }
     {
         Thing {
@@ -66,7 +66,7 @@ impl Thing {
 
     // Record `index` of a lump replaced, or 60 and nothing written.
     pub fn write(lump: &mut [u8], index: usize, thing: Thing) -> Check
-        ensures { λ r. ⌜ Written (now (lump .entry)) 10 index (thingBytes thing) r (now (lump .exit)) ⌝ }
+        ensures { λ r. ⌜ Written (now (lump .entry)) thingSize index (thingBytes thing) r (now (lump .exit)) ⌝ }
     {
         let bytes = thing.bytes();
         field::replace(lump, Thing::SIZE, index, &bytes)

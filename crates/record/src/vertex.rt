@@ -2,7 +2,7 @@
 ghost use mathlib.Core.Path.{_≡_};
 ghost use lib.ListN.{length};
 ghost use Rattle.field.specs.Records.{Written};
-ghost use Rattle.record.specs.Vertexes.{vertexOf, vertexBytes, vertexAt};
+ghost use Rattle.record.specs.Vertexes.{vertexSize, vertexOf, vertexBytes, vertexAt};
 use refusal::Check;
 
 #[repr(C)]
@@ -24,7 +24,7 @@ impl Vertex {
 
     // The fields of a record's bytes.
     pub fn parse(b: &[u8]) -> Vertex
-        requires { ⌜ length (now b) ≡ 4 ⌝ }
+        requires { ⌜ length (now b) ≡ vertexSize ⌝ }
         ensures { λ r. ⌜ r ≡ vertexOf (now (b .entry)) ⌝ }
     {
         Vertex {
@@ -55,7 +55,7 @@ impl Vertex {
 
     // Record `index` of a lump replaced, or 60 and nothing written.
     pub fn write(lump: &mut [u8], index: usize, vertex: Vertex) -> Check
-        ensures { λ r. ⌜ Written (now (lump .entry)) 4 index (vertexBytes vertex) r (now (lump .exit)) ⌝ }
+        ensures { λ r. ⌜ Written (now (lump .entry)) vertexSize index (vertexBytes vertex) r (now (lump .exit)) ⌝ }
     {
         let bytes = vertex.bytes();
         field::replace(lump, Vertex::SIZE, index, &bytes)

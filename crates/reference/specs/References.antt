@@ -11,15 +11,11 @@ use Rattle.record.specs.declared.linedef.Linedef.{Linedef}
 use Rattle.built.specs.declared.seg.Seg.{Seg}
 use Rattle.built.specs.declared.subsector.Subsector.{Subsector}
 use Rattle.field.specs.Records.{recordBytes}
-use Rattle.record.specs.Linedefs.{linedefOf}
-use Rattle.record.specs.Sidedefs.{sidedefOf}
-use Rattle.built.specs.Segs.{segOf}
-use Rattle.built.specs.Subsectors.{subsectorOf}
+use Rattle.record.specs.Linedefs.{linedefSize, linedefOf, noSidedef}
+use Rattle.record.specs.Sidedefs.{sidedefSize, sidedefOf}
+use Rattle.built.specs.Segs.{segSize, segOf}
+use Rattle.built.specs.Subsectors.{subsectorSize, subsectorOf}
 use Rattle.bsp.specs.Nodes.{nodeOk}
-
--- a linedef without a left side says this number
-abbrev pub noSidedef : ℕ
-noSidedef = 65535
 
 -- flag 0x0004
 abbrev pub twoSided : ℕ → Bool
@@ -34,12 +30,12 @@ linedefOk vertices sidedefs l =
 
 -- linedef `i` is there and has a left side
 abbrev pub leftOk : List ℕ → ℕ → Bool
-leftOk linedefs i = ltb i (length linedefs / 14) && not (eqb (linedefOf (recordBytes linedefs 14 i) .left) noSidedef)
+leftOk linedefs i = ltb i (length linedefs / linedefSize) && not (eqb (linedefOf (recordBytes linedefs linedefSize i) .left) noSidedef)
 
 -- both vertices and the linedef in range; direction 0, or 1 along a linedef with a left side
 abbrev pub segOk : List ℕ → ℕ → Seg → Bool
 segOk linedefs vertices s =
-    ltb (s .start) vertices && ltb (s .end) vertices && ltb (s .linedef) (length linedefs / 14)
+    ltb (s .start) vertices && ltb (s .end) vertices && ltb (s .linedef) (length linedefs / linedefSize)
     && (eqb (s .direction) 0 || (eqb (s .direction) 1 && leftOk linedefs (s .linedef)))
 
 -- at least one seg, and none past the last of `segs`
@@ -49,19 +45,19 @@ subsectorOk segs s = leb 1 (s .number) && leb (s .first + s .number) segs
 -- 23, of linedef `i`
 abbrev pub linedefCheck : List ℕ → ℕ → ℕ → ℕ → Check
 linedefCheck linedefs vertices sidedefs i =
-    unless (linedefOk vertices sidedefs (linedefOf (recordBytes linedefs 14 i))) (LinedefReference i)
+    unless (linedefOk vertices sidedefs (linedefOf (recordBytes linedefs linedefSize i))) (LinedefReference i)
 
 -- 24, of sidedef `i`
 abbrev pub sidedefCheck : List ℕ → ℕ → ℕ → Check
-sidedefCheck sidedefs sectors i = unless (ltb (sidedefOf (recordBytes sidedefs 30 i) .sector) sectors) (SidedefReference i)
+sidedefCheck sidedefs sectors i = unless (ltb (sidedefOf (recordBytes sidedefs sidedefSize i) .sector) sectors) (SidedefReference i)
 
 -- 25, of seg `i`
 abbrev pub segCheck : List ℕ → List ℕ → ℕ → ℕ → Check
-segCheck segs linedefs vertices i = unless (segOk linedefs vertices (segOf (recordBytes segs 12 i))) (SegReference i)
+segCheck segs linedefs vertices i = unless (segOk linedefs vertices (segOf (recordBytes segs segSize i))) (SegReference i)
 
 -- 26, of subsector `i`
 abbrev pub subsectorCheck : List ℕ → ℕ → ℕ → Check
-subsectorCheck subsectors segs i = unless (subsectorOk segs (subsectorOf (recordBytes subsectors 4 i))) (SubsectorReference i)
+subsectorCheck subsectors segs i = unless (subsectorOk segs (subsectorOf (recordBytes subsectors subsectorSize i))) (SubsectorReference i)
 
 -- 27, of node `i`
 abbrev pub nodeCheck : List ℕ → ℕ → ℕ → Check

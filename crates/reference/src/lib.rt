@@ -7,15 +7,41 @@ ghost use lib.ListN.{length};
 ghost use Rattle.endian.specs.Unsigned.{u16At};
 ghost use Rattle.refusal.specs.Checks.{each};
 ghost use Rattle.field.specs.Records.{recordBytes};
-ghost use Rattle.record.specs.Linedefs.{linedefOf};
-ghost use Rattle.record.specs.Sidedefs.{sidedefOf};
-ghost use Rattle.built.specs.Segs.{segOf};
-ghost use Rattle.built.specs.Subsectors.{subsectorOf};
+ghost use Rattle.record.specs.Linedefs.{linedefSize, linedefOf};
+ghost use Rattle.record.specs.Sidedefs.{sidedefSize, sidedefOf};
+ghost use Rattle.built.specs.Segs.{segSize, segOf};
+ghost use Rattle.built.specs.Subsectors.{subsectorSize, subsectorOf};
+ghost use Rattle.built.specs.Nodes.{nodeSize};
 ghost use Rattle.reference.specs.References.{twoSided, linedefOk, leftOk, segOk, subsectorOk, linedefCheck, sidedefCheck, segCheck, subsectorCheck, nodeCheck};
+use built::Node;
+use built::Seg;
+use built::Subsector;
+use record::Linedef;
+use record::NO_SIDEDEF;
+use record::Sidedef;
 use refusal::Check;
 use refusal::Refusal;
 
-const NO_SIDEDEF: usize = 65535;
+// Where the fields stand in their records.
+const START: usize = 0;
+
+const END: usize = 2;
+
+const FLAGS: usize = 4;
+
+const RIGHT: usize = 10;
+
+const LEFT: usize = 12;
+
+const SECTOR: usize = 28;
+
+const LINEDEF: usize = 6;
+
+const DIRECTION: usize = 8;
+
+const NUMBER: usize = 0;
+
+const FIRST: usize = 2;
 
 fn two_sided(flags: usize) -> bool
     ensures { λ r. ⌜ r ≡ twoSided flags ⌝ }
@@ -24,21 +50,21 @@ fn two_sided(flags: usize) -> bool
 }
 
 fn linedef_ok(linedefs: &[u8], vertices: usize, sidedefs: usize, i: usize) -> bool
-    requires { ⌜ i < length (now linedefs) / 14 ⌝ }
-    ensures { λ r. ⌜ r ≡ linedefOk vertices sidedefs (linedefOf (recordBytes (now (linedefs .entry)) 14 i)) ⌝ }
+    requires { ⌜ i < length (now linedefs) / linedefSize ⌝ }
+    ensures { λ r. ⌜ r ≡ linedefOk vertices sidedefs (linedefOf (recordBytes (now (linedefs .entry)) linedefSize i)) ⌝ }
 {
-    let left = field(linedefs, 14, i, 12);
-    (field(linedefs, 14, i, 0) < vertices)
-        & (field(linedefs, 14, i, 2) < vertices)
-        & (field(linedefs, 14, i, 10) < sidedefs)
+    let left = field(linedefs, Linedef::SIZE, i, LEFT);
+    (field(linedefs, Linedef::SIZE, i, START) < vertices)
+        & (field(linedefs, Linedef::SIZE, i, END) < vertices)
+        & (field(linedefs, Linedef::SIZE, i, RIGHT) < sidedefs)
         & ((left == NO_SIDEDEF) | (left < sidedefs))
-        & !(two_sided(field(linedefs, 14, i, 4)) & (left == NO_SIDEDEF))
+        & !(two_sided(field(linedefs, Linedef::SIZE, i, FLAGS)) & (left == NO_SIDEDEF))
 }
 
 pub fn judge_linedefs(linedefs: &[u8], vertices: usize, sidedefs: usize) -> Check
-    ensures { λ r. ⌜ r ≡ each (linedefCheck (now (linedefs .entry)) vertices sidedefs) (length (now (linedefs .entry)) / 14) ⌝ }
+    ensures { λ r. ⌜ r ≡ each (linedefCheck (now (linedefs .entry)) vertices sidedefs) (length (now (linedefs .entry)) / linedefSize) ⌝ }
 {
-    for i in 0..linedefs.len() / 14 {
+    for i in 0..linedefs.len() / Linedef::SIZE {
         if !linedef_ok(linedefs, vertices, sidedefs, i) {
             return Check::Refused(Refusal::LinedefReference(i));
         }
@@ -47,16 +73,16 @@ pub fn judge_linedefs(linedefs: &[u8], vertices: usize, sidedefs: usize) -> Chec
 }
 
 fn sidedef_ok(sidedefs: &[u8], sectors: usize, i: usize) -> bool
-    requires { ⌜ i < length (now sidedefs) / 30 ⌝ }
-    ensures { λ r. ⌜ r ≡ ltb (sidedefOf (recordBytes (now (sidedefs .entry)) 30 i) .sector) sectors ⌝ }
+    requires { ⌜ i < length (now sidedefs) / sidedefSize ⌝ }
+    ensures { λ r. ⌜ r ≡ ltb (sidedefOf (recordBytes (now (sidedefs .entry)) sidedefSize i) .sector) sectors ⌝ }
 {
-    field(sidedefs, 30, i, 28) < sectors
+    field(sidedefs, Sidedef::SIZE, i, SECTOR) < sectors
 }
 
 pub fn judge_sidedefs(sidedefs: &[u8], sectors: usize) -> Check
-    ensures { λ r. ⌜ r ≡ each (sidedefCheck (now (sidedefs .entry)) sectors) (length (now (sidedefs .entry)) / 30) ⌝ }
+    ensures { λ r. ⌜ r ≡ each (sidedefCheck (now (sidedefs .entry)) sectors) (length (now (sidedefs .entry)) / sidedefSize) ⌝ }
 {
-    for i in 0..sidedefs.len() / 30 {
+    for i in 0..sidedefs.len() / Sidedef::SIZE {
         if !sidedef_ok(sidedefs, sectors, i) {
             return Check::Refused(Refusal::SidedefReference(i));
         }
@@ -67,28 +93,28 @@ pub fn judge_sidedefs(sidedefs: &[u8], sectors: usize) -> Check
 fn left_ok(linedefs: &[u8], i: usize) -> bool
     ensures { λ r. ⌜ r ≡ leftOk (now (linedefs .entry)) i ⌝ }
 {
-    if i < linedefs.len() / 14 {
-        return !(field(linedefs, 14, i, 12) == NO_SIDEDEF);
+    if i < linedefs.len() / Linedef::SIZE {
+        return !(field(linedefs, Linedef::SIZE, i, LEFT) == NO_SIDEDEF);
     }
     false
 }
 
 fn seg_ok(segs: &[u8], linedefs: &[u8], vertices: usize, i: usize) -> bool
-    requires { ⌜ i < length (now segs) / 12 ⌝ }
-    ensures { λ r. ⌜ r ≡ segOk (now (linedefs .entry)) vertices (segOf (recordBytes (now (segs .entry)) 12 i)) ⌝ }
+    requires { ⌜ i < length (now segs) / segSize ⌝ }
+    ensures { λ r. ⌜ r ≡ segOk (now (linedefs .entry)) vertices (segOf (recordBytes (now (segs .entry)) segSize i)) ⌝ }
 {
-    let linedef = field(segs, 12, i, 6);
-    let direction = field(segs, 12, i, 8);
-    (field(segs, 12, i, 0) < vertices)
-        & (field(segs, 12, i, 2) < vertices)
-        & (linedef < linedefs.len() / 14)
+    let linedef = field(segs, Seg::SIZE, i, LINEDEF);
+    let direction = field(segs, Seg::SIZE, i, DIRECTION);
+    (field(segs, Seg::SIZE, i, START) < vertices)
+        & (field(segs, Seg::SIZE, i, END) < vertices)
+        & (linedef < linedefs.len() / Linedef::SIZE)
         & ((direction == 0) | ((direction == 1) & left_ok(linedefs, linedef)))
 }
 
 pub fn judge_segs(segs: &[u8], linedefs: &[u8], vertices: usize) -> Check
-    ensures { λ r. ⌜ r ≡ each (segCheck (now (segs .entry)) (now (linedefs .entry)) vertices) (length (now (segs .entry)) / 12) ⌝ }
+    ensures { λ r. ⌜ r ≡ each (segCheck (now (segs .entry)) (now (linedefs .entry)) vertices) (length (now (segs .entry)) / segSize) ⌝ }
 {
-    for i in 0..segs.len() / 12 {
+    for i in 0..segs.len() / Seg::SIZE {
         if !seg_ok(segs, linedefs, vertices, i) {
             return Check::Refused(Refusal::SegReference(i));
         }
@@ -97,17 +123,17 @@ pub fn judge_segs(segs: &[u8], linedefs: &[u8], vertices: usize) -> Check
 }
 
 fn subsector_ok(subsectors: &[u8], segs: usize, i: usize) -> bool
-    requires { ⌜ i < length (now subsectors) / 4 ⌝ }
-    ensures { λ r. ⌜ r ≡ subsectorOk segs (subsectorOf (recordBytes (now (subsectors .entry)) 4 i)) ⌝ }
+    requires { ⌜ i < length (now subsectors) / subsectorSize ⌝ }
+    ensures { λ r. ⌜ r ≡ subsectorOk segs (subsectorOf (recordBytes (now (subsectors .entry)) subsectorSize i)) ⌝ }
 {
-    let number = field(subsectors, 4, i, 0);
-    (1 <= number) & (field(subsectors, 4, i, 2) + number <= segs)
+    let number = field(subsectors, Subsector::SIZE, i, NUMBER);
+    (1 <= number) & (field(subsectors, Subsector::SIZE, i, FIRST) + number <= segs)
 }
 
 pub fn judge_subsectors(subsectors: &[u8], segs: usize) -> Check
-    ensures { λ r. ⌜ r ≡ each (subsectorCheck (now (subsectors .entry)) segs) (length (now (subsectors .entry)) / 4) ⌝ }
+    ensures { λ r. ⌜ r ≡ each (subsectorCheck (now (subsectors .entry)) segs) (length (now (subsectors .entry)) / subsectorSize) ⌝ }
 {
-    for i in 0..subsectors.len() / 4 {
+    for i in 0..subsectors.len() / Subsector::SIZE {
         if !subsector_ok(subsectors, segs, i) {
             return Check::Refused(Refusal::SubsectorReference(i));
         }
@@ -116,9 +142,9 @@ pub fn judge_subsectors(subsectors: &[u8], segs: usize) -> Check
 }
 
 pub fn judge_nodes(nodes: &[u8], subsectors: usize) -> Check
-    ensures { λ r. ⌜ r ≡ each (nodeCheck (now (nodes .entry)) subsectors) (length (now (nodes .entry)) / 28) ⌝ }
+    ensures { λ r. ⌜ r ≡ each (nodeCheck (now (nodes .entry)) subsectors) (length (now (nodes .entry)) / nodeSize) ⌝ }
 {
-    for i in 0..nodes.len() / 28 {
+    for i in 0..nodes.len() / Node::SIZE {
         if !bsp::node_ok(nodes, subsectors, i) {
             return Check::Refused(Refusal::NodeReference(i));
         }

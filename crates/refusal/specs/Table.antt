@@ -3,11 +3,20 @@
 use Prim.Native.Nat.{ℕ}
 use Rattle.refusal.specs.declared.Row.{Row}
 use Rattle.refusal.specs.declared.Refusal.{Refusal}
-use Rattle.refusal.specs.declared.Refusal.the-variants.{FileLength, Mark, LumpCount, DirectoryBounds, EntryBounds, EntryName, EntryNumber, MapName, MapMissing, MarkerRun, HexenMap, RecordSize, RecordCount, RejectLength, LinedefReference, SidedefReference, SegReference, SubsectorReference, NodeReference, Blockmap, WorkWords, NodeLoop, DescentNodes, DescentSubsectors, DescentChild, DescentLoop, PictureLength, PictureSize, PictureOffsets, PostBounds, PostRows, PixelBuffer, RecordBounds}
+use Rattle.refusal.specs.declared.Refusal.the-variants.{FileLength, Mark, LumpCount, DirectoryBounds}
+use Rattle.refusal.specs.declared.Refusal.the-variants.{EntryBounds, EntryName, EntryNumber}
+use Rattle.refusal.specs.declared.Refusal.the-variants.{MapName, MapMissing, MarkerRun, HexenMap}
+use Rattle.refusal.specs.declared.Refusal.the-variants.{RecordSize, RecordCount, RejectLength}
+use Rattle.refusal.specs.declared.Refusal.the-variants.{LinedefReference, SidedefReference, SegReference}
+use Rattle.refusal.specs.declared.Refusal.the-variants.{SubsectorReference, NodeReference, Blockmap}
+use Rattle.refusal.specs.declared.Refusal.the-variants.{WorkWords, NodeLoop}
+use Rattle.refusal.specs.declared.Refusal.the-variants.{DescentNodes, DescentSubsectors, DescentChild, DescentLoop}
+use Rattle.refusal.specs.declared.Refusal.the-variants.{PictureLength, PictureSize, PictureOffsets}
+use Rattle.refusal.specs.declared.Refusal.the-variants.{PostBounds, PostRows, PixelBuffer, RecordBounds}
 
 -- a row of the table: number, place, record
 abbrev pub row : ℕ → ℕ → ℕ → Row
-row number place index = record { 0 = number; 1 = place; 2 = index }
+row number place «record» = record { 0 = number; 1 = place; 2 = «record» }
 
 -- the table
 abbrev pub rowOf : Refusal → Row

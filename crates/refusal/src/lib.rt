@@ -121,21 +121,21 @@ pub fn row_of(r: Refusal) -> Row
 }
 
 // The paper's number of a refusal.
-pub fn number(r: Refusal) -> u32
+pub fn number_of(r: Refusal) -> u32
     ensures { λ n. ⌜ n ≡ numberOf r ⌝ }
 {
     row_of(r).0
 }
 
 // The place of a refusal, 0 to 10.
-pub fn place(r: Refusal) -> usize
+pub fn place_of(r: Refusal) -> usize
     ensures { λ n. ⌜ n ≡ placeOf r ⌝ }
 {
     row_of(r).1
 }
 
 // The record number of a refusal.
-pub fn index(r: Refusal) -> usize
+pub fn record_of(r: Refusal) -> usize
     ensures { λ n. ⌜ n ≡ recordOf r ⌝ }
 {
     row_of(r).2

@@ -1,4 +1,4 @@
--- The table of a map's lumps (01, "One map"): names, record sizes and counts. Row `i` is the lump at place `i + 1`.
+-- The table of a map's lumps (01, "One map"): places, names, record sizes and counts. The marker is place 0.
 -- Assumes nothing.
 use Prim.Native.Nat.{ℕ, _-_}
 use mathlib.Core.Bool.{Bool, true, _&&_}
@@ -6,36 +6,75 @@ use mathlib.Core.Path.{_≡_}
 use mathlib.Core.List.{List, [], _∷_}
 use lib.Dec.{eqb}
 use lib.ListN.{getD}
+use Rattle.record.specs.Things.{thingSize, thingPlace}
+use Rattle.record.specs.Linedefs.{linedefSize, linedefPlace}
+use Rattle.record.specs.Sidedefs.{sidedefSize, sidedefPlace}
+use Rattle.record.specs.Vertexes.{vertexSize, vertexPlace}
+use Rattle.built.specs.Segs.{segSize, segPlace}
+use Rattle.built.specs.Subsectors.{subsectorSize, subsectorPlace}
+use Rattle.built.specs.Nodes.{nodeSize, nodePlace}
+use Rattle.record.specs.Sectors.{sectorSize, sectorPlace}
 use Rattle.table.specs.declared.LumpRow.{LumpRow}
 use Rattle.table.specs.declared.CountRow.{CountRow}
 use Rattle.table.specs.declared.KindRow.{KindRow}
+
+-- the places by the lumps' names
+abbrev pub THINGS : ℕ
+THINGS = thingPlace
+
+abbrev pub LINEDEFS : ℕ
+LINEDEFS = linedefPlace
+
+abbrev pub SIDEDEFS : ℕ
+SIDEDEFS = sidedefPlace
+
+abbrev pub VERTEXES : ℕ
+VERTEXES = vertexPlace
+
+abbrev pub SEGS : ℕ
+SEGS = segPlace
+
+abbrev pub SSECTORS : ℕ
+SSECTORS = subsectorPlace
+
+abbrev pub NODES : ℕ
+NODES = nodePlace
+
+abbrev pub SECTORS : ℕ
+SECTORS = sectorPlace
+
+abbrev pub REJECT : ℕ
+REJECT = 9
+
+abbrev pub BLOCKMAP : ℕ
+BLOCKMAP = 10
 
 -- a row: name and record size
 abbrev row : List ℕ → ℕ → LumpRow
 row name size = record { name = name; size = size }
 
--- the ten lumps in their order; size 0 where there are no records
+-- the ten lumps from place 1 on; size 0 where there are no records
 abbrev pub lumps : List LumpRow
 lumps =
-    row (84 ∷ 72 ∷ 73 ∷ 78 ∷ 71 ∷ 83 ∷ 0 ∷ 0 ∷ []) 10  -- THINGS
-    ∷ row (76 ∷ 73 ∷ 78 ∷ 69 ∷ 68 ∷ 69 ∷ 70 ∷ 83 ∷ []) 14  -- LINEDEFS
-    ∷ row (83 ∷ 73 ∷ 68 ∷ 69 ∷ 68 ∷ 69 ∷ 70 ∷ 83 ∷ []) 30  -- SIDEDEFS
-    ∷ row (86 ∷ 69 ∷ 82 ∷ 84 ∷ 69 ∷ 88 ∷ 69 ∷ 83 ∷ []) 4  -- VERTEXES
-    ∷ row (83 ∷ 69 ∷ 71 ∷ 83 ∷ 0 ∷ 0 ∷ 0 ∷ 0 ∷ []) 12  -- SEGS
-    ∷ row (83 ∷ 83 ∷ 69 ∷ 67 ∷ 84 ∷ 79 ∷ 82 ∷ 83 ∷ []) 4  -- SSECTORS
-    ∷ row (78 ∷ 79 ∷ 68 ∷ 69 ∷ 83 ∷ 0 ∷ 0 ∷ 0 ∷ []) 28  -- NODES
-    ∷ row (83 ∷ 69 ∷ 67 ∷ 84 ∷ 79 ∷ 82 ∷ 83 ∷ 0 ∷ []) 26  -- SECTORS
+    row (84 ∷ 72 ∷ 73 ∷ 78 ∷ 71 ∷ 83 ∷ 0 ∷ 0 ∷ []) thingSize  -- THINGS
+    ∷ row (76 ∷ 73 ∷ 78 ∷ 69 ∷ 68 ∷ 69 ∷ 70 ∷ 83 ∷ []) linedefSize  -- LINEDEFS
+    ∷ row (83 ∷ 73 ∷ 68 ∷ 69 ∷ 68 ∷ 69 ∷ 70 ∷ 83 ∷ []) sidedefSize  -- SIDEDEFS
+    ∷ row (86 ∷ 69 ∷ 82 ∷ 84 ∷ 69 ∷ 88 ∷ 69 ∷ 83 ∷ []) vertexSize  -- VERTEXES
+    ∷ row (83 ∷ 69 ∷ 71 ∷ 83 ∷ 0 ∷ 0 ∷ 0 ∷ 0 ∷ []) segSize  -- SEGS
+    ∷ row (83 ∷ 83 ∷ 69 ∷ 67 ∷ 84 ∷ 79 ∷ 82 ∷ 83 ∷ []) subsectorSize  -- SSECTORS
+    ∷ row (78 ∷ 79 ∷ 68 ∷ 69 ∷ 83 ∷ 0 ∷ 0 ∷ 0 ∷ []) nodeSize  -- NODES
+    ∷ row (83 ∷ 69 ∷ 67 ∷ 84 ∷ 79 ∷ 82 ∷ 83 ∷ 0 ∷ []) sectorSize  -- SECTORS
     ∷ row (82 ∷ 69 ∷ 74 ∷ 69 ∷ 67 ∷ 84 ∷ 0 ∷ 0 ∷ []) 0  -- REJECT
     ∷ row (66 ∷ 76 ∷ 79 ∷ 67 ∷ 75 ∷ 77 ∷ 65 ∷ 80 ∷ []) 0  -- BLOCKMAP
     ∷ []
 
--- the name of row `i`, eight bytes
-abbrev pub nameOf : ℕ → List ℕ
-nameOf i = getD lumps i (row [] 0) .name
+-- the name of the lump at `place`, eight bytes
+abbrev pub lumpName : ℕ → List ℕ
+lumpName place = getD lumps (place - 1) (row [] 0) .name
 
 -- the size of its records
-abbrev pub sizeOf : ℕ → ℕ
-sizeOf i = getD lumps i (row [] 0) .size
+abbrev pub recordSize : ℕ → ℕ
+recordSize place = getD lumps (place - 1) (row [] 0) .size
 
 -- a row: least and most
 abbrev count : ℕ → ℕ → CountRow
@@ -47,13 +86,13 @@ counts =
     count 0 65535 ∷ count 1 65535 ∷ count 1 65535 ∷ count 1 65535
     ∷ count 1 65535 ∷ count 1 32767 ∷ count 0 32767 ∷ count 1 65535 ∷ []
 
--- the least count of row `i`
-abbrev pub leastOf : ℕ → ℕ
-leastOf i = getD counts i (count 0 0) .0
+-- the least count at `place`
+abbrev pub leastCount : ℕ → ℕ
+leastCount place = getD counts (place - 1) (count 0 0) .0
 
 -- the most
-abbrev pub mostOf : ℕ → ℕ
-mostOf i = getD counts i (count 0 0) .1
+abbrev pub mostCount : ℕ → ℕ
+mostCount place = getD counts (place - 1) (count 0 0) .1
 
 -- a kind: place and size
 abbrev kind : ℕ → ℕ → KindRow
@@ -66,18 +105,18 @@ noKind = kind 0 0
 -- place and size of each kind of record, as its type carries them
 abbrev pub kinds : List KindRow
 kinds =
-    kind 1 10 ∷ kind 2 14 ∷ kind 3 30 ∷ kind 4 4
-    ∷ kind 5 12 ∷ kind 6 4 ∷ kind 7 28 ∷ kind 8 26 ∷ []
+    kind thingPlace thingSize ∷ kind linedefPlace linedefSize ∷ kind sidedefPlace sidedefSize ∷ kind vertexPlace vertexSize
+    ∷ kind segPlace segSize ∷ kind subsectorPlace subsectorSize ∷ kind nodePlace nodeSize ∷ kind sectorPlace sectorSize ∷ []
 
 -- a kind's size is the table's at its place
 abbrev agrees : KindRow → Bool
-agrees k = eqb (k .1) (sizeOf (k .0 - 1))
+agrees k = eqb (k .1) (recordSize (k .0))
 
 -- every kind of a list does
-abbrev all : List KindRow → Bool
-all [] = true
-all (k ∷ ks) = agrees k && all ks
+abbrev allAgree : List KindRow → Bool
+allAgree [] = true
+allAgree (k ∷ ks) = agrees k && allAgree ks
 
 -- and so do the eight
 abbrev pub KindsAgree : Type 0
-KindsAgree = all kinds ≡ true
+KindsAgree = allAgree kinds ≡ true

@@ -1,8 +1,8 @@
-// The table of a map's lumps, row by row: row i is the lump at place i + 1.
+// The table of a map's lumps, by their places after the marker, 1 to 10.
 ghost use mathlib.Core.Path.{_≡_};
-ghost use Prim.Native.Nat.{_<_};
+ghost use Prim.Native.Nat.{_<_, _≤_};
 ghost use lib.ListN.{getD};
-ghost use Rattle.table.specs.Lumps.{nameOf, sizeOf, leastOf, mostOf, kinds, noKind};
+ghost use Rattle.table.specs.Lumps.{lumpName, recordSize, leastCount, mostCount, kinds, noKind};
 use built::Node;
 use built::Seg;
 use built::Subsector;
@@ -11,6 +11,11 @@ use record::Sector;
 use record::Sidedef;
 use record::Thing;
 use record::Vertex;
+
+// The places of the two lumps without records; a kind of record carries its own.
+pub const REJECT: usize = 9;
+
+pub const BLOCKMAP: usize = 10;
 
 // A lump's name, zero padded, and its record's size in bytes, 0 where it has no records.
 pub struct LumpRow {
@@ -91,37 +96,37 @@ const KINDS: [KindRow; 8] = [
     KindRow(Sector::PLACE, Sector::SIZE),
 ];
 
-// The name of the lump of row i.
-pub fn name_of(i: usize) -> [u8; 8]
-    requires { ⌜ i < 10 ⌝ }
-    ensures { λ r. ⌜ r ≡ nameOf i ⌝ }
+// The name of the lump at a place.
+pub fn lump_name(place: usize) -> [u8; 8]
+    requires { ⌜ (1 ≤ place) × (place ≤ 10) ⌝ }
+    ensures { λ r. ⌜ r ≡ lumpName place ⌝ }
 {
-    let row = LUMPS[i];
+    let row = LUMPS[place - 1];
     row.name
 }
 
 // The size of its records.
-pub fn size_of(i: usize) -> usize
-    requires { ⌜ i < 10 ⌝ }
-    ensures { λ r. ⌜ r ≡ sizeOf i ⌝ }
+pub fn record_size(place: usize) -> usize
+    requires { ⌜ (1 ≤ place) × (place ≤ 10) ⌝ }
+    ensures { λ r. ⌜ r ≡ recordSize place ⌝ }
 {
-    LUMPS[i].size
+    LUMPS[place - 1].size
 }
 
 // The least count of its records.
-pub fn least_of(i: usize) -> usize
-    requires { ⌜ i < 8 ⌝ }
-    ensures { λ r. ⌜ r ≡ leastOf i ⌝ }
+pub fn least_count(place: usize) -> usize
+    requires { ⌜ (1 ≤ place) × (place ≤ 8) ⌝ }
+    ensures { λ r. ⌜ r ≡ leastCount place ⌝ }
 {
-    COUNTS[i].0
+    COUNTS[place - 1].0
 }
 
 // The most.
-pub fn most_of(i: usize) -> usize
-    requires { ⌜ i < 8 ⌝ }
-    ensures { λ r. ⌜ r ≡ mostOf i ⌝ }
+pub fn most_count(place: usize) -> usize
+    requires { ⌜ (1 ≤ place) × (place ≤ 8) ⌝ }
+    ensures { λ r. ⌜ r ≡ mostCount place ⌝ }
 {
-    COUNTS[i].1
+    COUNTS[place - 1].1
 }
 
 // Place and size of each kind, in the order of their lumps.

@@ -7,7 +7,7 @@ ghost use mathlib.Core.Bool.{true};
 ghost use mathlib.Core.Path.{_≡_};
 ghost use Prim.Native.Nat.{_+_, _*_, _≤_, _<_};
 ghost use lib.ListN.{length};
-ghost use Rattle.bsp.specs.Nodes.{NodesInRange};
+ghost use Rattle.bsp.specs.Inner.{NodesInRange};
 
 // A node's line: start and direction.
 struct Line(i16, i16, i16, i16);
@@ -56,8 +56,8 @@ fn ask(nodes: &[u8], subsectors: usize, x: i16, y: i16) {
 // Loop or depth, and the line's end.
 fn graph(g: Graph) {
     match g {
-        Graph::Loop => print::text(b" loop\n"),
-        Graph::Depth(depth) => print::line(b"depth", &[depth]),
+        Graph::HasLoop => print::text(b" loop\n"),
+        Graph::HasDepth(depth) => print::line(b"depth", &[depth]),
     }
 }
 

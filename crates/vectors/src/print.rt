@@ -85,8 +85,11 @@ pub(crate) fn line(names: &[u8], numbers: &[usize]) {
 // A refusal as its three numbers, and the line's end.
 pub(crate) fn refused(r: Refusal) {
     text(b" refused");
-    number(refusal::number(r) as usize);
-    line(b"place record", &[refusal::place(r), refusal::index(r)]);
+    number(refusal::number_of(r) as usize);
+    line(
+        b"place record",
+        &[refusal::place_of(r), refusal::record_of(r)],
+    );
 }
 
 // What a check answers, and the line's end.

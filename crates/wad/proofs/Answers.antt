@@ -21,37 +21,37 @@ use Rattle.wad.specs.declared.lumps.Entry.the-variants.{At, Refused as N
 use Rattle.wad.specs.declared.map.Marker.{Marker}
 use Rattle.wad.specs.declared.map.Marker.the-variants.{Refused as NoMarker}
 use Rattle.name.specs.Names.{mapNameOk, episodeName, numberedName}
-use Rattle.wad.specs.Header.{headOf, countOf, headerCheck}
+use Rattle.wad.specs.Header.{headOf, entryCount, fileHeaderCheck}
 use Rattle.wad.specs.Entries.{directoryOf, offsetAt, sizeAt, insideOk, entryCheck, fileCheck}
-use Rattle.wad.specs.Lump.{sizeOf, offsetOf, placed, entryAnswer, partOf, HandedWhole}
+use Rattle.wad.specs.Lump.{entrySize, entryOffset, placed, entryAnswer, partOf, HandedWhole}
 use Rattle.wad.specs.Map.{findMarker, found, markerAnswer}
 use Rattle.wad.proofs.Slices.{length-part, partIf-inside}
 use Rattle.wad.proofs.Listing.{between-natural}
 
 module _ (wad : List ℕ) (i : ℕ) where
   abbrev pub answered : Check → Entry
-  answered k = placed k (offsetOf (directoryOf wad) i) (sizeOf (directoryOf wad) i)
+  answered k = placed k (entryOffset (directoryOf wad) i) (entrySize (directoryOf wad) i)
 
   abbrev pub numbered : Check
-  numbered = unless (ltb i (countOf (headOf wad))) EntryNumber
+  numbered = unless (ltb i (entryCount (headOf wad))) EntryNumber
 
   pub entry-refused : {r : Refusal} → fileCheck wad ≡ Refused r → NotThere r ≡ entryAnswer wad i
   entry-refused e = sym (ap (λ (k : Check). answered (k andThen numbered)) e)
 
-  pub entry-past : fileCheck wad ≡ Pass → countOf (headOf wad) ≤ i → NotThere EntryNumber ≡ entryAnswer wad i
+  pub entry-past : fileCheck wad ≡ Pass → entryCount (headOf wad) ≤ i → NotThere EntryNumber ≡ entryAnswer wad i
   entry-past e h =
       sym (ap (λ (k : Check). answered (k andThen numbered)) e
-      ∙ ap (λ (b : Bool). answered (unless b EntryNumber)) (le-ltb i (countOf (headOf wad)) h))
+      ∙ ap (λ (b : Bool). answered (unless b EntryNumber)) (le-ltb i (entryCount (headOf wad)) h))
 
-  pub entry-at : fileCheck wad ≡ Pass → i < countOf (headOf wad)
-      → At (offsetOf (directoryOf wad) i) (sizeOf (directoryOf wad) i) ≡ entryAnswer wad i
+  pub entry-at : fileCheck wad ≡ Pass → i < entryCount (headOf wad)
+      → At (entryOffset (directoryOf wad) i) (entrySize (directoryOf wad) i) ≡ entryAnswer wad i
   entry-at e h =
       sym (ap (λ (k : Check). answered (k andThen numbered)) e
-      ∙ ap (λ (b : Bool). answered (unless b EntryNumber)) (lt-ltb i (countOf (headOf wad)) h))
+      ∙ ap (λ (b : Bool). answered (unless b EntryNumber)) (lt-ltb i (entryCount (headOf wad)) h))
 
 module _ (wad name : List ℕ) where
   abbrev pub sought : Check → Marker
-  sought k = found k (findMarker (directoryOf wad) name (countOf (headOf wad)))
+  sought k = found k (findMarker (directoryOf wad) name (entryCount (headOf wad)))
 
   abbrev pub named : Check
   named = unless (mapNameOk name) MapName
@@ -86,12 +86,12 @@ inside-by len offset size false e h =
     no-further (eqb (natural size) 0) (natural offset) (natural size) len (leb-true (natural offset + natural size) len (sums .1))
 
 -- its part lies inside the file
-pub entry-inside : (wad : List ℕ) (i : ℕ) → fileCheck wad ≡ Pass → i < countOf (headOf wad)
-    → offsetOf (directoryOf wad) i + sizeOf (directoryOf wad) i ≤ length wad
+pub entry-inside : (wad : List ℕ) (i : ℕ) → fileCheck wad ≡ Pass → i < entryCount (headOf wad)
+    → entryOffset (directoryOf wad) i + entrySize (directoryOf wad) i ≤ length wad
 entry-inside wad i e h =
     let dir = directoryOf wad in
-    let entries = andThen-pass (headerCheck (length wad) (headOf wad)) (each (entryCheck (length wad) dir) (countOf (headOf wad))) e .1 in
-    let this = each-pass (entryCheck (length wad) dir) (countOf (headOf wad)) entries i h in
+    let entries = andThen-pass (fileHeaderCheck (length wad) (headOf wad)) (each (entryCheck (length wad) dir) (entryCount (headOf wad))) e .1 in
+    let this = each-pass (entryCheck (length wad) dir) (entryCount (headOf wad)) entries i h in
     let bounds = insideOk (length wad) (offsetAt dir i) (sizeAt dir i) in
     let first = andThen-pass (unless bounds (EntryBounds i)) _ this .0 in
     inside-by (length wad) (offsetAt dir i) (sizeAt dir i) (between (sizeAt dir i) 0 0) refl (unless-pass bounds (EntryBounds i) first)
@@ -103,9 +103,9 @@ placed-at (Refused r) o s e = let z : _≡_ {A = ℕ} 0 1 = cc in absurd (omega 
 pub handed-whole : HandedWhole
 handed-whole wad i offset size e =
     let dir = directoryOf wad in
-    let p = placed-at (fileCheck wad andThen numbered wad i) (offsetOf dir i) (sizeOf dir i) e in
+    let p = placed-at (fileCheck wad andThen numbered wad i) (entryOffset dir i) (entrySize dir i) e in
     let checks = andThen-pass (fileCheck wad) (numbered wad i) (p .0) in
-    let below = ltb-true i (countOf (headOf wad)) (unless-pass (ltb i (countOf (headOf wad))) EntryNumber (checks .1)) in
+    let below = ltb-true i (entryCount (headOf wad)) (unless-pass (ltb i (entryCount (headOf wad))) EntryNumber (checks .1)) in
     let inside : offset + size ≤ length wad = rw (← p .1 .0, ← p .1 .1) (entry-inside wad i (checks .0) below) in
     let whole = ap (partOf wad) e ∙ partIf-inside wad offset size inside in
     record { whole = whole; sized = ap length whole ∙ length-part wad offset size inside }

@@ -17,7 +17,7 @@ use Rattle.refusal.specs.declared.Check.the-variants.{Pass, Refused}
 use Rattle.refusal.specs.Checks.{unless, each}
 use Rattle.refusal.proofs.Checks.{both, andThen-pass, unless-pass}
 use Rattle.wad.specs.declared.entries.Directory.the-variants.{Listed, Refused as NotListed}
-use Rattle.wad.specs.Header.{lengthOk, markOk, countOk, boundsOk, countOf, startOf, headOf, fieldsCheck, headerCheck}
+use Rattle.wad.specs.Header.{lengthOk, markOk, entryCountOk, boundsOk, entryCount, startOf, headOf, fieldsCheck, fileHeaderCheck}
 use Rattle.wad.specs.Entries.{directoryOf, entryCheck, fileCheck, listed}
 
 -- ---- tests that hold
@@ -33,16 +33,16 @@ between-natural (negsuc n) least most e = let z : _≡_ {A = ℕ} 0 1 = cc in ab
 pub record Sound (len : ℕ) (head : List ℕ) : Type 0 where
   pub low : 12 ≤ len
   pub high : len ≤ 16777216
-  pub few : countOf head ≤ 4096
-  pub inside : startOf head + 16 * countOf head ≤ len
+  pub few : entryCount head ≤ 4096
+  pub inside : startOf head + 16 * entryCount head ≤ len
 
-pub sound : (len : ℕ) (head : List ℕ) → headerCheck len head ≡ Pass → Sound len head
+pub sound : (len : ℕ) (head : List ℕ) → fileHeaderCheck len head ≡ Pass → Sound len head
 sound len head e =
     let p1 = andThen-pass (unless (lengthOk len) FileLength) (fieldsCheck len head) e in
     let lengths = both (leb 12 len) (leb len 16777216) (unless-pass (lengthOk len) FileLength (p1 .0)) in
     let p2 = andThen-pass (unless (markOk head) Mark) _ (p1 .1) in
-    let p3 = andThen-pass (unless (countOk head) LumpCount) (unless (boundsOk len head) DirectoryBounds) (p2 .1) in
-    let count = between-natural (i32At head 4) 0 4096 (unless-pass (countOk head) LumpCount (p3 .0)) in
+    let p3 = andThen-pass (unless (entryCountOk head) LumpCount) (unless (boundsOk len head) DirectoryBounds) (p2 .1) in
+    let count = between-natural (i32At head 4) 0 4096 (unless-pass (entryCountOk head) LumpCount (p3 .0)) in
     let bounds = both (between (i32At head 8) 12 len) _ (unless-pass (boundsOk len head) DirectoryBounds (p3 .1)) in
     record {
       low = leb-true 12 len (lengths .0);
@@ -51,7 +51,7 @@ sound len head e =
       inside = leb-true _ len (bounds .1);
     }
 
-pub file-sound : (wad : List ℕ) → headerCheck (length wad) (headOf wad) ≡ Pass → Sound (length wad) (headOf wad)
+pub file-sound : (wad : List ℕ) → fileHeaderCheck (length wad) (headOf wad) ≡ Pass → Sound (length wad) (headOf wad)
 file-sound wad = sound (length wad) (headOf wad)
 
 -- ---- an answer and the check behind it
@@ -63,6 +63,6 @@ pub not-listed : {c : Check} (n s : ℕ) {r : Refusal} → c ≡ Refused r → N
 not-listed n s e = rw e
 
 -- a file that passes has a header that passes
-pub file-header : (wad : List ℕ) → fileCheck wad ≡ Pass → headerCheck (length wad) (headOf wad) ≡ Pass
+pub file-header : (wad : List ℕ) → fileCheck wad ≡ Pass → fileHeaderCheck (length wad) (headOf wad) ≡ Pass
 file-header wad e =
-    andThen-pass (headerCheck (length wad) (headOf wad)) (each (entryCheck (length wad) (directoryOf wad)) (countOf (headOf wad))) e .0
+    andThen-pass (fileHeaderCheck (length wad) (headOf wad)) (each (entryCheck (length wad) (directoryOf wad)) (entryCount (headOf wad))) e .0

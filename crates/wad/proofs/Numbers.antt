@@ -13,8 +13,8 @@ use Rattle.refusal.specs.Table.{numberOf}
 use Rattle.refusal.proofs.Numbers.{AtMost, unless-atMost, andThen-atMost, each-atMost}
 use Rattle.wad.specs.declared.map.Marker.{Marker}
 use Rattle.wad.specs.declared.map.Marker.the-variants.{Entry, Refused as NoMarker}
-use Rattle.wad.specs.Header.{lengthOk, markOk, countOk, boundsOk, headOf, countOf}
-use Rattle.wad.specs.Entries.{offsetAt, sizeAt, nameAt, insideOk, entryCheck, directoryOf, directoryCheck}
+use Rattle.wad.specs.Header.{lengthOk, markOk, entryCountOk, boundsOk, headOf, entryCount}
+use Rattle.wad.specs.Entries.{offsetAt, sizeAt, entryName, insideOk, entryCheck, directoryOf, directoryCheck}
 use Rattle.name.specs.Names.{nameOk, sameName, mapNameOk}
 use Rattle.wad.specs.Map.{findMarker, found, markerAnswer}
 
@@ -36,7 +36,7 @@ cond-atMost false i m h r e = h r e
 find-atMost : (dir name : List ℕ) (n : ℕ) → MarkerAtMost (findMarker dir name n)
 unfolding findMarker
 find-atMost dir name zero = none-atMost MapMissing (omega arith)
-find-atMost dir name (suc n) = cond-atMost (sameName (nameAt dir n) name) n (findMarker dir name n) (find-atMost dir name n)
+find-atMost dir name (suc n) = cond-atMost (sameName (entryName dir n) name) n (findMarker dir name n) (find-atMost dir name n)
 
 found-atMost : (c : Check) (m : Marker) → AtMost 11 c → MarkerAtMost m → MarkerAtMost (found c m)
 found-atMost Pass m h k = k
@@ -47,15 +47,15 @@ directory-atMost len head dir =
     andThen-atMost _ _
     (andThen-atMost _ _ (unless-atMost (lengthOk len) FileLength (omega arith))
     (andThen-atMost _ _ (unless-atMost (markOk head) Mark (omega arith))
-    (andThen-atMost _ _ (unless-atMost (countOk head) LumpCount (omega arith))
+    (andThen-atMost _ _ (unless-atMost (entryCountOk head) LumpCount (omega arith))
     (unless-atMost (boundsOk len head) DirectoryBounds (omega arith)))))
     (each-atMost (entryCheck len dir) (λ i.
     andThen-atMost _ _ (unless-atMost (insideOk len (offsetAt dir i) (sizeAt dir i)) (EntryBounds i) (omega arith))
-    (unless-atMost (nameOk (nameAt dir i)) (EntryName i) (omega arith))) (countOf head))
+    (unless-atMost (nameOk (entryName dir i)) (EntryName i) (omega arith))) (entryCount head))
 
 -- 1 to 6, 10 and 11
 pub marker-atMost : (wad name : List ℕ) (r : Refusal) → markerAnswer wad name ≡ NoMarker r → numberOf r ≤ 11
 marker-atMost wad name =
     found-atMost _ _
     (andThen-atMost _ _ (directory-atMost (length wad) (headOf wad) (directoryOf wad)) (unless-atMost (mapNameOk name) MapName (omega arith)))
-    (find-atMost (directoryOf wad) name (countOf (headOf wad)))
+    (find-atMost (directoryOf wad) name (entryCount (headOf wad)))

@@ -5,7 +5,7 @@ use mathlib.Core.List.{List}
 use mathlib.Core.Path.{_≡_, refl, sym, ap, _∙_}
 use Rattle.refusal.specs.declared.Refusal.the-variants.{MapMissing}
 use Rattle.wad.specs.declared.map.Marker.the-variants.{Entry, Refused as NoMarker}
-use Rattle.wad.specs.Entries.{nameAt}
+use Rattle.wad.specs.Entries.{entryName}
 use Rattle.name.specs.Names.{sameName}
 use Rattle.wad.specs.Map.{findMarker}
 
@@ -14,18 +14,18 @@ module _ (dir name : List ℕ) where
   unfolding findMarker
   findMarker-none = refl
 
-  step : (n : ℕ) → findMarker dir name (suc n) ≡ cond (sameName (nameAt dir n) name) (Entry n) (findMarker dir name n)
+  step : (n : ℕ) → findMarker dir name (suc n) ≡ cond (sameName (entryName dir n) name) (Entry n) (findMarker dir name n)
   unfolding findMarker
   step n = refl
 
   -- entry `n` has the name
-  pub findMarker-found : (n k : ℕ) {b : Bool} → k ≡ suc n → b ≡ sameName (nameAt dir n) name → b ≡ true → findMarker dir name k ≡ Entry n
+  pub findMarker-found : (n k : ℕ) {b : Bool} → k ≡ suc n → b ≡ sameName (entryName dir n) name → b ≡ true → findMarker dir name k ≡ Entry n
   findMarker-found n k e q t =
       ap (findMarker dir name) e ∙ step n
       ∙ ap (λ (x : Bool). cond x (Entry n) (findMarker dir name n)) (sym q ∙ t)
 
   -- it has not: the search goes on before it
-  pub findMarker-on : (n k : ℕ) {b : Bool} → k ≡ suc n → b ≡ sameName (nameAt dir n) name → b ≡ false
+  pub findMarker-on : (n k : ℕ) {b : Bool} → k ≡ suc n → b ≡ sameName (entryName dir n) name → b ≡ false
       → findMarker dir name k ≡ findMarker dir name n
   findMarker-on n k e q t =
       ap (findMarker dir name) e ∙ step n

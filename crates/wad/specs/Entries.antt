@@ -14,12 +14,12 @@ use Rattle.refusal.specs.Checks.{unless, _andThen_, each}
 use Rattle.wad.specs.declared.entries.Directory.{Directory}
 use Rattle.wad.specs.declared.entries.Directory.the-variants.{Listed, Refused as NotListed}
 use Rattle.wad.specs.Slices.{part}
-use Rattle.wad.specs.Header.{headOf, countOf, startOf, headerCheck}
+use Rattle.wad.specs.Header.{headOf, entryCount, startOf, fileHeaderCheck}
 use Rattle.name.specs.Names.{nameOk}
 
 -- the directory's bytes
 abbrev pub directoryOf : List ℕ → List ℕ
-directoryOf wad = part wad (startOf (headOf wad)) (16 * countOf (headOf wad))
+directoryOf wad = part wad (startOf (headOf wad)) (16 * entryCount (headOf wad))
 
 -- entry `i`'s offset and size, signed
 abbrev pub offsetAt : List ℕ → ℕ → ℤ
@@ -29,8 +29,8 @@ abbrev pub sizeAt : List ℕ → ℕ → ℤ
 sizeAt dir i = i32At dir (16 * i + 4)
 
 -- entry `i`'s name
-abbrev pub nameAt : List ℕ → ℕ → List ℕ
-nameAt dir i = part dir (16 * i + 8) 8
+abbrev pub entryName : List ℕ → ℕ → List ℕ
+entryName dir i = part dir (16 * i + 8) 8
 
 -- size 0, whatever the offset; or a part from 12 on that ends inside the file
 abbrev pub insideOk : ℕ → ℤ → ℤ → Bool
@@ -42,11 +42,11 @@ insideOk len offset size =
 abbrev pub entryCheck : ℕ → List ℕ → ℕ → Check
 entryCheck len dir i =
     unless (insideOk len (offsetAt dir i) (sizeAt dir i)) (EntryBounds i)
-    andThen unless (nameOk (nameAt dir i)) (EntryName i)
+    andThen unless (nameOk (entryName dir i)) (EntryName i)
 
 -- 1 to 6: the header, then the entries in turn
 abbrev pub directoryCheck : ℕ → List ℕ → List ℕ → Check
-directoryCheck len head dir = headerCheck len head andThen each (entryCheck len dir) (countOf head)
+directoryCheck len head dir = fileHeaderCheck len head andThen each (entryCheck len dir) (entryCount head)
 
 -- the check of a file by its own length, header and directory
 abbrev pub fileCheck : List ℕ → Check
@@ -59,4 +59,4 @@ listed (Refused r) count start = NotListed r
 
 -- what is answered of a file's directory
 abbrev pub directoryAnswer : List ℕ → Directory
-directoryAnswer wad = listed (fileCheck wad) (countOf (headOf wad)) (startOf (headOf wad))
+directoryAnswer wad = listed (fileCheck wad) (entryCount (headOf wad)) (startOf (headOf wad))

@@ -26,12 +26,12 @@ markOk head =
     && eqb (getD head 3 0) 68
 
 -- the count of lumps, 0 where it is negative
-abbrev pub countOf : List ℕ → ℕ
-countOf head = natural (i32At head 4)
+abbrev pub entryCount : List ℕ → ℕ
+entryCount head = natural (i32At head 4)
 
 -- 0 to 4,096 lumps
-abbrev pub countOk : List ℕ → Bool
-countOk head = between (i32At head 4) 0 4096
+abbrev pub entryCountOk : List ℕ → Bool
+entryCountOk head = between (i32At head 4) 0 4096
 
 -- the start of the directory, 0 where it is negative
 abbrev pub startOf : List ℕ → ℕ
@@ -39,15 +39,15 @@ startOf head = natural (i32At head 8)
 
 -- the directory starts at 12 or later and ends inside the file
 abbrev pub boundsOk : ℕ → List ℕ → Bool
-boundsOk len head = between (i32At head 8) 12 len && leb (startOf head + 16 * countOf head) len
+boundsOk len head = between (i32At head 8) 12 len && leb (startOf head + 16 * entryCount head) len
 
 -- 2 to 4, which look into the header
 abbrev pub fieldsCheck : ℕ → List ℕ → Check
 fieldsCheck len head =
     unless (markOk head) Mark
-    andThen unless (countOk head) LumpCount
+    andThen unless (entryCountOk head) LumpCount
     andThen unless (boundsOk len head) DirectoryBounds
 
 -- 1 to 4
-abbrev pub headerCheck : ℕ → List ℕ → Check
-headerCheck len head = unless (lengthOk len) FileLength andThen fieldsCheck len head
+abbrev pub fileHeaderCheck : ℕ → List ℕ → Check
+fileHeaderCheck len head = unless (lengthOk len) FileLength andThen fieldsCheck len head

@@ -13,20 +13,20 @@ use Rattle.refusal.specs.Checks.{unless, _andThen_}
 use Rattle.wad.specs.declared.lumps.Entry.{Entry}
 use Rattle.wad.specs.declared.lumps.Entry.the-variants.{At, Refused as NotThere}
 use Rattle.wad.specs.Slices.{part, partIf}
-use Rattle.wad.specs.Header.{headOf, countOf}
+use Rattle.wad.specs.Header.{headOf, entryCount}
 use Rattle.wad.specs.Entries.{directoryOf, offsetAt, sizeAt, fileCheck}
 
 -- entry `i`'s size in bytes
-abbrev pub sizeOf : List ℕ → ℕ → ℕ
-sizeOf dir i = natural (sizeAt dir i)
+abbrev pub entrySize : List ℕ → ℕ → ℕ
+entrySize dir i = natural (sizeAt dir i)
 
 -- where entry `i`'s part starts; 0 where the size is 0, since the offset is not looked at then
-abbrev pub offsetOf : List ℕ → ℕ → ℕ
-offsetOf dir i = cond (eqb (sizeOf dir i) 0) 0 (natural (offsetAt dir i))
+abbrev pub entryOffset : List ℕ → ℕ → ℕ
+entryOffset dir i = cond (eqb (entrySize dir i) 0) 0 (natural (offsetAt dir i))
 
 -- entry `i`'s part of the file
 abbrev pub lumpAt : List ℕ → List ℕ → ℕ → List ℕ
-lumpAt wad dir i = partIf wad (offsetOf dir i) (sizeOf dir i)
+lumpAt wad dir i = partIf wad (entryOffset dir i) (entrySize dir i)
 
 -- the refusal, or where the part lies and how long it is
 abbrev pub placed : Check → ℕ → ℕ → Entry
@@ -36,9 +36,9 @@ placed (Refused r) offset size = NotThere r
 -- what is answered of entry `i`: 1 to 6, then 7
 abbrev pub entryAnswer : List ℕ → ℕ → Entry
 entryAnswer wad i =
-    placed (fileCheck wad andThen unless (ltb i (countOf (headOf wad))) EntryNumber)
-    (offsetOf (directoryOf wad) i)
-    (sizeOf (directoryOf wad) i)
+    placed (fileCheck wad andThen unless (ltb i (entryCount (headOf wad))) EntryNumber)
+    (entryOffset (directoryOf wad) i)
+    (entrySize (directoryOf wad) i)
 
 -- the part that an answer names; none where it refuses
 abbrev pub partOf : List ℕ → Entry → List ℕ
@@ -46,8 +46,8 @@ partOf wad (At offset size) = partIf wad offset size
 partOf wad (NotThere r) = []
 
 -- entry `i`'s part of the file, none where it is refused
-abbrev pub lumpOf : List ℕ → ℕ → List ℕ
-lumpOf wad i = partOf wad (entryAnswer wad i)
+abbrev pub entryLump : List ℕ → ℕ → List ℕ
+entryLump wad i = partOf wad (entryAnswer wad i)
 
 -- the part from `offset` on, of exactly `size` bytes
 pub record Whole (wad part′ : List ℕ) (offset size : ℕ) : Type 0 where
@@ -57,4 +57,4 @@ pub record Whole (wad part′ : List ℕ) (offset size : ℕ) : Type 0 where
 -- an entry that is not refused is handed back whole
 abbrev pub HandedWhole : Type 0
 HandedWhole =
-    (wad : List ℕ) (i offset size : ℕ) → entryAnswer wad i ≡ At offset size → Whole wad (lumpOf wad i) offset size
+    (wad : List ℕ) (i offset size : ℕ) → entryAnswer wad i ≡ At offset size → Whole wad (entryLump wad i) offset size

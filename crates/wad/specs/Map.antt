@@ -9,14 +9,14 @@ use Rattle.refusal.specs.declared.Refusal.the-variants.{MapName, MapMissing}
 use Rattle.refusal.specs.Checks.{unless, _andThen_}
 use Rattle.wad.specs.declared.map.Marker.{Marker}
 use Rattle.wad.specs.declared.map.Marker.the-variants.{Entry, Refused as NoMarker}
-use Rattle.wad.specs.Header.{headOf, countOf}
-use Rattle.wad.specs.Entries.{nameAt, directoryOf, directoryCheck}
+use Rattle.wad.specs.Header.{headOf, entryCount}
+use Rattle.wad.specs.Entries.{entryName, directoryOf, directoryCheck}
 use Rattle.name.specs.Names.{sameName, mapNameOk}
 
 -- the last of the first `n` entries that has the name
 unfoldable pub findMarker : List ℕ → List ℕ → ℕ → Marker
 findMarker dir name zero = NoMarker MapMissing
-findMarker dir name (suc n) = cond (sameName (nameAt dir n) name) (Entry n) (findMarker dir name n)
+findMarker dir name (suc n) = cond (sameName (entryName dir n) name) (Entry n) (findMarker dir name n)
 
 -- the refusal, or what the search finds
 abbrev pub found : Check → Marker → Marker
@@ -26,7 +26,7 @@ found (Refused r) marker = NoMarker r
 -- what is answered of a map's marker, by the file's length, header and directory and the asked name
 abbrev pub markerBy : ℕ → List ℕ → List ℕ → List ℕ → Marker
 markerBy len head dir name =
-    found (directoryCheck len head dir andThen unless (mapNameOk name) MapName) (findMarker dir name (countOf head))
+    found (directoryCheck len head dir andThen unless (mapNameOk name) MapName) (findMarker dir name (entryCount head))
 
 abbrev pub markerAnswer : List ℕ → List ℕ → Marker
 markerAnswer wad name = markerBy (length wad) (headOf wad) (directoryOf wad) name

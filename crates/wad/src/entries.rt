@@ -4,7 +4,7 @@ ghost use Prim.Native.Nat.{_+_, _*_, _<_, _≤_};
 ghost use lib.ListN.{length};
 ghost use Rattle.refusal.specs.Checks.{each};
 ghost use Rattle.refusal.specs.declared.Check.the-variants.{Pass};
-ghost use Rattle.wad.specs.Header.{headOf, countOf, headerCheck};
+ghost use Rattle.wad.specs.Header.{headOf, entryCount, fileHeaderCheck};
 ghost use Rattle.wad.specs.Entries.{offsetAt, sizeAt, insideOk, entryCheck, directoryOf, fileCheck, directoryAnswer};
 use crate::header::count_of;
 use crate::header::head_of;
@@ -60,9 +60,9 @@ pub fn judge_entries(len: usize, dir: &[u8], count: usize) -> Check
 
 // The directory's bytes, of a file whose header passes.
 pub fn directory_of(wad: &[u8]) -> &[u8]
-    requires { ⌜ headerCheck (length (now wad)) (headOf (now wad)) ≡ Pass ⌝ }
+    requires { ⌜ fileHeaderCheck (length (now wad)) (headOf (now wad)) ≡ Pass ⌝ }
     ensures { λ r. ⌜ now r ≡ directoryOf (now (wad .entry)) ⌝ }
-    ensures { λ r. ⌜ length (now r) ≡ 16 * countOf (headOf (now (wad .entry))) ⌝ }
+    ensures { λ r. ⌜ length (now r) ≡ 16 * entryCount (headOf (now (wad .entry))) ⌝ }
 {
     let head = head_of(wad);
     part(wad, start_of(head), 16 * count_of(head))
@@ -70,8 +70,8 @@ pub fn directory_of(wad: &[u8]) -> &[u8]
 
 // How many entries the directory has, of a file whose header passes.
 pub fn entry_count(wad: &[u8]) -> usize
-    requires { ⌜ headerCheck (length (now wad)) (headOf (now wad)) ≡ Pass ⌝ }
-    ensures { λ r. ⌜ r ≡ countOf (headOf (now (wad .entry))) ⌝ }
+    requires { ⌜ fileHeaderCheck (length (now wad)) (headOf (now wad)) ≡ Pass ⌝ }
+    ensures { λ r. ⌜ r ≡ entryCount (headOf (now (wad .entry))) ⌝ }
 {
     count_of(head_of(wad))
 }

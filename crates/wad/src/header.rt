@@ -2,7 +2,7 @@
 ghost use mathlib.Core.Path.{_≡_};
 ghost use Prim.Native.Nat.{_<_, _≤_};
 ghost use lib.ListN.{length};
-ghost use Rattle.wad.specs.Header.{headOf, markOk, countOf, countOk, startOf, boundsOk, fieldsCheck, headerCheck};
+ghost use Rattle.wad.specs.Header.{headOf, markOk, entryCount, entryCountOk, startOf, boundsOk, fieldsCheck, fileHeaderCheck};
 use crate::parts::part;
 use refusal::Check;
 use refusal::Refusal;
@@ -23,7 +23,7 @@ fn mark_ok(head: &[u8]) -> bool
 
 pub fn count_of(head: &[u8]) -> usize
     requires { ⌜ length (now head) ≡ 12 ⌝ }
-    ensures { λ r. ⌜ (r ≡ countOf (now (head .entry))) × (r < 2147483648) ⌝ }
+    ensures { λ r. ⌜ (r ≡ entryCount (now (head .entry))) × (r < 2147483648) ⌝ }
 {
     endian::natural_at(head, 4)
 }
@@ -57,7 +57,7 @@ fn judge_fields(len: usize, head: &[u8]) -> Check
 
 // 1 to 4. The length is judged before a byte is read.
 pub fn judge_header(wad: &[u8]) -> Check
-    ensures { λ r. ⌜ r ≡ headerCheck (length (now (wad .entry))) (headOf (now (wad .entry))) ⌝ }
+    ensures { λ r. ⌜ r ≡ fileHeaderCheck (length (now (wad .entry))) (headOf (now (wad .entry))) ⌝ }
 {
     if wad.len() < 12 {
         return Check::Refused(Refusal::FileLength);

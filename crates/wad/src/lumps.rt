@@ -2,7 +2,7 @@
 ghost use mathlib.Core.Path.{_≡_};
 ghost use Prim.Native.Nat.{_+_, _*_, _<_, _≤_};
 ghost use lib.ListN.{length};
-ghost use Rattle.wad.specs.Lump.{sizeOf, offsetOf, lumpAt, entryAnswer, lumpOf};
+ghost use Rattle.wad.specs.Lump.{entrySize, entryOffset, lumpAt, entryAnswer, entryLump};
 use crate::entries::directory_of;
 use crate::entries::entry_count;
 use crate::entries::judge_file;
@@ -17,18 +17,18 @@ pub enum Entry {
     Refused(Refusal),
 }
 
-pub fn size_of(dir: &[u8], i: usize) -> usize
+pub fn entry_size(dir: &[u8], i: usize) -> usize
     requires { ⌜ 16 * i + 16 ≤ length (now dir) ⌝ }
-    ensures { λ r. ⌜ (r ≡ sizeOf (now (dir .entry)) i) × (r < 2147483648) ⌝ }
+    ensures { λ r. ⌜ (r ≡ entrySize (now (dir .entry)) i) × (r < 2147483648) ⌝ }
 {
     endian::natural_at(dir, 16 * i + 4)
 }
 
-pub fn offset_of(dir: &[u8], i: usize) -> usize
+pub fn entry_offset(dir: &[u8], i: usize) -> usize
     requires { ⌜ 16 * i + 16 ≤ length (now dir) ⌝ }
-    ensures { λ r. ⌜ (r ≡ offsetOf (now (dir .entry)) i) × (r < 2147483648) ⌝ }
+    ensures { λ r. ⌜ (r ≡ entryOffset (now (dir .entry)) i) × (r < 2147483648) ⌝ }
 {
-    if size_of(dir, i) == 0 {
+    if entry_size(dir, i) == 0 {
         return 0;
     }
     endian::natural_at(dir, 16 * i)
@@ -39,7 +39,7 @@ pub fn lump_at<'a>(wad: &'a [u8], dir: &[u8], i: usize) -> &'a [u8]
     requires { ⌜ 16 * i + 16 ≤ length (now dir) ⌝ }
     ensures { λ r. ⌜ now r ≡ lumpAt (now (wad .entry)) (now (dir .entry)) i ⌝ }
 {
-    part_if(wad, offset_of(dir, i), size_of(dir, i))
+    part_if(wad, entry_offset(dir, i), entry_size(dir, i))
 }
 
 // Where an entry's part of the file lies, 1 to 7.
@@ -54,14 +54,14 @@ pub fn find_entry(wad: &[u8], number: usize) -> Entry
     }
     let dir = directory_of(wad);
     Entry::At {
-        offset: offset_of(dir, number),
-        size: size_of(dir, number),
+        offset: entry_offset(dir, number),
+        size: entry_size(dir, number),
     }
 }
 
 // An entry's part of the file itself; an empty part where the entry is refused, or has size 0.
 pub fn lump(wad: &[u8], number: usize) -> &[u8]
-    ensures { λ r. ⌜ now r ≡ lumpOf (now (wad .entry)) number ⌝ }
+    ensures { λ r. ⌜ now r ≡ entryLump (now (wad .entry)) number ⌝ }
 {
     match find_entry(wad, number) {
         Entry::At { offset, size } => part_if(wad, offset, size),

@@ -5,7 +5,8 @@ use mathlib.Core.Path.{_≡_, sym, ap, _∙_}
 use native.Mathlib.Omega.{arith}
 use borrow.Author.Needs.{needs}
 use denote.Ref.{now}
-use Rattle.blockmap.specs.Blockmap.{wordsOf, endsWell}
+use Rattle.blockmap.specs.Blockmap.{wordsOf}
+use Rattle.blockmap.specs.Inner.{endsWell}
 use Rattle.blockmap.proofs.Lists.{endsWell-none, endsWell-more}
 use Rattle.blockmap.proofs.ends_from.Statement.{statement}
 use Rattle.blockmap.proofs.ends_from.Tie as tie

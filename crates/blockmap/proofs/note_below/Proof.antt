@@ -5,8 +5,8 @@ use native.Mathlib.Omega.{arith}
 use borrow.Author.Needs.{needs}
 use denote.Ref.{now}
 use lib.ListN.{length, length-set}
-use Rattle.blockmap.specs.Blockmap.{wordsOf, endsWell}
-use Rattle.blockmap.specs.Noted.{NotedFrom}
+use Rattle.blockmap.specs.Blockmap.{wordsOf}
+use Rattle.blockmap.specs.Inner.{endsWell, NotedFrom}
 use Rattle.blockmap.proofs.Lists.{endsWell-more, noted-more}
 use Rattle.blockmap.proofs.note_below.Statement.{statement}
 use Rattle.blockmap.proofs.note_below.Tie as tie

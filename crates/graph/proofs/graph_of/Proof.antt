@@ -9,7 +9,7 @@ use denote.Ref.{now}
 use lib.ListN.{length}
 use Rattle.graph.specs.declared.Step.{Step}
 use Rattle.graph.specs.declared.Step.the-variants.{Path}
-use Rattle.graph.specs.Searching.{Searchable, State, effort, Stepped}
+use Rattle.graph.specs.Inner.Searching.{Searchable, State, effort, Stepped}
 use Rattle.graph.proofs.Words.{state-start, state-done, searchable-long}
 use Rattle.graph.proofs.graph_of.Statement.{statement}
 use Rattle.graph.proofs.graph_of.Tie as tie

@@ -3,7 +3,7 @@ use mathlib.Core.Path.{sym, ap, _∙_}
 use borrow.Author.Needs.{needs}
 use Rattle.graph.specs.declared.Look.{Look}
 use Rattle.graph.specs.declared.Look.the-variants.{Height}
-use Rattle.graph.specs.Looks.{joined}
+use Rattle.graph.specs.Inner.Looks.{joined}
 use Rattle.graph.proofs.join.Statement.{statement}
 use Rattle.graph.proofs.join.Tie as tie
 

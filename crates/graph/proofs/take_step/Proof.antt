@@ -6,7 +6,7 @@ use native.Mathlib.Omega.{arith}
 use denote.Ref.{now}
 use Rattle.graph.specs.declared.Look.the-variants.{New, Height}
 use Rattle.graph.specs.declared.Look.{Look}
-use Rattle.graph.specs.Looks.{pathOf}
+use Rattle.graph.specs.Inner.Looks.{pathOf}
 use Rattle.graph.proofs.Looks.{SaidBelow}
 use Rattle.graph.proofs.Words.{top-below, top-inside, top-said, top-looped, push-fits, state-push, state-finish}
 use borrow.Author.Needs.{needs}

@@ -7,14 +7,16 @@ use denote.Ref.{now}
 use lib.ListN.{length}
 use Rattle.refusal.specs.declared.Check.the-variants.{Pass}
 use Rattle.refusal.proofs.Checks.{andThen-pass}
-use Rattle.wad.specs.Header.{headOf, countOf}
+use Rattle.wad.specs.Header.{headOf, entryCount}
 use Rattle.wad.specs.Entries.{directoryOf}
 use Rattle.wad.proofs.Listing.{file-header}
+use Rattle.table.specs.Lumps.{NODES}
 use Rattle.bsp.specs.Nodes.{nodesOf}
 use Rattle.graph.specs.Judging.{Judgeable}
-use Rattle.level.specs.Lumps.{mapLumps, lumpOf}
+use Rattle.level.specs.Lumps.{mapLumps, mapLump}
 use Rattle.level.specs.Run.{runCheck}
-use Rattle.level.specs.Verdict.{lumpsCheck, mapCheck, checkAt, nodesAt, AnsweredBy}
+use Rattle.level.specs.Verdict.{lumpsCheck, mapCheck, checkAt, nodesAt}
+use Rattle.level.specs.Inner.{AnsweredBy}
 use Rattle.level.proofs.Passing.{run-long, judgeable}
 use Rattle.level.proofs.Answers.{answered-refused, answered-graph}
 use borrow.Author.Needs.{needs}
@@ -42,21 +44,21 @@ passes c = sym (below (c .before .before)) ∙ c .enum-told .given .1
 -- so the ten entries are there
 long : (c : tie.After-enum-told)
     → let e = c .before .before .before .before .before .before .before in
-    e .args .marker + 11 ≤ countOf (headOf (now (e .args .wad)))
+    e .args .marker + 11 ≤ entryCount (headOf (now (e .args .wad)))
 long c =
     let e = c .before .before .before .before .before .before .before in
     let dir = directoryOf (now (e .args .wad)) in
-    let count = countOf (headOf (now (e .args .wad))) in
+    let count = entryCount (headOf (now (e .args .wad))) in
     run-long dir count (e .args .marker) (andThen-pass (runCheck dir count (e .args .marker)) _ (passes c) .0)
 
 -- the NODES lump is that of the map
-nodes : (c : tie.After-row-lump)
+nodes : (c : tie.After-map-lump)
     → let e = c .before .before .before .before .before .before .before .before in
-    now (c .row-lump .result) ≡ nodesAt (now (e .args .wad)) (e .args .marker)
+    now (c .map-lump .result) ≡ nodesAt (now (e .args .wad)) (e .args .marker)
 nodes c =
     let e = c .before .before .before .before .before .before .before .before in
-    c .row-lump .ensures
-    ∙ ap (λ (d : List ℕ). lumpOf (mapLumps (now (e .args .wad)) d (e .args .marker)) 6) (c .before .before .before .before .before .directory-of .ensures .0)
+    c .map-lump .ensures
+    ∙ ap (λ (d : List ℕ). mapLump (mapLumps (now (e .args .wad)) d (e .args .marker)) NODES) (c .before .before .before .before .before .directory-of .ensures .0)
 
 directory-of-requires : tie.Need-directory-of-requires
 directory-of-requires c κs = let e = c .before .before in file-header (now (e .args .wad)) (e .pre .0)
@@ -69,10 +71,10 @@ returns c =
     let e = c .before .before .before .before .before .before .before .before in
     answered-refused (now (e .args .wad)) (e .args .marker) (now (e .args .words)) (sym (below (c .before .before .before)) ∙ c .before .r .given .1)
 
-row-lump-requires : tie.Need-row-lump-requires
-row-lump-requires c κs =
+map-lump-requires : tie.Need-map-lump-requires
+map-lump-requires c κs =
     let h = long c in
-    (omega (arith, c .before .before .before .before .directory-of .ensures .1), omega arith)
+    (omega (arith, c .before .before .before .before .directory-of .ensures .1), omega arith, omega arith)
 
 judge-graph-requires : tie.Need-judge-graph-requires
 judge-graph-requires c κs =
@@ -81,7 +83,7 @@ judge-graph-requires c κs =
     let words = now (e .args .words) in
     let dir = directoryOf (now (e .args .wad)) in
     let lumps = mapLumps (now (e .args .wad)) dir (e .args .marker) in
-    let run = runCheck dir (countOf (headOf (now (e .args .wad)))) (e .args .marker) in
+    let run = runCheck dir (entryCount (headOf (now (e .args .wad)))) (e .args .marker) in
     let below31 = andThen-pass run (lumpsCheck lumps (length words)) (passes (r .before)) .1 in
     subst⁻¹ (λ (l : List ℕ). Judgeable l (nodesOf l) words) (nodes r) (judgeable lumps (length words) below31 words refl)
 
@@ -100,4 +102,4 @@ pub judge-at-spec : {M : Type 1} → statement M
 judge-at-spec =
     tie.close
     (tie.spec directory-of-requires entry-count-requires (λ c κs. search needs) (λ c. search needs)
-    returns (λ c. search needs) row-lump-requires judge-graph-requires (λ c. search needs) returns-2)
+    returns (λ c. search needs) map-lump-requires judge-graph-requires (λ c. search needs) returns-2)

@@ -7,8 +7,8 @@ returns : tie.Need-returns
 returns c =
     rw (
       c .judge-blockmap .ensures,
-      c .before .row-count .ensures,
-      c .before .before .row-lump .ensures,
+      c .before .record-count .ensures,
+      c .before .before .map-lump .ensures,
     )
 
 pub check-blockmap-spec : {M : Type 1} → statement M

@@ -7,9 +7,9 @@ returns : tie.Need-returns
 returns c =
     rw (
       c .judge-linedefs .ensures,
-      c .before .row-count2 .ensures,
-      c .before .before .row-count .ensures,
-      c .before .before .before .row-lump .ensures,
+      c .before .record-count2 .ensures,
+      c .before .before .record-count .ensures,
+      c .before .before .before .map-lump .ensures,
     )
 
 pub check-linedefs-spec : {M : Type 1} → statement M

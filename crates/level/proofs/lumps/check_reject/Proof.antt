@@ -1,6 +1,7 @@
 -- `level::lumps::check_reject` meets its contract, from those of the functions that it calls. Assumes nothing.
 use native.Mathlib.Omega.{arith}
 use denote.Ref.{now}
+use Rattle.table.specs.Lumps.{SECTORS}
 use Rattle.level.specs.Lumps.{mapLumps}
 use Rattle.level.proofs.Passing.{count-most}
 use borrow.Author.Needs.{needs}
@@ -11,14 +12,14 @@ judge-reject-requires : tie.Need-judge-reject-requires
 judge-reject-requires c κs =
     let e = c .before .before .before .before in
     let lumps = mapLumps (now (e .args .wad)) (now (e .args .dir)) (e .args .marker) in
-    rw (c .row-count .ensures) (count-most lumps (e .pre .1) 7 (omega arith))
+    rw (c .record-count .ensures) (count-most lumps (e .pre .1) SECTORS (omega arith) (omega arith))
 
 returns : tie.Need-returns
 returns c =
     rw (
       c .judge-reject .ensures,
-      c .before .row-count .ensures,
-      c .before .before .row-lump .ensures,
+      c .before .record-count .ensures,
+      c .before .before .map-lump .ensures,
     )
 
 pub check-reject-spec : {M : Type 1} → statement M

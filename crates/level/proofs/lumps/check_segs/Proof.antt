@@ -7,9 +7,9 @@ returns : tie.Need-returns
 returns c =
     rw (
       c .judge-segs .ensures,
-      c .before .row-count .ensures,
-      c .before .before .row-lump2 .ensures,
-      c .before .before .before .row-lump .ensures,
+      c .before .record-count .ensures,
+      c .before .before .map-lump2 .ensures,
+      c .before .before .before .map-lump .ensures,
     )
 
 pub check-segs-spec : {M : Type 1} → statement M

@@ -5,7 +5,7 @@ use Rattle.level.proofs.lumps.check_work.Statement.{statement}
 use Rattle.level.proofs.lumps.check_work.Tie as tie
 
 returns : tie.Need-returns
-returns c = rw (c .pass-if .ensures, c .before .row-count .ensures, quarter)
+returns c = rw (c .pass-if .ensures, c .before .record-count .ensures, quarter)
 
 pub check-work-spec : {M : Type 1} → statement M
 check-work-spec = tie.close (tie.spec (λ c κs. search needs) (λ c κs. search needs) returns)

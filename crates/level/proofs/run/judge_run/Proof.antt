@@ -9,10 +9,10 @@ returns c =
       c .then2 .ensures,
       c .before .then .ensures,
       c .before .before .pass-if2 .ensures,
-      c .before .before .before .judge-rows .ensures,
+      c .before .before .before .judge-places .ensures,
       c .before .before .before .before .pass-if .ensures,
       c .before .before .before .before .before .named-ok .ensures,
-      c .before .before .before .before .before .before .before .size-of .ensures .0,
+      c .before .before .before .before .before .before .before .entry-size .ensures .0,
     )
 
 pub judge-run-spec : {M : Type 1} → statement M

@@ -1,10 +1,10 @@
--- `level::sizes::alone_ok` meets its contract, from that of `row_count`. Assumes nothing.
+-- `level::sizes::alone_ok` meets its contract, from that of `record_count`. Assumes nothing.
 use borrow.Author.Needs.{needs}
 use Rattle.level.proofs.sizes.alone_ok.Statement.{statement}
 use Rattle.level.proofs.sizes.alone_ok.Tie as tie
 
 returns : tie.Need-returns
-returns c = rw (c .row-count2 .ensures, c .before .row-count .ensures)
+returns c = rw (c .record-count2 .ensures, c .before .record-count .ensures)
 
 pub alone-ok-spec : {M : Type 1} → statement M
 alone-ok-spec = tie.close (tie.spec (λ c κs. search needs) (λ c κs. search needs) returns)

@@ -8,7 +8,7 @@ returns c =
     rw (
       c .then .ensures,
       c .before .pass-if2 .ensures,
-      c .before .before .count-ok .ensures,
+      c .before .before .record-count-ok .ensures,
       c .before .before .before .pass-if .ensures,
       c .before .before .before .before .whole-ok .ensures,
     )
@@ -16,5 +16,5 @@ returns c =
 pub judge-size-spec : {M : Type 1} → statement M
 judge-size-spec =
     tie.close
-    (tie.spec (λ c κs. search needs) (λ c. search needs) (λ c κs. search needs)
-    (λ c κs. search needs) (λ c. search needs) (λ c κs. search needs) (λ c κs. search needs) returns)
+    (tie.spec (λ c κs. search needs) (λ c κs. search needs) (λ c κs. search needs) (λ c κs. search needs)
+    (λ c κs. search needs) returns)

@@ -1,6 +1,6 @@
--- `level::sizes::judge_sizes` meets its contract: the rows before `row` pass. The measure is what is left of the eight.
+-- `level::sizes::judge_sizes` meets its contract: the places up to `i` pass. The measure is what is left of the eight.
 -- Assumes nothing.
-use Prim.Native.Nat.{_-_}
+use Prim.Native.Nat.{_+_, _-_}
 use borrow.Author.Needs.{needs}
 use Rattle.refusal.proofs.Scans.{Scanned, scanned-none, scanned-more, scanned-stop, scanned-done}
 use Rattle.level.specs.Lumps.{mapLumps}
@@ -9,10 +9,10 @@ use Rattle.level.proofs.sizes.judge_sizes.Statement.{statement}
 use Rattle.level.proofs.sizes.judge_sizes.Tie as tie
 
 abbrev Inv-loop : tie.InvT-loop
-Inv-loop wad dir marker row₀ row = Scanned (sizeCheck (mapLumps wad dir marker)) 8 8 row
+Inv-loop wad dir marker i₀ i = Scanned (λ j. sizeCheck (mapLumps wad dir marker) (j + 1)) 8 8 i
 
 abbrev μ-loop : tie.MeasureT-loop
-μ-loop wad dir marker row₀ row = 8 - row
+μ-loop wad dir marker i₀ i = 8 - i
 
 returns : tie.Need-returns Inv-loop μ-loop
 returns c =
@@ -28,6 +28,6 @@ pub judge-sizes-spec : {M : Type 1} → statement M
 judge-sizes-spec =
     tie.close
     (tie.spec Inv-loop μ-loop (λ c. scanned-none)
-    (λ c κs. search needs) (λ c. search needs) returns (λ c. search needs)
+    (λ c. search needs) (λ c κs. search needs) (λ c. search needs) returns (λ c. search needs)
     (λ c. search needs) (λ c. search needs) loop-again
     (λ c. scanned-done (c .before .loop .inv) (search needs)))

@@ -1,14 +1,14 @@
 -- `level::sizes::whole_ok` meets its contract: a lump of records has a size above 0. Assumes nothing.
-use Rattle.level.proofs.Rows.{sizeOf-positive}
+use Rattle.level.proofs.Places.{recordSize-positive}
 use borrow.Author.Needs.{needs}
 use Rattle.level.proofs.sizes.whole_ok.Statement.{statement}
 use Rattle.level.proofs.sizes.whole_ok.Tie as tie
 
 rem-result : tie.Need-rem-result
-rem-result c = rw (c .size-of .ensures) (sizeOf-positive _ (c .before .before .before .before .pre .1))
+rem-result c = rw (c .record-size .ensures) (recordSize-positive _ (c .before .before .before .before .pre .1) (c .before .before .before .before .pre .2))
 
 returns : tie.Need-returns
-returns c = rw (c .size-of .ensures, c .before .row-lump .ensures)
+returns c = rw (c .record-size .ensures, c .before .map-lump .ensures)
 
 pub whole-ok-spec : {M : Type 1} → statement M
 whole-ok-spec =

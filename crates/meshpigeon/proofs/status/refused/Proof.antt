@@ -5,7 +5,7 @@ use Rattle.meshpigeon.proofs.status.refused.Tie as tie
 
 returns : tie.Need-returns
 returns c =
-    λ i. record { number = c .before .before .number .ensures i; place = c .before .place .ensures i; item = c .index .ensures i }
+    λ i. record { number = c .before .before .number-of .ensures i; place = c .before .place-of .ensures i; «record» = c .record-of .ensures i }
 
 pub refused-spec : {M : Type 1} → statement M
 refused-spec =

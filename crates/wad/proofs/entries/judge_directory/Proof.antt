@@ -2,7 +2,7 @@
 use mathlib.Core.Path.{_≡_, sym, ap, _∙_}
 use denote.Ref.{now}
 use Rattle.refusal.specs.declared.Check.the-variants.{Pass}
-use Rattle.wad.specs.Header.{countOf, startOf}
+use Rattle.wad.specs.Header.{entryCount, startOf}
 use Rattle.wad.specs.Entries.{fileCheck}
 use Rattle.wad.proofs.Listing.{file-header, file-sound, is-listed, not-listed}
 use borrow.Author.Needs.{needs}
@@ -23,7 +23,7 @@ head-of-requires c κs =
 returns-2 : tie.Need-returns-2
 returns-2 c =
     let head = c .before .before .head-of .ensures .0 in
-    is-listed (passes (c .before .before .before)) (c .before .count-of .ensures .0 ∙ ap countOf head) (c .start-of .ensures .0 ∙ ap startOf head)
+    is-listed (passes (c .before .before .before)) (c .before .count-of .ensures .0 ∙ ap entryCount head) (c .start-of .ensures .0 ∙ ap startOf head)
 
 pub judge-directory-spec : {M : Type 1} → statement M
 judge-directory-spec =

@@ -8,7 +8,7 @@ use lib.ListN.{length}
 use Rattle.refusal.specs.declared.Check.the-variants.{Pass}
 use Rattle.refusal.specs.Checks.{each}
 use Rattle.refusal.proofs.Checks.{refused-then, pass-then}
-use Rattle.wad.specs.Header.{headOf, headerCheck}
+use Rattle.wad.specs.Header.{headOf, fileHeaderCheck}
 use Rattle.wad.specs.Entries.{directoryOf, entryCheck}
 use Rattle.wad.proofs.Listing.{file-sound}
 use borrow.Author.Needs.{needs}
@@ -16,7 +16,7 @@ use Rattle.wad.proofs.entries.judge_file.Statement.{statement}
 use Rattle.wad.proofs.entries.judge_file.Tie as tie
 
 passes : (c : tie.After-enum-told)
-    → headerCheck (length (now (c .before .before .before .before .args .wad))) (headOf (now (c .before .before .before .before .args .wad))) ≡ Pass
+    → fileHeaderCheck (length (now (c .before .before .before .before .args .wad))) (headOf (now (c .before .before .before .before .args .wad))) ≡ Pass
 passes c = sym (c .before .before .judge-header .ensures) ∙ c .enum-told .given .1
 
 returns : tie.Need-returns

@@ -33,7 +33,7 @@ directory-of-requires c κs =
 returns-3 : tie.Need-returns-3
 returns-3 c =
     let a = c .before .before .before .before .before .before .before .before .before .args in
-    rw (c .before .offset-of .ensures .0, c .size-of .ensures .0, c .before .before .directory-of .ensures .0)
+    rw (c .before .entry-offset .ensures .0, c .entry-size .ensures .0, c .before .before .directory-of .ensures .0)
     (entry-at (now (a .wad)) (a .number) (passes (c .before .before .before .before .before))
     (omega (arith, c .before .before .before .before .entry-count .ensures)))
 

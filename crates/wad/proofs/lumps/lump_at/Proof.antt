@@ -4,7 +4,7 @@ use Rattle.wad.proofs.lumps.lump_at.Statement.{statement}
 use Rattle.wad.proofs.lumps.lump_at.Tie as tie
 
 returns : tie.Need-returns
-returns c = rw (c .part-if .ensures, c .before .size-of .ensures .0, c .before .before .offset-of .ensures .0)
+returns c = rw (c .part-if .ensures, c .before .entry-size .ensures .0, c .before .before .entry-offset .ensures .0)
 
 pub lump-at-spec : {M : Type 1} → statement M
 lump-at-spec =

@@ -1,5 +1,4 @@
--- The state of the search for loop and depth between two steps: only the inner promises of src/lib.rt speak of it.
--- Assumes nothing.
+-- The state of the search for loop and depth between two steps. Assumes nothing.
 use Prim.Native.Nat.{ℕ, zero, suc, _+_, _-_, _*_, _≤_, _<_}
 use mathlib.Core.Bool.{false, cond}
 use mathlib.Core.List.{List}
@@ -10,9 +9,11 @@ use Rattle.bsp.specs.declared.Choice.{Choice}
 use Rattle.bsp.specs.declared.Graph.{Graph}
 use Rattle.graph.specs.declared.Step.{Step}
 use Rattle.graph.specs.declared.Step.the-variants.{Looped, Path}
-use Rattle.bsp.specs.Nodes.{childOf, NodesInRange}
+use Rattle.built.specs.Nodes.{nodeSize}
+use Rattle.bsp.specs.Nodes.{childOf}
+use Rattle.bsp.specs.Inner.{NodesInRange}
 use Rattle.bsp.specs.Heights.{stands, height, graphVerdict}
-use Rattle.graph.specs.Looks.{pathMark, markOf, pathOf}
+use Rattle.graph.specs.Inner.Looks.{pathMark, markOf, pathOf}
 
 -- how many of the first `n` marks are 0
 unfoldable pub unmet : (ℕ → ℕ) → ℕ → ℕ
@@ -42,7 +43,7 @@ pub record Searching (nodes : List ℕ) (count : ℕ) (mark path : ℕ → ℕ) 
 
 -- what the search is given: at least one node, whole nodes whose children are in range, and two words for each
 pub record Searchable (nodes : List ℕ) (count : ℕ) (words : List ℕ) : Type 0 where
-  pub whole : 28 * count ≡ length nodes
+  pub whole : nodeSize * count ≡ length nodes
   pub least : 1 ≤ count
   pub most : count ≤ 32767
   pub enough : 2 * count ≤ length words
@@ -58,6 +59,6 @@ effort words count sp = unmet (markOf words) count + unmet (markOf words) count 
 
 -- what a step from `before` to `after` answers
 abbrev pub Stepped : List ℕ → ℕ → List ℕ → ℕ → List ℕ → Step → Type 0
-Stepped nodes count before sp after Looped = graphVerdict nodes ≡ Graph.Loop
+Stepped nodes count before sp after Looped = graphVerdict nodes ≡ Graph.HasLoop
 Stepped nodes count before sp after (Path next) =
     State nodes count after next × (effort after count next < effort before count sp)

@@ -1,11 +1,12 @@
--- What the work words of the search hold, and what a look at a node's children finds there: only the inner promises of
--- src/lib.rt speak of it. The first `count` words mark the nodes: 0 not met yet, 65535 on the path, else the node's
--- height. The next `count` words hold the path, the root first. Assumes nothing.
+-- What the work words of the search hold, and what a look at a node's children finds there. The first `count` words mark
+-- the nodes: 0 not met yet, 65535 on the path, else the node's height. The next `count` words hold the path, the root first.
+-- Assumes nothing.
 use Prim.Native.Nat.{ℕ, max, _+_, _-_, _*_, _≤_, _<_}
 use mathlib.Core.Bool.{cond}
 use mathlib.Core.List.{List}
 use lib.Dec.{eqb}
 use lib.ListN.{length, getD, set}
+use Rattle.built.specs.Nodes.{nodeSize}
 use Rattle.bsp.specs.declared.Choice.{Choice}
 use Rattle.bsp.specs.declared.Choice.the-variants.{Right, Left}
 use Rattle.graph.specs.declared.Look.{Look}
@@ -47,7 +48,7 @@ lookBelow nodes words i = joined (lookAt words (childOf nodes i Right)) (lookAt 
 
 -- node `i` lies in the lump, and the marks of its children in the words
 pub record LooksInside (nodes words : List ℕ) (i : ℕ) : Type 0 where
-  pub whole : 28 * i + 28 ≤ length nodes
+  pub whole : nodeSize * i + nodeSize ≤ length nodes
   pub marked : (c : Choice) → childOf nodes i c < subsectorBit → childOf nodes i c < length words
 
 -- the words with `node` put at place `sp` of the path

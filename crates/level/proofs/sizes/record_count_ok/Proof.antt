@@ -1,0 +1,19 @@
+-- `level::sizes::record_count_ok` meets its contract, from those of the functions that it calls. Assumes nothing.
+use borrow.Author.Needs.{needs}
+use Rattle.level.proofs.sizes.record_count_ok.Statement.{statement}
+use Rattle.level.proofs.sizes.record_count_ok.Tie as tie
+
+returns : tie.Need-returns
+returns c =
+    rw (
+      c .alone-ok .ensures,
+      c .before .most-count .ensures,
+      c .before .before .least-count .ensures,
+      c .before .before .before .record-count .ensures,
+    )
+
+pub record-count-ok-spec : {M : Type 1} → statement M
+record-count-ok-spec =
+    tie.close
+    (tie.spec (λ c κs. search needs) (λ c κs. search needs) (λ c κs. search needs)
+    (λ c κs. search needs) returns)
