@@ -1,6 +1,6 @@
 -- Demand 2's frame and demand 3. The frame is a matter of rewriting, since the definitions take only what they may depend
 -- on; demand 3 is the node graph's theorems, carried to the verdict. Assumes nothing.
-use Prim.Native.Nat.{ℕ, _≤_}
+use Prim.Native.Nat.{ℕ, _+_, _/_, _≤_, _<_}
 use mathlib.Core.Bool.{Bool}
 use mathlib.Core.List.{List}
 use mathlib.Core.Path.{_≡_, refl, sym, ap, _∙_, subst}
@@ -15,14 +15,19 @@ use Rattle.refusal.specs.declared.Check.the-variants.{Pass, Refused}
 use Rattle.refusal.specs.Checks.{unless, _andThen_}
 use Rattle.refusal.proofs.Checks.{andThen-pass}
 use Rattle.refusal.proofs.Numbers.{AtMost}
+use Rattle.wad.specs.declared.lumps.Entry.{Entry as Entries}
+use Rattle.wad.specs.declared.lumps.Entry.the-variants.{At}
 use Rattle.wad.specs.declared.map.Marker.{Marker}
 use Rattle.wad.specs.declared.map.Marker.the-variants.{Entry, Refused as NoMarker}
-use Rattle.wad.specs.Header.{headOf, countOf as entriesOf}
+use Rattle.wad.specs.Header.{headOf, entryCount}
 use Rattle.wad.specs.Entries.{directoryOf}
+use Rattle.wad.specs.Lump.{entrySize, entryOffset, lumpAt, entryAnswer, partOf}
 use Rattle.wad.specs.Map.{markerBy, markerAnswer}
+use Rattle.wad.proofs.Answers.{entry-at, handed-whole}
+use Rattle.built.specs.Subsectors.{subsectorSize}
 use Rattle.wad.proofs.Numbers.{marker-atMost}
 use Rattle.bsp.specs.declared.Graph.{Graph}
-use Rattle.bsp.specs.declared.Graph.the-variants.{Loop as Looped, Depth as Deep}
+use Rattle.bsp.specs.declared.Graph.the-variants.{HasLoop, HasDepth}
 use Rattle.bsp.specs.Heights.{graphVerdict}
 use Rattle.bsp.specs.Routes.{Loop}
 use Rattle.bsp.proofs.Verdict.{verdict-holds}
@@ -30,13 +35,15 @@ use Rattle.bsp.proofs.Descends.{descent-holds}
 use Rattle.blockmap.specs.Blockmap.{blockmapCheck}
 use Rattle.level.specs.declared.Verdict.{Verdict}
 use Rattle.level.specs.declared.Verdict.the-variants.{Accepted, Refused as NotAccepted}
-use Rattle.level.specs.Lumps.{mapLumps, lumpOf, countOf}
+use Rattle.table.specs.Lumps.{LINEDEFS, SSECTORS, NODES, BLOCKMAP}
+use Rattle.level.specs.Lumps.{mapLumps, mapLump, recordCount}
 use Rattle.level.specs.Run.{runCheck}
 use Rattle.level.specs.Sizes.{sizesCheck}
 use Rattle.level.specs.References.{referencesCheck}
 use Rattle.level.specs.Verdict.{lumpsCheck, mapCheck, graphAnswer, judged, checkAt, nodesAt, subsectorsAt, verdictBy, verdict}
-use Rattle.level.specs.Demands.{MapAt, SameMap, SameShortage, Frame, Below31, Demand3}
-use Rattle.level.proofs.Passing.{passed}
+use Rattle.level.specs.Demands.{MapAt, SameMap, SameShortage, Frame, Below31, HandedOver, Demand3}
+use Rattle.level.proofs.Passing.{run-long, passed}
+use Rattle.level.proofs.Answers.{marker-known}
 use Rattle.level.proofs.Numbers.{map-atMost}
 
 -- ---- demand 2
@@ -47,11 +54,11 @@ module _ (wad wad′ name words words′ : List ℕ) (same : SameMap wad wad′ 
 
   module _ (m : ℕ) where
     -- the ten names are looked at before the lumps
-    run-refused : (r : Refusal) → runCheck (directoryOf wad) (entriesOf (headOf wad)) m ≡ Refused r
+    run-refused : (r : Refusal) → runCheck (directoryOf wad) (entryCount (headOf wad)) m ≡ Refused r
         → verdictBy wad words (Entry m) ≡ verdictBy wad′ words′ (Entry m)
     run-refused r e =
-        let e′ : runCheck (directoryOf wad′) (entriesOf (headOf wad′)) m ≡ Refused r =
-        sym (λ i. runCheck (same .directory i) (entriesOf (same .header i)) m) ∙ e in
+        let e′ : runCheck (directoryOf wad′) (entryCount (headOf wad′)) m ≡ Refused r =
+        sym (λ i. runCheck (same .directory i) (entryCount (same .header i)) m) ∙ e in
         ap (λ (c : Check). judged (c andThen lumpsCheck (mapLumps wad (directoryOf wad) m) (length words)) (graphVerdict (nodesAt wad m)) m) e
         ∙ sym (ap (λ (c : Check). judged (c andThen lumpsCheck (mapLumps wad′ (directoryOf wad′) m) (length words′)) (graphVerdict (nodesAt wad′ m)) m) e′)
 
@@ -60,20 +67,20 @@ module _ (wad wad′ name words words′ : List ℕ) (same : SameMap wad wad′ 
         let dir = directoryOf wad in
         let lumps = mapLumps wad dir m in
         let enough : Bool → Check = λ (b : Bool).
-        runCheck dir (entriesOf (headOf wad)) m
-        andThen (sizesCheck lumps andThen referencesCheck lumps andThen blockmapCheck (lumpOf lumps 9) (countOf lumps 1) andThen unless b WorkWords) in
+        runCheck dir (entryCount (headOf wad)) m
+        andThen (sizesCheck lumps andThen referencesCheck lumps andThen blockmapCheck (mapLump lumps BLOCKMAP) (recordCount lumps LINEDEFS) andThen unless b WorkWords) in
         ap (λ (b : Bool). judged (enough b) (graphVerdict (nodesAt wad m)) m) (short m at)
         ∙ (λ i.
-        judged (mapCheck (same .directory i) (entriesOf (same .header i)) m (same .lumps m at i) (length words′)) (graphVerdict (lumpOf (same .lumps m at i) 6)) m)
+        judged (mapCheck (same .directory i) (entryCount (same .header i)) m (same .lumps m at i) (length words′)) (graphVerdict (mapLump (same .lumps m at i) NODES)) m)
 
-    run-by : (c : Check) → markerAnswer wad name ≡ Entry m → runCheck (directoryOf wad) (entriesOf (headOf wad)) m ≡ c
+    run-by : (c : Check) → markerAnswer wad name ≡ Entry m → runCheck (directoryOf wad) (entryCount (headOf wad)) m ≡ c
         → verdictBy wad words (Entry m) ≡ verdictBy wad′ words′ (Entry m)
     run-by Pass e q = run-passed (e, q)
     run-by (Refused r) e q = run-refused r q
 
   same-by : (a : Marker) → markerAnswer wad name ≡ a → verdictBy wad words a ≡ verdictBy wad′ words′ a
   same-by (NoMarker r) e = refl
-  same-by (Entry m) e = run-by m (runCheck (directoryOf wad) (entriesOf (headOf wad)) m) e refl
+  same-by (Entry m) e = run-by m (runCheck (directoryOf wad) (entryCount (headOf wad)) m) e refl
 
 pub frame : Frame
 frame wad wad′ name words words′ same short =
@@ -82,13 +89,13 @@ frame wad wad′ name words words′ same short =
 
 -- ---- demand 3
 
-graph-loop : (g : Graph) (m : ℕ) → graphAnswer g m ≡ NotAccepted NodeLoop → g ≡ Looped
-graph-loop Looped m e = refl
-graph-loop (Deep d) m e = let z : _≡_ {A = ℕ} 0 1 = cc in absurd (omega arith)
+graph-loop : (g : Graph) (m : ℕ) → graphAnswer g m ≡ NotAccepted NodeLoop → g ≡ HasLoop
+graph-loop HasLoop m e = refl
+graph-loop (HasDepth d) m e = let z : _≡_ {A = ℕ} 0 1 = cc in absurd (omega arith)
 
-graph-deep : (g : Graph) (m : ℕ) {d m′ : ℕ} → graphAnswer g m ≡ Accepted d m′ → (g ≡ Deep d) × (m ≡ m′)
-graph-deep Looped m e = let z : _≡_ {A = ℕ} 0 1 = cc in absurd (omega arith)
-graph-deep (Deep d) m e = ((cc), (cc))
+graph-deep : (g : Graph) (m : ℕ) {d m′ : ℕ} → graphAnswer g m ≡ Accepted d m′ → (g ≡ HasDepth d) × (m ≡ m′)
+graph-deep HasLoop m e = let z : _≡_ {A = ℕ} 0 1 = cc in absurd (omega arith)
+graph-deep (HasDepth d) m e = ((cc), (cc))
 
 -- the number of a refused map
 abbrev numberIn : Verdict → ℕ
@@ -98,11 +105,11 @@ numberIn (NotAccepted r) = numberOf r
 not-31 : (r : Refusal) → numberOf r ≤ 30 → NotAccepted r ≡ NotAccepted NodeLoop → ⊥
 not-31 r h e = let low : 31 ≤ 30 = rw (ap numberIn e) at h in omega arith
 
-judged-loop : (c : Check) (g : Graph) (m : ℕ) → AtMost 30 c → judged c g m ≡ NotAccepted NodeLoop → (c ≡ Pass) × (g ≡ Looped)
+judged-loop : (c : Check) (g : Graph) (m : ℕ) → AtMost 30 c → judged c g m ≡ NotAccepted NodeLoop → (c ≡ Pass) × (g ≡ HasLoop)
 judged-loop Pass g m h e = (refl, graph-loop g m e)
 judged-loop (Refused r) g m h e = absurd (not-31 r (h r refl) e)
 
-judged-deep : (c : Check) (g : Graph) (m : ℕ) {d m′ : ℕ} → judged c g m ≡ Accepted d m′ → (c ≡ Pass) × ((g ≡ Deep d) × (m ≡ m′))
+judged-deep : (c : Check) (g : Graph) (m : ℕ) {d m′ : ℕ} → judged c g m ≡ Accepted d m′ → (c ≡ Pass) × ((g ≡ HasDepth d) × (m ≡ m′))
 judged-deep Pass g m e = (refl, graph-deep g m e)
 judged-deep (Refused r) g m e = let z : _≡_ {A = ℕ} 0 1 = cc in absurd (omega arith)
 
@@ -114,7 +121,7 @@ module _ (wad name words : List ℕ) where
 
   record Known (d m : ℕ) : Type 0 where
     below : Below31 wad name words m
-    deep : graphVerdict (nodesAt wad m) ≡ Deep d
+    deep : graphVerdict (nodesAt wad m) ≡ HasDepth d
 
   known-by : (a : Marker) {d m : ℕ} → markerAnswer wad name ≡ a → verdictBy wad words a ≡ Accepted d m → Known d m
   known-by (NoMarker r) e q = let z : _≡_ {A = ℕ} 0 1 = cc in absurd (omega arith)
@@ -131,9 +138,31 @@ module _ (wad name words : List ℕ) where
   looping-by (NoMarker r) e q = let h = marker-atMost wad name r e in absurd (not-31 r (omega arith) q)
   looping-by (Entry m) e q =
       let dir = directoryOf wad in
-      let below = map-atMost dir (entriesOf (headOf wad)) m (mapLumps wad dir m) (length words) in
+      let below = map-atMost dir (entryCount (headOf wad)) m (mapLumps wad dir m) (length words) in
       let p = judged-loop (checkAt wad m (length words)) (graphVerdict (nodesAt wad m)) m below q in
       (m, (record { marks = e; passes = p .0 }, verdict-holds (nodesAt wad m) .loop .0 (p .1)))
+
+  -- the ten entries after the marker are there, so that none of them is refused
+  handed-over : (d m : ℕ) → Known d m → HandedOver wad m
+  handed-over d m k =
+      let dir = directoryOf wad in
+      let count = entryCount (headOf wad) in
+      let file = marker-known wad name (k .below .marks) .0 in
+      let long = run-long dir count m (andThen-pass (runCheck dir count m) _ (k .below .passes) .0) in
+      let at : (i : ℕ) → i < count → entryAnswer wad i ≡ At (entryOffset dir i) (entrySize dir i) = λ i h. sym (entry-at wad i file h) in
+      let sized : (i : ℕ) → i < count → entrySize dir i ≡ length (lumpAt wad dir i) =
+      λ i h. sym (handed-whole wad i (entryOffset dir i) (entrySize dir i) (at i h) .sized) ∙ ap (λ (a : Entries). length (partOf wad a)) (at i h) in
+      let seven : m + NODES < count = omega arith in
+      let six : m + SSECTORS < count = omega arith in
+      record {
+        nodesOffset = entryOffset dir (m + NODES);
+        nodesEntry = at (m + NODES) seven ∙ ap (At (entryOffset dir (m + NODES))) (sized (m + NODES) seven);
+        nodesPart = ap (partOf wad) (at (m + NODES) seven);
+        ssectorsOffset = entryOffset dir (m + SSECTORS);
+        ssectorsSize = entrySize dir (m + SSECTORS);
+        ssectorsEntry = at (m + SSECTORS) six;
+        subsectors = ap (λ (n : ℕ). n / subsectorSize) (sized (m + SSECTORS) six);
+      }
 
   pub demand3 : Demand3 wad name words
   demand3 =
@@ -149,10 +178,11 @@ module _ (wad name words : List ℕ) where
             let d = verdict-holds (nodesAt wad m) .noLoop none in
             (d .0, graphs m b ∙ ap (λ (g : Graph). graphAnswer g m) (d .1));
         exact = λ (d m : ℕ) (e : verdict wad name words ≡ Accepted d m). verdict-holds (nodesAt wad m) .deep d (known d m e .deep);
+        handed = λ (d m : ℕ) (e : verdict wad name words ≡ Accepted d m). handed-over d m (known d m e);
         descends = λ (d m : ℕ) (e : verdict wad name words ≡ Accepted d m) (x y : ℤ).
             let k = known d m e in
             let dir = directoryOf wad in
             let lumps = mapLumps wad dir m in
-            let rest = andThen-pass (runCheck dir (entriesOf (headOf wad)) m) (lumpsCheck lumps (length words)) (k .below .passes) .1 in
+            let rest = andThen-pass (runCheck dir (entryCount (headOf wad)) m) (lumpsCheck lumps (length words)) (k .below .passes) .1 in
             descent-holds (nodesAt wad m) (subsectorsAt wad m) (passed lumps (length words) rest) d (k .deep) x y;
       }

@@ -1,6 +1,6 @@
 -- Demand 2's frame and demand 3, of any file, any asked name, any work words and any point. The proofs are in
 -- proofs/Demands.antt. Assumes nothing.
-use Prim.Native.Nat.{ℕ, _*_}
+use Prim.Native.Nat.{ℕ, _+_, _*_, _/_}
 use mathlib.Core.List.{List}
 use mathlib.Core.Logic.{_↔_}
 use mathlib.Core.Path.{_≡_}
@@ -9,10 +9,14 @@ use lib.IntN.{ℤ}
 use lib.ListN.{length}
 use Rattle.refusal.specs.declared.Check.the-variants.{Pass}
 use Rattle.refusal.specs.declared.Refusal.the-variants.{NodeLoop}
+use Rattle.wad.specs.declared.lumps.Entry.the-variants.{At}
 use Rattle.wad.specs.declared.map.Marker.the-variants.{Entry}
-use Rattle.wad.specs.Header.{headOf, countOf as entriesOf}
+use Rattle.wad.specs.Header.{headOf, entryCount}
 use Rattle.wad.specs.Entries.{directoryOf}
+use Rattle.wad.specs.Lump.{entryAnswer, entryLump}
 use Rattle.wad.specs.Map.{markerAnswer}
+use Rattle.built.specs.Subsectors.{subsectorSize}
+use Rattle.table.specs.Lumps.{SSECTORS, NODES}
 use Rattle.bsp.specs.Nodes.{nodesOf}
 use Rattle.bsp.specs.Routes.{Loop, Depth}
 use Rattle.bsp.specs.Promises.{Descends}
@@ -26,7 +30,7 @@ use Rattle.level.specs.Verdict.{checkAt, nodesAt, subsectorsAt, verdict}
 -- entry `marker` is the marker of the map `name`, and its ten lumps follow
 abbrev pub MapAt : List ℕ → List ℕ → ℕ → Type 0
 MapAt wad name marker =
-    (markerAnswer wad name ≡ Entry marker) × (runCheck (directoryOf wad) (entriesOf (headOf wad)) marker ≡ Pass)
+    (markerAnswer wad name ≡ Entry marker) × (runCheck (directoryOf wad) (entryCount (headOf wad)) marker ≡ Pass)
 
 -- two files of one length, with the same header and directory, and the same bytes in the ten lumps of the map `name`
 pub record SameMap (wad wad′ name : List ℕ) : Type 0 where
@@ -55,6 +59,18 @@ pub record Below31 (wad name words : List ℕ) (marker : ℕ) : Type 0 where
   pub marks : markerAnswer wad name ≡ Entry marker
   pub passes : checkAt wad marker (length words) ≡ Pass
 
+-- the NODES lump and the count of subsectors of the map at entry `marker` are those that a caller is handed
+pub record HandedOver (wad : List ℕ) (marker : ℕ) : Type 0 where
+  -- entry marker + 7 is not refused, and its part of the file is the NODES lump
+  pub nodesOffset : ℕ
+  pub nodesEntry : entryAnswer wad (marker + NODES) ≡ At nodesOffset (length (nodesAt wad marker))
+  pub nodesPart : entryLump wad (marker + NODES) ≡ nodesAt wad marker
+  -- entry marker + 6 is not refused, and its size divided by 4 is the count of subsectors
+  pub ssectorsOffset : ℕ
+  pub ssectorsSize : ℕ
+  pub ssectorsEntry : entryAnswer wad (marker + SSECTORS) ≡ At ssectorsOffset ssectorsSize
+  pub subsectors : ssectorsSize / subsectorSize ≡ subsectorsAt wad marker
+
 pub record Demand3 (wad name words : List ℕ) : Type 0 where
   -- where every check below 31 passes, the map is refused for a loop exactly if some list of as many choices as there are
   -- nodes is still on a node
@@ -67,6 +83,8 @@ pub record Demand3 (wad name words : List ℕ) : Type 0 where
   pub noLoop : (marker : ℕ) → Below31 wad name words marker → (Loop (nodesAt wad marker) → ⊥)
       → (depth : ℕ) × (verdict wad name words ≡ Accepted depth marker)
   pub exact : (depth marker : ℕ) → verdict wad name words ≡ Accepted depth marker → Depth (nodesAt wad marker) depth
+  -- the nodes and the subsectors of an accepted map are what its entries hand over
+  pub handed : (depth marker : ℕ) → verdict wad name words ≡ Accepted depth marker → HandedOver wad marker
   -- on every accepted map every point's descent is not refused, and is its plain walk, with a count of at most the depth
   pub descends : (depth marker : ℕ) → verdict wad name words ≡ Accepted depth marker
       → (x y : ℤ) → Descends (nodesAt wad marker) (subsectorsAt wad marker) x y depth
