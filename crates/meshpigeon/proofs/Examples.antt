@@ -1,17 +1,17 @@
 -- The examples of 01 compute. Assumes nothing.
 use mathlib.Core.Path.{refl}
-use borrow.Author.Tests.{le-ltb}
+use borrow.Author.Tests.{lt-ltb, le-ltb}
 use Rattle.refusal.specs.Checks.{each}
 use Rattle.wad.specs.Map.{findMarker}
 use Rattle.bsp.specs.Heights.{stands, height, graphVerdict}
 use Rattle.bsp.specs.Walks.{descentFrom, descent}
-use Rattle.blockmap.specs.Blockmap.{endsWell}
+use Rattle.blockmap.specs.Blockmap.{listEnds, numbersFrom}
 use Rattle.picture.specs.Judging.{postsCheck}
 use Rattle.canvas.specs.Pixels.{overPosts, listOf}
 use Rattle.meshpigeon.specs.Examples.{Examples}
 
 pub examples : Examples
-unfolding each findMarker stands height graphVerdict descentFrom descent endsWell postsCheck overPosts listOf
+unfolding each findMarker stands height graphVerdict descentFrom descent listEnds numbersFrom postsCheck overPosts listOf
 examples =
     record {
       a = (refl, (refl, refl));
@@ -21,17 +21,22 @@ examples =
       c-left = refl;
       d-product = refl;
       d-left = refl;
-      e-first = refl;
+      e-first = (refl, refl);
+      e-inRange = λ count subsectors h. lt-ltb 0 subsectors h;
       e-never = λ count subsectors h. le-ltb 32767 subsectors h;
       f-depth = refl;
       f-descent = λ x y. refl;
       g = refl;
-      g-accepted = refl;
+      g-accepted = λ a b c d. refl;
       h = refl;
+      h-refused = λ a b c d. refl;
       i = refl;
+      i-accepted = refl;
       j = refl;
-      k-none = λ linedefs. refl;
-      k-three = λ linedefs. refl;
+      j-accepted = refl;
+      k-none = refl;
+      k-three = refl;
+      k-good = (refl, refl);
       l-accepted = refl;
       l-colour = refl;
       l-cover = refl;

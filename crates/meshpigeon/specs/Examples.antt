@@ -1,28 +1,28 @@
 -- The examples of 01, "Examples", (a) to (l), of the definitions. The proof is proofs/Examples.antt. Assumes nothing.
-use Prim.Native.Nat.{ℕ, _/_, _%_, _≤_}
-use mathlib.Core.Bool.{true, false, _&&_}
+use Prim.Native.Nat.{ℕ, _+_, _/_, _%_, _≤_}
+use mathlib.Core.Bool.{true, false}
 use mathlib.Core.List.{List, [], _∷_, _++_}
 use mathlib.Core.Path.{_≡_}
-use lib.Dec.{ltb}
 use lib.IntN.{ℤ, pos, negsuc, _-ℤ_, _*ℤ_}
-use lib.ListN.{replicate}
+use lib.ListN.{length, replicate}
 use Rattle.endian.specs.Unsigned.{u16Bytes}
 use Rattle.refusal.specs.declared.Check.the-variants.{Pass}
 use Rattle.name.specs.Names.{nameOk, sameName}
-use Rattle.table.specs.Lumps.{nameOf}
+use Rattle.table.specs.Lumps.{lumpName, THINGS, LINEDEFS, SIDEDEFS, VERTEXES, SEGS, SSECTORS, NODES, SECTORS, REJECT, BLOCKMAP}
 use Rattle.bsp.specs.declared.Choice.the-variants.{Right, Left}
 use Rattle.bsp.specs.declared.Descent.the-variants.{Found}
 use Rattle.bsp.specs.declared.Graph.{Graph}
-use Rattle.bsp.specs.Nodes.{subsectorBit, childOk}
+use Rattle.bsp.specs.Nodes.{subsectorBit, isNode, childOk}
 use Rattle.bsp.specs.Heights.{graphVerdict}
 use Rattle.bsp.specs.Side.{side}
 use Rattle.bsp.specs.Walks.{descent}
-use Rattle.level.specs.declared.Verdict.the-variants.{Accepted}
 use Rattle.level.specs.Verdict.{verdict}
 use Rattle.level.specs.Sizes.{rejectSize}
-use Rattle.blockmap.specs.Blockmap.{listOk}
+use Rattle.blockmap.specs.Blockmap.{linedefsNamed, listOk}
 use Rattle.canvas.specs.Buffers.{paintCheck}
 use Rattle.canvas.specs.Pixels.{planeOf, byColour, byCover}
+use Rattle.meshpigeon.specs.declared.maps.MapAnswer.{MapAnswer}
+use Rattle.meshpigeon.specs.Maps.{mapOut}
 
 -- (b)'s bytes, and the letters D E M O 1
 abbrev demo1 : List ℕ
@@ -39,27 +39,52 @@ lowest = negsuc 32767
 abbrev node : ℕ → ℕ → List ℕ
 node right left = replicate 24 0 ++ u16Bytes right ++ u16Bytes left
 
--- the smallest map with (g)'s node, whole: one linedef, sidedef, vertex, seg, subsector, node and sector, and one empty cell
+-- numbers and entries of a file
 abbrev u32Bytes : ℕ → List ℕ
 u32Bytes n = u16Bytes (n % 65536) ++ u16Bytes (n / 65536)
 
-abbrev entry : ℕ → ℕ → List ℕ → List ℕ
-entry offset size name = u32Bytes offset ++ u32Bytes size ++ name
+abbrev entry : ℕ → ℕ → ℕ → List ℕ
+entry place offset size = u32Bytes offset ++ u32Bytes size ++ lumpName place
 
 abbrev map01 : List ℕ
 map01 = 77 ∷ 65 ∷ 80 ∷ 48 ∷ 49 ∷ 0 ∷ 0 ∷ 0 ∷ []
 
-abbrev smallest : List ℕ
-smallest =
-    (80 ∷ 87 ∷ 65 ∷ 68 ∷ []) ++ u32Bytes 11 ++ u32Bytes 145
+-- the smallest map with these nodes, whole: one linedef, sidedef, vertex, seg, subsector and sector, and one empty cell
+abbrev mapOf : List ℕ → List ℕ
+mapOf nodes =
+    let size = length nodes in
+    (80 ∷ 87 ∷ 65 ∷ 68 ∷ []) ++ u32Bytes 11 ++ u32Bytes (117 + size)
     ++ replicate 12 0 ++ u16Bytes 65535
     ++ replicate 30 0 ++ replicate 4 0 ++ replicate 12 0
     ++ u16Bytes 1 ++ u16Bytes 0
-    ++ node 0x8000 0x8000 ++ replicate 26 0 ++ replicate 1 0
+    ++ nodes ++ replicate 26 0 ++ replicate 1 0
     ++ u16Bytes 0 ++ u16Bytes 0 ++ u16Bytes 1 ++ u16Bytes 1 ++ u16Bytes 5 ++ u16Bytes 0 ++ u16Bytes 65535
-    ++ entry 0 0 map01 ++ entry 0 0 (nameOf 0) ++ entry 12 14 (nameOf 1) ++ entry 26 30 (nameOf 2) ++ entry 56 4 (nameOf 3)
-    ++ entry 60 12 (nameOf 4) ++ entry 72 4 (nameOf 5) ++ entry 76 28 (nameOf 6) ++ entry 104 26 (nameOf 7)
-    ++ entry 130 1 (nameOf 8) ++ entry 131 14 (nameOf 9)
+    ++ u32Bytes 0 ++ u32Bytes 0 ++ map01 ++ entry THINGS 0 0 ++ entry LINEDEFS 12 14 ++ entry SIDEDEFS 26 30
+    ++ entry VERTEXES 56 4 ++ entry SEGS 60 12 ++ entry SSECTORS 72 4 ++ entry NODES 76 size
+    ++ entry SECTORS (76 + size) 26 ++ entry REJECT (102 + size) 1 ++ entry BLOCKMAP (103 + size) 14
+
+-- what the map check answers a caller on that map
+abbrev judged : List ℕ → List ℕ → MapAnswer
+judged nodes words = mapOut (verdict (mapOf nodes) map01 words)
+
+abbrev acceptedAt : ℕ → MapAnswer
+acceptedAt depth = record { status = record { number = 0; place = 0; «record» = 0 }; depth = depth; marker = 0 }
+
+abbrev refusedAs : ℕ → ℕ → MapAnswer
+refusedAs number place = record { status = record { number = number; place = place; «record» = 0 }; depth = 0; marker = 0 }
+
+-- the nodes of (g), (h), (i) and (j)
+abbrev oneNode : List ℕ
+oneNode = node 0x8000 0x8000
+
+abbrev ownLeft : List ℕ
+ownLeft = node 0x8000 0
+
+abbrev twoNodes : List ℕ
+twoNodes = node 0 0x8000 ++ node 0x8000 0x8000
+
+abbrev threeNodes : List ℕ
+threeNodes = node 1 0x8000 ++ node 0x8000 0x8000 ++ node 0 0x8000
 
 -- a BLOCKMAP of two cells, whose lists are `0 65535` at word 6 and `0 330 331 333 65535` at word 8
 abbrev blockmap : List ℕ
@@ -86,26 +111,29 @@ pub record Examples : Type 0 where
   -- (d) start and direction (-32768, -32768), point (32767, 32767): both products are -2,147,450,880, so left
   pub d-product : (pos 32767 -ℤ lowest) *ℤ lowest ≡ negsuc 2147450879
   pub d-left : side (pos 32767) (pos 32767) lowest lowest lowest lowest ≡ Left
-  -- (e) 0x8000 is subsector 0, and 0xFFFF is never in range
-  pub e-first : 0x8000 ≡ subsectorBit
+  -- (e) 0x8000 is no node but subsector 0, which is in range; 0xFFFF is never in range
+  pub e-first : (isNode 0x8000 ≡ false) × (0x8000 ≡ subsectorBit + 0)
+  pub e-inRange : (count subsectors : ℕ) → 1 ≤ subsectors → childOk count subsectors 0x8000 ≡ true
   pub e-never : (count subsectors : ℕ) → subsectors ≤ 32767 → childOk count subsectors 0xFFFF ≡ false
   -- (f) no nodes, one subsector: depth 0, answer 0, count 0
-  pub f-depth : graphVerdict [] ≡ Graph.Depth 0
+  pub f-depth : graphVerdict [] ≡ Graph.HasDepth 0
   pub f-descent : (x y : ℤ) → descent [] 1 x y ≡ Found 0 0
-  -- (g) one node, both children subsector 0: depth 1
-  pub g : graphVerdict (node 0x8000 0x8000) ≡ Graph.Depth 1
-  -- and a whole map with that node is accepted, whatever the four lent words hold
-  pub g-accepted : verdict smallest map01 (7 ∷ 7 ∷ 7 ∷ 7 ∷ []) ≡ Accepted 1 0
-  -- (h) one node whose left child is itself: a loop
-  pub h : graphVerdict (node 0x8000 0) ≡ Graph.Loop
-  -- (i) two nodes, node 0 its own child, the root's children both subsectors: depth 1
-  pub i : graphVerdict (node 0 0x8000 ++ node 0x8000 0x8000) ≡ Graph.Depth 1
-  -- (j) three nodes, root 2 has node 0, node 0 has node 1, all else subsectors: depth 3
-  pub j : graphVerdict (node 1 0x8000 ++ node 0x8000 0x8000 ++ node 0 0x8000) ≡ Graph.Depth 3
-  -- (k) the first list is good however few linedefs there are, so it names none; the second names 330, 331 and 333
-  pub k-none : (linedefs : ℕ) → listOk blockmap linedefs 6 ≡ true
-  pub k-three : (linedefs : ℕ)
-      → listOk blockmap linedefs 8 ≡ (ltb 330 linedefs && (ltb 331 linedefs && (ltb 333 linedefs && true)))
+  -- (g) one node, both children subsector 0: depth 1, and a whole map with that node is accepted, whatever the words hold
+  pub g : graphVerdict oneNode ≡ Graph.HasDepth 1
+  pub g-accepted : (a b c d : ℕ) → judged oneNode (a ∷ b ∷ c ∷ d ∷ []) ≡ acceptedAt 1
+  -- (h) one node whose left child is itself: a whole map with it is refused 31 at place 7
+  pub h : graphVerdict ownLeft ≡ Graph.HasLoop
+  pub h-refused : (a b c d : ℕ) → judged ownLeft (a ∷ b ∷ c ∷ d ∷ []) ≡ refusedAs 31 7
+  -- (i) two nodes, node 0 its own child, the root's children both subsectors: accepted, depth 1
+  pub i : graphVerdict twoNodes ≡ Graph.HasDepth 1
+  pub i-accepted : judged twoNodes (replicate 8 7) ≡ acceptedAt 1
+  -- (j) three nodes, root 2 has node 0, node 0 has node 1, all else subsectors: accepted, depth 3
+  pub j : graphVerdict threeNodes ≡ Graph.HasDepth 3
+  pub j-accepted : judged threeNodes (replicate 12 7) ≡ acceptedAt 3
+  -- (k) the lists are good, and name no linedef and three
+  pub k-none : linedefsNamed blockmap 6 ≡ []
+  pub k-three : linedefsNamed blockmap 8 ≡ 330 ∷ 331 ∷ 333 ∷ []
+  pub k-good : (listOk blockmap 0 6 ≡ true) × (listOk blockmap 334 8 ≡ true)
   -- (l) colour 0 7 0, cover 0 1 0
   pub l-accepted : paintCheck picture 3 3 ≡ Pass
   pub l-colour : planeOf byColour picture ≡ 0 ∷ 7 ∷ 0 ∷ []
