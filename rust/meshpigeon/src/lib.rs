@@ -64,12 +64,12 @@ pub struct Picture {
 
 /// Judges a file's header and directory: 1 to 6.
 pub fn directory(wad: &[u8]) -> Result<Directory, Refusal> {
-    raw::directory(wad).map(|answer| Directory { count: answer.first, start: answer.second })
+    raw::directory(wad).map(|answer| Directory { count: answer.count, start: answer.start })
 }
 
 /// Where an entry's part of the file lies, and its size: 1 to 7.
 pub fn entry(wad: &[u8], number: usize) -> Result<(usize, usize), Refusal> {
-    raw::entry(wad, number).map(|answer| (answer.first, answer.second))
+    raw::entry(wad, number).map(|answer| (answer.offset, answer.size))
 }
 
 /// An entry's part of the file itself: 1 to 7.
@@ -79,7 +79,7 @@ pub fn lump(wad: &[u8], number: usize) -> Result<&[u8], Refusal> {
 
 /// The entry number of a map's marker, by its name zero-padded to eight bytes: 1 to 6, 10, 11.
 pub fn find_map(wad: &[u8], name: &[u8]) -> Result<usize, Refusal> {
-    raw::find_map(wad, name).map(|answer| answer.only)
+    raw::find_map(wad, name).map(|answer| answer.marker)
 }
 
 /// Judges one map, with work words of its own.
@@ -90,20 +90,20 @@ pub fn judge_map(wad: &[u8], name: &[u8]) -> Result<Accepted, Refusal> {
 /// Judges one map over lent work words, four for each node. A refusal below 31 leaves them as found; 31 and acceptance leave the
 /// first four for each node zero and the others as found.
 pub fn judge_map_with(wad: &[u8], name: &[u8], words: &mut [u16]) -> Result<Accepted, Refusal> {
-    raw::judge_map(wad, name, words).map(|answer| Accepted { depth: answer.first, marker: answer.second })
+    raw::judge_map(wad, name, words).map(|answer| Accepted { depth: answer.depth, marker: answer.marker })
 }
 
 /// The subsector of a point, over any NODES bytes and any count of subsectors: 40 to 43.
 pub fn descend(nodes: &[u8], subsectors: usize, x: i16, y: i16) -> Result<Found, Refusal> {
-    raw::descend(nodes, subsectors, x, y).map(|answer| Found { subsector: answer.first, count: answer.second })
+    raw::descend(nodes, subsectors, x, y).map(|answer| Found { subsector: answer.subsector, count: answer.count })
 }
 
 /// Judges a picture: 50 to 54.
 pub fn judge_picture(lump: &[u8]) -> Result<Picture, Refusal> {
-    raw::judge_picture(lump)
+    raw::judge_picture(lump).map(|answer| answer.picture)
 }
 
 /// Paints a picture row by row from the top into the first width × height bytes of both buffers: 50 to 55. A refusal writes nothing.
 pub fn paint_picture(lump: &[u8], colour: &mut [u8], cover: &mut [u8]) -> Result<Picture, Refusal> {
-    raw::paint_picture(lump, colour, cover)
+    raw::paint_picture(lump, colour, cover).map(|answer| answer.picture)
 }

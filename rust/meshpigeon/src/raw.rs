@@ -1,8 +1,10 @@
 //! The library's functions as include/meshpigeon.h declares them. The only module with `unsafe`: each wrapper lends the library a
 //! pointer and a length of a live slice, which is all that the library asks.
 
+mod layout;
+
 use crate::record::{Linedef, Node, Sector, Seg, Sidedef, Subsector, Thing, Vertex};
-use crate::Refusal;
+use crate::{Picture, Refusal};
 
 /// What every answer begins with; number 0 is accepted.
 #[repr(C)]
@@ -23,44 +25,56 @@ impl Status {
     }
 }
 
-/// An answer of two numbers.
-#[repr(C)]
-pub(crate) struct Two {
-    status: Status,
-    pub(crate) first: usize,
-    pub(crate) second: usize,
+/// The answers but for those that hold a record: a status, and what is answered where nothing is refused.
+macro_rules! answers {
+    ($($(#[$about:meta])* $answer:ident { $($field:ident: $form:ty),* })*) => {$(
+        $(#[$about])*
+        #[repr(C)]
+        pub(crate) struct $answer {
+            status: Status,
+            $(pub(crate) $field: $form,)*
+        }
+
+        impl $answer {
+            fn checked(self) -> Result<Self, Refusal> {
+                self.status.check().map(|()| self)
+            }
+        }
+    )*};
 }
 
-/// An answer of one number.
-#[repr(C)]
-pub(crate) struct One {
-    status: Status,
-    pub(crate) only: usize,
-}
-
-/// An answer of a picture's header.
-#[repr(C)]
-pub(crate) struct Header {
-    status: Status,
-    pub(crate) picture: crate::Picture,
-}
-
-impl Two {
-    fn checked(self) -> Result<Self, Refusal> {
-        self.status.check().map(|()| self)
-    }
+answers! {
+    /// A file's directory.
+    DirectoryAnswer { count: usize, start: usize }
+    /// Where an entry's part of the file lies.
+    EntryAnswer { offset: usize, size: usize }
+    /// A map's marker.
+    MarkerAnswer { marker: usize }
+    /// An accepted map.
+    MapAnswer { depth: usize, marker: usize }
+    /// Where a descent ends.
+    DescentAnswer { subsector: usize, count: usize }
+    /// A picture's header.
+    PictureAnswer { picture: Picture }
 }
 
 type Bytes = *const u8;
 type BytesMut = *mut u8;
 
 extern "C" {
-    fn meshpigeon_directory(wad: Bytes, wad_len: usize) -> Two;
-    fn meshpigeon_entry(wad: Bytes, wad_len: usize, number: usize) -> Two;
-    fn meshpigeon_find_map(wad: Bytes, wad_len: usize, name: Bytes, name_len: usize) -> One;
-    fn meshpigeon_judge_map(wad: Bytes, wad_len: usize, name: Bytes, name_len: usize, words: *mut u16, words_len: usize) -> Two;
-    fn meshpigeon_descend(nodes: Bytes, nodes_len: usize, subsectors: usize, x: i16, y: i16) -> Two;
-    fn meshpigeon_judge_picture(lump: Bytes, lump_len: usize) -> Header;
+    fn meshpigeon_directory(wad: Bytes, wad_len: usize) -> DirectoryAnswer;
+    fn meshpigeon_entry(wad: Bytes, wad_len: usize, number: usize) -> EntryAnswer;
+    fn meshpigeon_find_map(wad: Bytes, wad_len: usize, name: Bytes, name_len: usize) -> MarkerAnswer;
+    fn meshpigeon_judge_map(
+        wad: Bytes,
+        wad_len: usize,
+        name: Bytes,
+        name_len: usize,
+        words: *mut u16,
+        words_len: usize,
+    ) -> MapAnswer;
+    fn meshpigeon_descend(nodes: Bytes, nodes_len: usize, subsectors: usize, x: i16, y: i16) -> DescentAnswer;
+    fn meshpigeon_judge_picture(lump: Bytes, lump_len: usize) -> PictureAnswer;
     fn meshpigeon_paint_picture(
         lump: Bytes,
         lump_len: usize,
@@ -68,40 +82,37 @@ extern "C" {
         colour_len: usize,
         cover: BytesMut,
         cover_len: usize,
-    ) -> Header;
+    ) -> PictureAnswer;
 }
 
-pub(crate) fn directory(wad: &[u8]) -> Result<Two, Refusal> {
+pub(crate) fn directory(wad: &[u8]) -> Result<DirectoryAnswer, Refusal> {
     unsafe { meshpigeon_directory(wad.as_ptr(), wad.len()) }.checked()
 }
 
-pub(crate) fn entry(wad: &[u8], number: usize) -> Result<Two, Refusal> {
+pub(crate) fn entry(wad: &[u8], number: usize) -> Result<EntryAnswer, Refusal> {
     unsafe { meshpigeon_entry(wad.as_ptr(), wad.len(), number) }.checked()
 }
 
-pub(crate) fn find_map(wad: &[u8], name: &[u8]) -> Result<One, Refusal> {
-    let answer = unsafe { meshpigeon_find_map(wad.as_ptr(), wad.len(), name.as_ptr(), name.len()) };
-    answer.status.check().map(|()| answer)
+pub(crate) fn find_map(wad: &[u8], name: &[u8]) -> Result<MarkerAnswer, Refusal> {
+    unsafe { meshpigeon_find_map(wad.as_ptr(), wad.len(), name.as_ptr(), name.len()) }.checked()
 }
 
-pub(crate) fn judge_map(wad: &[u8], name: &[u8], words: &mut [u16]) -> Result<Two, Refusal> {
+pub(crate) fn judge_map(wad: &[u8], name: &[u8], words: &mut [u16]) -> Result<MapAnswer, Refusal> {
     unsafe { meshpigeon_judge_map(wad.as_ptr(), wad.len(), name.as_ptr(), name.len(), words.as_mut_ptr(), words.len()) }.checked()
 }
 
-pub(crate) fn descend(nodes: &[u8], subsectors: usize, x: i16, y: i16) -> Result<Two, Refusal> {
+pub(crate) fn descend(nodes: &[u8], subsectors: usize, x: i16, y: i16) -> Result<DescentAnswer, Refusal> {
     unsafe { meshpigeon_descend(nodes.as_ptr(), nodes.len(), subsectors, x, y) }.checked()
 }
 
-pub(crate) fn judge_picture(lump: &[u8]) -> Result<crate::Picture, Refusal> {
-    let answer = unsafe { meshpigeon_judge_picture(lump.as_ptr(), lump.len()) };
-    answer.status.check().map(|()| answer.picture)
+pub(crate) fn judge_picture(lump: &[u8]) -> Result<PictureAnswer, Refusal> {
+    unsafe { meshpigeon_judge_picture(lump.as_ptr(), lump.len()) }.checked()
 }
 
-pub(crate) fn paint_picture(lump: &[u8], colour: &mut [u8], cover: &mut [u8]) -> Result<crate::Picture, Refusal> {
-    let answer = unsafe {
-        meshpigeon_paint_picture(lump.as_ptr(), lump.len(), colour.as_mut_ptr(), colour.len(), cover.as_mut_ptr(), cover.len())
-    };
-    answer.status.check().map(|()| answer.picture)
+pub(crate) fn paint_picture(lump: &[u8], colour: &mut [u8], cover: &mut [u8]) -> Result<PictureAnswer, Refusal> {
+    let (colour_len, cover_len) = (colour.len(), cover.len());
+    unsafe { meshpigeon_paint_picture(lump.as_ptr(), lump.len(), colour.as_mut_ptr(), colour_len, cover.as_mut_ptr(), cover_len) }
+        .checked()
 }
 
 macro_rules! kinds {

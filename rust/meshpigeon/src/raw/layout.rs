@@ -1,0 +1,52 @@
+//! Sizes and offsets of every struct that crosses the border, in bytes. tests/c/header.c asserts the same numbers of the C header,
+//! and sees that the library answers by them.
+
+use super::*;
+use crate::Picture;
+use core::mem::{offset_of, size_of};
+
+/// Holds each struct to its size and each of its fields to its offset. A field that is left out does not compile.
+macro_rules! layout {
+    ($($form:ident $size:literal { $($field:ident $offset:literal),* })*) => {$(
+        const _: () = {
+            assert!(size_of::<$form>() == $size);
+            $(assert!(offset_of!($form, $field) == $offset);)*
+            const fn _no_other_field(form: &$form) {
+                let $form { $($field: _),* } = form;
+            }
+        };
+    )*};
+}
+
+layout! {
+    Status 24 { number 0, place 8, record 16 }
+    DirectoryAnswer 40 { status 0, count 24, start 32 }
+    EntryAnswer 40 { status 0, offset 24, size 32 }
+    MarkerAnswer 32 { status 0, marker 24 }
+    MapAnswer 40 { status 0, depth 24, marker 32 }
+    DescentAnswer 40 { status 0, subsector 24, count 32 }
+    Picture 24 { width 0, height 8, left 16, top 18 }
+    PictureAnswer 48 { status 0, picture 24 }
+}
+
+layout! {
+    Thing 10 { x 0, y 2, angle 4, kind 6, flags 8 }
+    Linedef 14 { start 0, end 2, flags 4, special 6, tag 8, right 10, left 12 }
+    Sidedef 30 { x_offset 0, y_offset 2, upper 4, lower 12, middle 20, sector 28 }
+    Vertex 4 { x 0, y 2 }
+    Seg 12 { start 0, end 2, angle 4, linedef 6, direction 8, offset 10 }
+    Subsector 4 { number 0, first 2 }
+    Node 28 { x 0, y 2, dx 4, dy 6, right_box 8, left_box 16, right 24, left 26 }
+    Sector 26 { floor 0, ceiling 2, floor_flat 4, ceiling_flat 12, light 20, special 22, tag 24 }
+}
+
+layout! {
+    ThingAnswer 40 { status 0, record 24 }
+    LinedefAnswer 40 { status 0, record 24 }
+    SidedefAnswer 56 { status 0, record 24 }
+    VertexAnswer 32 { status 0, record 24 }
+    SegAnswer 40 { status 0, record 24 }
+    SubsectorAnswer 32 { status 0, record 24 }
+    NodeAnswer 56 { status 0, record 24 }
+    SectorAnswer 56 { status 0, record 24 }
+}
