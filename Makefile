@@ -10,12 +10,12 @@ TOOL = rust/target/release/meshpigeon
 
 all: tool
 
-# The library is proved and built where it is missing, or older than a crate.
+# The library is proved and built where it is missing, or older than a crate: one line for each crate.
 $(LIBRARY): crates.txt $(shell find crates -name '*.rt' -o -name '*.antt')
-	rt staticlib meshpigeon
+	@scripts/prove
 
 tool: $(LIBRARY)
-	$(CARGO) build --offline --release --manifest-path $(MANIFEST) -p tool
+	@$(CARGO) build --quiet --offline --release --manifest-path $(MANIFEST) -p tool
 
 # Some samples are bad on purpose: the tool's exit status is shown, and does not fail make.
 run: tool
