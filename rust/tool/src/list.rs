@@ -3,7 +3,7 @@
 use crate::json::Object;
 use crate::name;
 use crate::report::Report;
-use crate::wad::Wad;
+use crate::wad::{Entry, Wad};
 use std::ffi::OsStr;
 
 /// Prints number, name, offset and size of each entry. The offset of an entry of size 0 means nothing, and is shown as 0.
@@ -12,8 +12,7 @@ pub fn run(file: &OsStr, report: &mut Report) {
         Ok(wad) => wad,
         Err(fault) => return report.fault(file, fault),
     };
-    for (number, name) in wad.names().enumerate() {
-        let (offset, size) = meshpigeon::entry(wad.bytes(), number).unwrap_or_default();
+    for (number, Entry { name, offset, size }) in wad.entries().enumerate() {
         let name = name::text(name);
         report.answer(
             || format!("{number:>4}  {name:<8}  {offset:>8}  {size:>8}"),

@@ -1,4 +1,4 @@
-//! A file whose directory the library accepted, and the names in it.
+//! A file whose directory the library accepted, and the entries in it.
 
 use crate::input::{self, Fault};
 use meshpigeon::Directory;
@@ -7,14 +7,40 @@ use std::ffi::OsStr;
 /// The smallest good file: a header, and no entry.
 const EMPTY: &[u8; 12] = b"PWAD\0\0\0\0\x0C\0\0\0";
 
-/// Bytes of an entry, and where its name begins.
+/// Bytes of an entry, and where its parts begin.
 const ENTRY: usize = 16;
+const OFFSET: usize = 0;
+const SIZE: usize = 4;
 const NAME: usize = 8;
 
 /// A file with a good directory.
 pub struct Wad {
     bytes: Vec<u8>,
     directory: Directory,
+}
+
+/// An entry of a good directory, as the library answers it.
+pub struct Entry<'a> {
+    /// Its name, eight bytes.
+    pub name: &'a [u8],
+    /// Where its part of the file lies; 0 where its size is 0.
+    pub offset: usize,
+    /// Its size in bytes.
+    pub size: usize,
+}
+
+impl<'a> Entry<'a> {
+    /// Takes sixteen bytes of a directory apart. In a good one no number that counts is negative.
+    fn of(bytes: &'a [u8]) -> Self {
+        let size = number_at(bytes, SIZE);
+        let offset = if size == 0 { 0 } else { number_at(bytes, OFFSET) };
+        Self { name: &bytes[NAME..], offset, size }
+    }
+}
+
+/// The four bytes from `at` on, the lowest first.
+fn number_at(bytes: &[u8], at: usize) -> usize {
+    bytes[at..][..4].iter().rev().fold(0, |number, &byte| number << 8 | usize::from(byte))
 }
 
 impl Wad {
@@ -30,10 +56,15 @@ impl Wad {
         &self.bytes
     }
 
-    /// The names of all entries in turn.
-    pub fn names(&self) -> impl DoubleEndedIterator<Item = &[u8]> + ExactSizeIterator {
+    /// All entries in turn. The directory was judged when the file was opened, and is not judged again for each of them.
+    pub fn entries(&self) -> impl DoubleEndedIterator<Item = Entry<'_>> + ExactSizeIterator {
         let entries = &self.bytes[self.directory.start..][..ENTRY * self.directory.count];
-        entries.chunks_exact(ENTRY).map(|entry| &entry[NAME..])
+        entries.chunks_exact(ENTRY).map(Entry::of)
+    }
+
+    /// The names of all entries in turn.
+    fn names(&self) -> impl DoubleEndedIterator<Item = &[u8]> + ExactSizeIterator {
+        self.entries().map(|entry| entry.name)
     }
 
     /// The last entry of a name.

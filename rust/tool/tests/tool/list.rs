@@ -1,6 +1,8 @@
 //! `list`.
 
+use crate::flat_json::{object, Value};
 use crate::support::{good, lumps, Folder};
+use generator::{any_plan, Rng};
 
 #[test]
 fn each_entry_is_a_line() {
@@ -29,4 +31,25 @@ fn the_largest_directory_is_listed() {
     let said = Folder::with("a.wad", &generator::directory_of(4096)).run(&["list", "a.wad"]);
     assert_eq!((said.status, said.out.lines().count()), (0, 4096));
     assert!(said.out.lines().last().is_some_and(|line| line.starts_with("4095  LUMP4095")), "{said:?}");
+}
+
+/// Entry number, offset and size of a listed row.
+fn row(line: &str) -> [Value; 3] {
+    let mut members = object(line);
+    let mut take = |key: &str| members.swap_remove(members.iter().position(|it| it.0 == key).expect("the key")).1;
+    ["entry", "offset", "size"].map(&mut take)
+}
+
+#[test]
+fn each_row_is_what_the_library_answers_for_the_entry() {
+    for seed in 0..40 {
+        let wad = any_plan(&mut Rng::new(seed)).0.wad();
+        let said = Folder::with("a.wad", &wad).run(&["list", "a.wad", "--json"]);
+        let count = meshpigeon::directory(&wad).expect("a good directory").count;
+        let answered = (0..count).map(|number| {
+            let (offset, size) = meshpigeon::entry(&wad, number).expect("an entry");
+            [number, offset, size].map(|it| Value::Number(it as i64))
+        });
+        assert_eq!((said.out.lines().map(row).collect::<Vec<_>>(), said.status), (answered.collect(), 0), "seed {seed}");
+    }
 }
