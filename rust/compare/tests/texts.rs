@@ -23,6 +23,13 @@ fn the_lump_is_named_where_a_place_is() {
 }
 
 #[test]
+fn the_record_has_a_size_where_the_lump_has_records() {
+    let size = |number, place| Refusal { number, place, record: 0 }.record_size();
+    assert_eq!((1..=8).map(|place| size(20, place)).collect::<Vec<_>>(), [10, 14, 30, 4, 12, 4, 28, 26].map(Some));
+    assert_eq!([size(12, 0), size(22, 9), size(28, 10), size(5, 0), size(7, 3)], [None; 5]);
+}
+
+#[test]
 fn the_whereabouts_are_lump_and_record() {
     let whereabouts = |number, place, record| Refusal { number, place, record }.whereabouts();
     assert_eq!(whereabouts(31, 7, 0).as_deref(), Some("NODES"));

@@ -32,6 +32,11 @@ impl Refusal {
         }
     }
 
+    /// Bytes of one record of the lump concerned, for the numbers that name a lump of records.
+    pub fn record_size(&self) -> Option<usize> {
+        self.lump().and(SIZES.get(self.place).copied()).filter(|&size| size > 0)
+    }
+
     /// Whether the record part has a meaning for this number.
     pub fn names_record(&self) -> bool {
         matches!(self.number, 5 | 6 | 23..=28 | 42 | 53 | 54)
@@ -91,7 +96,7 @@ impl Refusal {
 
     fn say_of_sizes(&self, out: &mut fmt::Formatter<'_>) -> fmt::Result {
         let lump = self.lump().unwrap_or("a lump");
-        let size = SIZES.get(self.place).unwrap_or(&0);
+        let size = self.record_size().unwrap_or_default();
         match (self.number, self.place) {
             (20, _) => write!(out, "{lump} is cut off inside a record: its size must be a multiple of {size} bytes"),
             (21, 1) => write!(out, "there are too many things: a map has 0 to 65,535"),

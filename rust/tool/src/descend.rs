@@ -21,7 +21,11 @@ pub fn run(file: &OsStr, map: &OsStr, point: (i16, i16), report: &mut Report) {
     let (file, name) = (file.to_string_lossy(), name::text(&map));
     match find(&wad, &map, point) {
         Err(refusal) => {
-            report.verdict(&Verdict { file: file.to_string(), subject: Subject::Map(name), outcome: Outcome::Refused(refusal) });
+            report.verdict(&Verdict {
+                file: file.to_string(),
+                subject: Subject::Map(name),
+                outcome: Outcome::Refused(refusal, None),
+            });
         }
         Ok(found) => report.answer(|| line(&file, &name, point, found), || json(&file, &name, point, found)),
     }

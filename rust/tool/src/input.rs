@@ -1,12 +1,14 @@
 //! Files and standard input, never more of them than the largest WAD file and one byte.
 
+use crate::found::Found;
 use meshpigeon::Refusal;
 use std::ffi::OsStr;
 use std::fs::File;
 use std::io::{self, Read};
 
-/// The largest WAD file there may be.
-const MOST_BYTES: u64 = 16_777_216;
+/// The smallest and the largest WAD file there may be.
+pub const LEAST_BYTES: u64 = 12;
+pub const MOST_BYTES: u64 = 16_777_216;
 
 /// The refusal of a file by its length.
 const TOO_LONG: Refusal = Refusal { number: 1, place: 0, record: 0 };
@@ -16,8 +18,8 @@ const TOO_LONG: Refusal = Refusal { number: 1, place: 0, record: 0 };
 pub enum Fault {
     /// The file could not be read.
     Unread(io::Error),
-    /// The file is refused as a whole.
-    Refused(Refusal),
+    /// The file is refused as a whole, with what was found.
+    Refused(Refusal, Option<Found>),
 }
 
 /// All bytes of a file, or of standard input for `-`. A file that its length alone refuses is not read.
@@ -28,7 +30,7 @@ pub fn read(file: &OsStr) -> Result<Vec<u8>, Fault> {
     let opened = File::open(file).map_err(Fault::Unread)?;
     let about = opened.metadata().map_err(Fault::Unread)?;
     if about.is_file() && about.len() > MOST_BYTES {
-        return Err(Fault::Refused(TOO_LONG));
+        return Err(Fault::Refused(TOO_LONG, Some(Found::Length(about.len()))));
     }
     most_of(opened).map_err(Fault::Unread)
 }

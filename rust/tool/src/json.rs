@@ -29,6 +29,11 @@ impl Object {
         self.member(key, value.into().map(|count| count.to_string()))
     }
 
+    /// An object, or null.
+    pub fn object(self, key: &str, value: Option<Object>) -> Self {
+        self.member(key, value.map(Object::close))
+    }
+
     fn member(mut self, key: &str, value: Option<String>) -> Self {
         let value = value.unwrap_or_else(|| "null".to_string());
         self.members.push(format!("{}:{value}", quoted(key)));
@@ -73,5 +78,11 @@ mod tests {
         let object = Object::new().number("z", -1).count("a", 2).count("m", None);
         assert_eq!(object.close(), r#"{"z":-1,"a":2,"m":null}"#);
         assert_eq!(Object::new().close(), "{}");
+    }
+
+    #[test]
+    fn an_object_may_hold_another() {
+        let object = Object::new().object("in", Some(Object::new().count("a", 1))).object("none", None);
+        assert_eq!(object.close(), r#"{"in":{"a":1},"none":null}"#);
     }
 }

@@ -1,5 +1,6 @@
 //! `judge`: one verdict for each map.
 
+use crate::found::Found;
 use crate::name;
 use crate::report::Report;
 use crate::verdict::{Outcome, Subject, Verdict};
@@ -32,18 +33,18 @@ fn judge_file(file: &OsStr, wad: &Wad, asked: &[Vec<u8>], words: &mut [u16], rep
         report.verdict(&Verdict { file: file.to_string(), subject: Subject::File, outcome: Outcome::NoMap });
     }
     for map in maps {
-        let outcome = outcome_of(wad, meshpigeon::judge_map_with(wad.bytes(), &map, words));
+        let outcome = outcome_of(wad, &map, meshpigeon::judge_map_with(wad.bytes(), &map, words));
         report.verdict(&Verdict { file: file.to_string(), subject: Subject::Map(name::text(&map)), outcome });
     }
 }
 
-fn outcome_of(wad: &Wad, judged: Result<Accepted, Refusal>) -> Outcome {
+fn outcome_of(wad: &Wad, map: &[u8], judged: Result<Accepted, Refusal>) -> Outcome {
     match judged {
         Ok(accepted) => {
             let nodes = wad.lump(accepted.marker + Node::PLACE).len() / Node::SIZE;
             let subsectors = wad.lump(accepted.marker + Subsector::PLACE).len() / Subsector::SIZE;
             Outcome::Accepted(accepted, nodes, subsectors)
         }
-        Err(refusal) => Outcome::Refused(refusal),
+        Err(refusal) => Outcome::Refused(refusal, Found::in_map(refusal, wad, map)),
     }
 }

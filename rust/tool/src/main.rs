@@ -8,6 +8,7 @@
 
 mod args;
 mod descend;
+mod found;
 mod input;
 mod json;
 mod judge;

@@ -1,5 +1,6 @@
 //! `picture`: a picture lump as PNG.
 
+use crate::found::Found;
 use crate::json::Object;
 use crate::name::{self, shown};
 use crate::png;
@@ -32,9 +33,11 @@ pub fn run(file: &OsStr, lump: &OsStr, output: &OsStr, report: &mut Report) {
     };
     let (mut colour, mut cover) = (vec![0; MOST_PIXELS], vec![0; MOST_PIXELS]);
     let (file, name) = (file.to_string_lossy(), name::text(&name));
-    match meshpigeon::paint_picture(wad.lump(number), &mut colour, &mut cover) {
+    let lump = wad.lump(number);
+    match meshpigeon::paint_picture(lump, &mut colour, &mut cover) {
         Err(refusal) => {
-            report.verdict(&Verdict { file: file.to_string(), subject: Subject::Lump(name), outcome: Outcome::Refused(refusal) });
+            let outcome = Outcome::Refused(refusal, Found::in_picture(refusal, lump));
+            report.verdict(&Verdict { file: file.to_string(), subject: Subject::Lump(name), outcome });
         }
         Ok(picture) => {
             let pixels = pixels(&colour, &cover, &palette(&wad));

@@ -64,9 +64,9 @@ impl Report {
                 self.tally.files_unread += 1;
                 self.trouble(file, &error.to_string());
             }
-            Fault::Refused(refusal) => {
+            Fault::Refused(refusal, found) => {
                 let file = file.to_string_lossy().into_owned();
-                self.verdict(&Verdict { file, subject: Subject::File, outcome: Outcome::Refused(refusal) });
+                self.verdict(&Verdict { file, subject: Subject::File, outcome: Outcome::Refused(refusal, found) });
             }
         }
     }
@@ -127,8 +127,8 @@ impl Report {
     fn count(&mut self, verdict: &Verdict) {
         match (&verdict.outcome, &verdict.subject) {
             (Outcome::Accepted(..), _) => self.tally.maps_accepted += 1,
-            (Outcome::Refused(_), Subject::File) => self.tally.files_refused += 1,
-            (Outcome::Refused(_), _) => self.tally.maps_refused += 1,
+            (Outcome::Refused(..), Subject::File) => self.tally.files_refused += 1,
+            (Outcome::Refused(..), _) => self.tally.maps_refused += 1,
             (Outcome::NoMap, _) => self.tally.files_without += 1,
         }
         if verdict.is_refusal() {

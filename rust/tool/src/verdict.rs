@@ -1,5 +1,6 @@
 //! A verdict on a map, a picture or a whole file, as a line of text and as a JSON object.
 
+use crate::found::Found;
 use crate::json::Object;
 use crate::name::shown;
 use meshpigeon::{Accepted, Refusal};
@@ -28,8 +29,8 @@ pub enum Subject {
 pub enum Outcome {
     /// A good map, with its counts of nodes and subsectors.
     Accepted(Accepted, usize, usize),
-    /// A refusal.
-    Refused(Refusal),
+    /// A refusal, and what was found where it is about a number.
+    Refused(Refusal, Option<Found>),
     /// The file is good and has no map.
     NoMap,
 }
@@ -42,17 +43,17 @@ pub fn counted(count: usize, thing: &str) -> String {
 impl Verdict {
     /// Whether it is a refusal.
     pub fn is_refusal(&self) -> bool {
-        matches!(self.outcome, Outcome::Refused(_))
+        matches!(self.outcome, Outcome::Refused(..))
     }
 
     /// The verdict on one line, coloured for a terminal if wished.
     pub fn line(&self, colour: bool) -> String {
         let outcome = match &self.outcome {
             Outcome::Accepted(..) => self.text().replacen("accepted", &painted("accepted", 32, colour), 1),
-            Outcome::Refused(refusal) => {
+            Outcome::Refused(refusal, _) => {
                 let refused = painted(&format!("refused {}", refusal.number), 31, colour);
                 let at = refusal.whereabouts().map_or(String::new(), |place| format!(" at {place}"));
-                format!("{refused}{at}: {refusal}")
+                format!("{refused}{at}: {}", self.text())
             }
             Outcome::NoMap => self.text(),
         };
@@ -66,10 +67,10 @@ impl Verdict {
             Subject::Map(name) => (Some(name.as_str()), None),
             Subject::Lump(name) => (None, Some(name.as_str())),
         };
-        let (refusal, accepted) = match &self.outcome {
-            Outcome::Accepted(accepted, ..) => (None, Some(accepted)),
-            Outcome::Refused(refusal) => (Some(refusal), None),
-            Outcome::NoMap => (None, None),
+        let (refusal, found, accepted) = match &self.outcome {
+            Outcome::Accepted(accepted, ..) => (None, None, Some(accepted)),
+            Outcome::Refused(refusal, found) => (Some(refusal), *found, None),
+            Outcome::NoMap => (None, None, None),
         };
         let named = refusal.and_then(Refusal::lump);
         Object::new()
@@ -79,6 +80,7 @@ impl Verdict {
             .count("place", refusal.filter(|_| named.is_some()).map(|it| it.place))
             .text("lump", named.or(lump))
             .count("record", refusal.filter(|it| it.names_record()).map(|it| it.record))
+            .object("found", found.map(Found::json))
             .count("depth", accepted.map(|it| it.depth))
             .count("marker", accepted.map(|it| it.marker))
             .text("text", self.text().as_str())
@@ -100,7 +102,8 @@ impl Verdict {
                 let (nodes, subsectors) = (counted(*nodes, "node"), counted(*subsectors, "subsector"));
                 format!("accepted, depth {}, {nodes}, {subsectors}", accepted.depth)
             }
-            Outcome::Refused(refusal) => refusal.to_string(),
+            Outcome::Refused(refusal, None) => refusal.to_string(),
+            Outcome::Refused(refusal, Some(found)) => format!("{refusal}; {found}"),
             Outcome::NoMap => "no map".to_string(),
         }
     }
@@ -120,7 +123,7 @@ mod tests {
 
     fn refused(number: u32, place: usize, record: usize, subject: Subject) -> Verdict {
         let refusal = Refusal { number, place, record };
-        Verdict { file: "a.wad".into(), subject, outcome: Outcome::Refused(refusal) }
+        Verdict { file: "a.wad".into(), subject, outcome: Outcome::Refused(refusal, None) }
     }
 
     #[test]

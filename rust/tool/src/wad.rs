@@ -1,5 +1,6 @@
 //! A file whose directory the library accepted, and the entries in it.
 
+use crate::found::Found;
 use crate::input::{self, Fault};
 use meshpigeon::Directory;
 use std::ffi::OsStr;
@@ -47,8 +48,10 @@ impl Wad {
     /// Reads a file and has its directory judged.
     pub fn open(file: &OsStr) -> Result<Self, Fault> {
         let bytes = input::read(file)?;
-        let directory = meshpigeon::directory(&bytes).map_err(Fault::Refused)?;
-        Ok(Self { bytes, directory })
+        match meshpigeon::directory(&bytes) {
+            Ok(directory) => Ok(Self { bytes, directory }),
+            Err(refusal) => Err(Fault::Refused(refusal, Found::in_file(refusal, &bytes))),
+        }
     }
 
     /// The whole file.

@@ -1,11 +1,11 @@
 //! `--json`.
 
-use crate::flat_json::{object, Value};
+use crate::json_reader::{object, Value};
 use crate::support::{changed, good, lumps, Folder, Said};
 use generator::{rooms, PictureSpec, Plan, MAP_NAME};
 use std::ffi::OsStr;
 
-const KEYS: [&str; 9] = ["file", "map", "number", "place", "lump", "record", "depth", "marker", "text"];
+const KEYS: [&str; 10] = ["file", "map", "number", "place", "lump", "record", "found", "depth", "marker", "text"];
 
 /// The values of a verdict by its keys; its text is left out, but not empty.
 fn verdict(line: &str) -> Vec<Value> {
@@ -31,7 +31,7 @@ fn an_accepted_map_has_depth_and_marker() {
     let mut plan = Plan::new(rooms(), MAP_NAME);
     plan.entries.insert(0, generator::EntryPlan::empty(*b"OTHER\0\0\0"));
     let said = Folder::with("a.wad", &plan.wad()).run(&["judge", "a.wad", "--json"]);
-    let expected = vec![text("a.wad"), text("MAP01"), Number(0), Null, Null, Null, Number(2), Number(1)];
+    let expected = vec![text("a.wad"), text("MAP01"), Number(0), Null, Null, Null, Null, Number(2), Number(1)];
     assert_eq!((verdicts(&said), said.status), (vec![expected], 0));
 }
 
@@ -43,19 +43,20 @@ fn a_refusal_has_place_lump_and_record_where_they_mean_something() {
         .and("none.wad", &lumps(&[]));
     let said = folder.run(&["judge", "--json", "loop.wad", "seg.wad", "name.wad", "none.wad"]);
     let expected = vec![
-        vec![text("loop.wad"), text("MAP01"), Number(31), Number(7), text("NODES"), Null, Null, Null],
-        vec![text("seg.wad"), text("MAP01"), Number(25), Number(5), text("SEGS"), Number(0), Null, Null],
-        vec![text("name.wad"), Null, Number(6), Null, Null, Number(1), Null, Null],
-        vec![text("none.wad"), Null, Null, Null, Null, Null, Null, Null],
+        vec![text("loop.wad"), text("MAP01"), Number(31), Number(7), text("NODES"), Null, Null, Null, Null],
+        vec![text("seg.wad"), text("MAP01"), Number(25), Number(5), text("SEGS"), Number(0), Null, Null, Null],
+        vec![text("name.wad"), Null, Number(6), Null, Null, Number(1), Null, Null, Null],
+        vec![text("none.wad"), Null, Null, Null, Null, Null, Null, Null, Null],
     ];
     assert_eq!((verdicts(&said), said.status), (expected, 1));
 }
 
 #[test]
 fn quiet_leaves_the_refusals() {
-    let folder = Folder::with("a.wad", &good()).and("b.wad", &changed(|map| map.reject.push(0)));
+    let folder = Folder::with("a.wad", &good()).and("b.wad", &changed(|map| map.segs[0].linedef = 99));
     let said = folder.run(&["judge", "--json", "--quiet", "a.wad", "b.wad"]);
-    assert_eq!(verdicts(&said), [vec![text("b.wad"), text("MAP01"), Number(22), Number(9), text("REJECT"), Null, Null, Null]]);
+    let expected = vec![text("b.wad"), text("MAP01"), Number(25), Number(5), text("SEGS"), Number(0), Null, Null, Null];
+    assert_eq!(verdicts(&said), [expected]);
 }
 
 #[test]
@@ -64,7 +65,7 @@ fn a_refused_picture_is_the_lump() {
     picture.offsets[2] = 0;
     let folder = Folder::with("a.wad", &lumps(&[(b"BAD\0\0\0\0\0", picture.encode())]));
     let said = folder.run(&["picture", "a.wad", "BAD", "-o", "out.png", "--json"]);
-    assert_eq!(verdicts(&said), [vec![text("a.wad"), Null, Number(53), Null, text("BAD"), Number(2), Null, Null]]);
+    assert_eq!(verdicts(&said), [vec![text("a.wad"), Null, Number(53), Null, text("BAD"), Number(2), Null, Null, Null]]);
 }
 
 #[test]

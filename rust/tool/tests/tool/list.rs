@@ -1,6 +1,6 @@
 //! `list`.
 
-use crate::flat_json::{object, Value};
+use crate::json_reader::{object, Value};
 use crate::support::{good, lumps, Folder};
 use generator::{any_plan, Rng};
 

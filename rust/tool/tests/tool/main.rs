@@ -2,9 +2,10 @@
 #![forbid(unsafe_code)]
 
 mod descend;
-mod flat_json;
+mod found;
 mod input;
 mod json;
+mod json_reader;
 mod judge;
 mod list;
 mod picture;

@@ -1,4 +1,4 @@
-//! A small reader of JSON objects without objects in them.
+//! A small reader of JSON objects: numbers, strings, null, and objects in them.
 
 /// A member's value.
 #[derive(Debug, PartialEq)]
@@ -6,33 +6,48 @@ pub enum Value {
     Null,
     Number(i64),
     Text(String),
+    Object(Members),
 }
 
+/// Keys and values in order.
+pub type Members = Vec<(String, Value)>;
+
 /// The members of an object in order; panics at anything that is no such object.
-pub fn object(line: &str) -> Vec<(String, Value)> {
-    let mut rest = line.strip_prefix('{').expect("an object").strip_suffix('}').expect("its end").chars().peekable();
+pub fn object(line: &str) -> Members {
+    let mut rest = line.chars().peekable();
+    assert_eq!(rest.next(), Some('{'));
+    let members = members(&mut rest);
+    assert_eq!(rest.next(), None);
+    members
+}
+
+type Rest<'a> = std::iter::Peekable<std::str::Chars<'a>>;
+
+/// One member or more, up to the closing brace.
+fn members(rest: &mut Rest) -> Members {
     let mut members = Vec::new();
     loop {
         assert_eq!(rest.next(), Some('"'));
-        let key = string(&mut rest);
+        let key = string(rest);
         assert_eq!(rest.next(), Some(':'));
-        members.push((key, value(&mut rest)));
+        members.push((key, value(rest)));
         match rest.next() {
             Some(',') => {}
-            None => return members,
+            Some('}') => return members,
             other => panic!("{other:?} between members"),
         }
     }
 }
 
-type Rest<'a> = std::iter::Peekable<std::str::Chars<'a>>;
-
 fn value(rest: &mut Rest) -> Value {
     if rest.next_if_eq(&'"').is_some() {
         return Value::Text(string(rest));
     }
+    if rest.next_if_eq(&'{').is_some() {
+        return Value::Object(members(rest));
+    }
     let mut word = String::new();
-    while let Some(it) = rest.next_if(|it| *it != ',') {
+    while let Some(it) = rest.next_if(|it| !matches!(it, ',' | '}')) {
         word.push(it);
     }
     match word.as_str() {
