@@ -13,6 +13,9 @@ const UNREAD: u8 = 2;
 /// The command line was not understood.
 pub const BAD_USAGE: u8 = 3;
 
+/// The refusal of a map that was asked for by a name that no entry has: it counts as a refusal, but nothing was judged.
+const NOT_THERE: u32 = 11;
+
 /// Says something on standard error, if it is open.
 pub fn complain(words: &str) {
     let _ = writeln!(io::stderr(), "meshpigeon: {words}");
@@ -34,6 +37,7 @@ pub struct Report {
 struct Tally {
     maps_accepted: usize,
     maps_refused: usize,
+    maps_absent: usize,
     files_refused: usize,
     files_without: usize,
     files_unread: usize,
@@ -106,7 +110,7 @@ impl Report {
 
     /// One line over all, where there were several files or maps.
     pub fn summary(&mut self, files: usize) {
-        let maps = self.tally.maps_accepted + self.tally.maps_refused;
+        let maps = self.tally.maps_accepted + self.tally.maps_refused + self.tally.maps_absent;
         if !self.json && !self.quiet && (files > 1 || maps > 1) {
             self.text(&format!("{}: {}", counted(files, "file"), self.tally.words()));
         }
@@ -128,6 +132,7 @@ impl Report {
         match (&verdict.outcome, &verdict.subject) {
             (Outcome::Accepted(..), _) => self.tally.maps_accepted += 1,
             (Outcome::Refused(..), Subject::File) => self.tally.files_refused += 1,
+            (Outcome::Refused(refusal, _), _) if refusal.number == NOT_THERE => self.tally.maps_absent += 1,
             (Outcome::Refused(..), _) => self.tally.maps_refused += 1,
             (Outcome::NoMap, _) => self.tally.files_without += 1,
         }
@@ -142,6 +147,7 @@ impl Tally {
         let parts = [
             (self.maps_accepted, "map", "accepted"),
             (self.maps_refused, "map", "refused"),
+            (self.maps_absent, "map", "not there"),
             (self.files_refused, "file", "refused"),
             (self.files_without, "file", "without a map"),
             (self.files_unread, "file", "not read"),

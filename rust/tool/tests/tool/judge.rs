@@ -89,6 +89,23 @@ fn a_map_that_is_not_there_is_refused() {
 }
 
 #[test]
+fn a_map_that_is_not_there_is_counted_apart() {
+    let folder = Folder::with("both.wad", &maps(&[b"MAP01\0\0\0", b"MAP02\0\0\0"]))
+        .and("one.wad", &good())
+        .and("none.wad", &lumps(&[]))
+        .and("bad.wad", &changed(|map| map.nodes[1].right = 2));
+    let absent = |file, map| format!("{file}:{map}: refused 11: the file has no map of that name");
+    let said = folder.run(&["judge", "--map", "MAP02", "both.wad", "one.wad", "none.wad"]);
+    let lines = [format!("both.wad:MAP02: {GOOD}"), absent("one.wad", "MAP02"), absent("none.wad", "MAP02")];
+    said.is(1, &[&lines[0], &lines[1], &lines[2], "3 files: 1 map accepted, 2 maps not there"]);
+    let said = folder.run(&["judge", "--map", "MAP01", "bad.wad", "none.wad"]);
+    assert!(said.out.ends_with("\n2 files: 1 map refused, 1 map not there\n"), "{said:?}");
+    assert_eq!(said.status, 1);
+    let said = folder.run(&["judge", "one.wad", "--map", "MAP02", "--map", "MAP03"]);
+    said.is(1, &[&absent("one.wad", "MAP02"), &absent("one.wad", "MAP03"), "1 file: 2 maps not there"]);
+}
+
+#[test]
 fn a_file_without_a_map_is_said_so_and_not_refused() {
     let folder = Folder::with("a.wad", &lumps(&[(b"THINGS\0\0", vec![1])])).and("b.wad", &lumps(&[]));
     folder.run(&["judge", "a.wad"]).is(0, &["a.wad: no map"]);
