@@ -1,6 +1,6 @@
 //! Files and standard input, never more of them than the largest WAD file and one byte.
 
-use crate::found::Found;
+use crate::finding::Finding;
 use meshpigeon::Refusal;
 use std::ffi::OsStr;
 use std::fs::File;
@@ -19,7 +19,7 @@ pub enum Fault {
     /// The file could not be read.
     Unread(io::Error),
     /// The file is refused as a whole, with what was found.
-    Refused(Refusal, Option<Found>),
+    Refused(Refusal, Option<Finding>),
 }
 
 /// All bytes of a file, or of standard input for `-`. A file that its length alone refuses is not read.
@@ -30,7 +30,7 @@ pub fn read(file: &OsStr) -> Result<Vec<u8>, Fault> {
     let opened = File::open(file).map_err(Fault::Unread)?;
     let about = opened.metadata().map_err(Fault::Unread)?;
     if about.is_file() && about.len() > MOST_BYTES {
-        return Err(Fault::Refused(TOO_LONG, Some(Found::Length(about.len()))));
+        return Err(Fault::Refused(TOO_LONG, Some(Finding::Length(about.len()))));
     }
     most_of(opened).map_err(Fault::Unread)
 }

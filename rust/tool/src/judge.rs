@@ -1,6 +1,6 @@
 //! `judge`: one verdict for each map.
 
-use crate::found::Found;
+use crate::finding::Finding;
 use crate::name;
 use crate::report::Report;
 use crate::verdict::{Outcome, Subject, Verdict};
@@ -45,6 +45,6 @@ fn outcome_of(wad: &Wad, map: &[u8], judged: Result<Accepted, Refusal>) -> Outco
             let subsectors = wad.lump(accepted.marker + Subsector::PLACE).len() / Subsector::SIZE;
             Outcome::Accepted(accepted, nodes, subsectors)
         }
-        Err(refusal) => Outcome::Refused(refusal, Found::in_map(refusal, wad, map)),
+        Err(refusal) => Outcome::Refused(refusal, Finding::in_map(refusal, wad, map)),
     }
 }

@@ -8,7 +8,7 @@
 
 mod args;
 mod descend;
-mod found;
+mod finding;
 mod input;
 mod json;
 mod judge;

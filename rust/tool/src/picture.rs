@@ -1,6 +1,6 @@
 //! `picture`: a picture lump as PNG.
 
-use crate::found::Found;
+use crate::finding::Finding;
 use crate::json::Object;
 use crate::name::{self, shown};
 use crate::png;
@@ -36,7 +36,7 @@ pub fn run(file: &OsStr, lump: &OsStr, output: &OsStr, report: &mut Report) {
     let lump = wad.lump(number);
     match meshpigeon::paint_picture(lump, &mut colour, &mut cover) {
         Err(refusal) => {
-            let outcome = Outcome::Refused(refusal, Found::in_picture(refusal, lump));
+            let outcome = Outcome::Refused(refusal, Finding::in_picture(refusal, lump));
             report.verdict(&Verdict { file: file.to_string(), subject: Subject::Lump(name), outcome });
         }
         Ok(picture) => {

@@ -1,6 +1,6 @@
 //! A verdict on a map, a picture or a whole file, as a line of text and as a JSON object.
 
-use crate::found::Found;
+use crate::finding::Finding;
 use crate::json::Object;
 use crate::name::shown;
 use meshpigeon::{Accepted, Refusal};
@@ -30,7 +30,7 @@ pub enum Outcome {
     /// A good map, with its counts of nodes and subsectors.
     Accepted(Accepted, usize, usize),
     /// A refusal, and what was found where it is about a number.
-    Refused(Refusal, Option<Found>),
+    Refused(Refusal, Option<Finding>),
     /// The file is good and has no map.
     NoMap,
 }
@@ -80,7 +80,7 @@ impl Verdict {
             .count("place", refusal.filter(|_| named.is_some()).map(|it| it.place))
             .text("lump", named.or(lump))
             .count("record", refusal.filter(|it| it.names_record()).map(|it| it.record))
-            .object("found", found.map(Found::json))
+            .object("found", found.map(Finding::json))
             .count("depth", accepted.map(|it| it.depth))
             .count("marker", accepted.map(|it| it.marker))
             .text("text", self.text().as_str())

@@ -1,6 +1,6 @@
 //! A file whose directory the library accepted, and the entries in it.
 
-use crate::found::Found;
+use crate::finding::Finding;
 use crate::input::{self, Fault};
 use meshpigeon::Directory;
 use std::ffi::OsStr;
@@ -50,7 +50,7 @@ impl Wad {
         let bytes = input::read(file)?;
         match meshpigeon::directory(&bytes) {
             Ok(directory) => Ok(Self { bytes, directory }),
-            Err(refusal) => Err(Fault::Refused(refusal, Found::in_file(refusal, &bytes))),
+            Err(refusal) => Err(Fault::Refused(refusal, Finding::in_file(refusal, &bytes))),
         }
     }
 

@@ -17,7 +17,7 @@ const COUNT: usize = 4;
 
 /// What was found.
 #[derive(Clone, Copy, Debug, PartialEq, Eq)]
-pub enum Found {
+pub enum Finding {
     /// 1: the file's length in bytes.
     Length(u64),
     /// 1: a length above the most that is read, where the end was not seen.
@@ -36,8 +36,8 @@ pub enum Found {
     Picture(u16, u16),
 }
 
-impl Found {
-    /// What is wrong with a file by its length or its header: 1 and 3. Bytes past the most that a file may have are cut off.
+impl Finding {
+    /// What is wrong with a file by its length or its header: 1 and 3. No more than one byte past the most is ever read.
     pub fn in_file(refusal: Refusal, bytes: &[u8]) -> Option<Self> {
         match refusal.number {
             1 if bytes.len() as u64 > MOST_BYTES => Some(Self::MoreThan(MOST_BYTES)),
@@ -92,13 +92,13 @@ fn array_at<const N: usize>(bytes: &[u8], at: usize) -> Option<[u8; N]> {
     bytes.get(at..)?.first_chunk().copied()
 }
 
-/// Bytes of REJECT for so many sectors: a bit for each two of them.
+/// Bytes of REJECT for so many sectors: a bit for each ordered pair of them, rounded up to whole bytes.
 fn reject_size(sectors: usize) -> usize {
     (sectors * sectors).div_ceil(8)
 }
 
 /// A clause to stand behind the refusal's sentence, which ends with the rule.
-impl fmt::Display for Found {
+impl fmt::Display for Finding {
     fn fmt(&self, out: &mut fmt::Formatter<'_>) -> fmt::Result {
         match *self {
             Self::Length(length) => {
@@ -158,8 +158,8 @@ mod tests {
     #[test]
     fn numbers_without_a_count_find_nothing() {
         let refusal = |number| Refusal { number, place: 0, record: 0 };
-        assert_eq!(Found::in_file(refusal(2), b"hello, world"), None);
-        assert_eq!(Found::in_picture(refusal(50), b"short"), None);
-        assert_eq!(Found::in_file(refusal(3), b"PWAD"), None);
+        assert_eq!(Finding::in_file(refusal(2), b"hello, world"), None);
+        assert_eq!(Finding::in_picture(refusal(50), b"short"), None);
+        assert_eq!(Finding::in_file(refusal(3), b"PWAD"), None);
     }
 }
