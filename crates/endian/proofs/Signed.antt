@@ -55,14 +55,6 @@ signed-bits half (negsuc n) h =
     let back : half + half - suc (half + half - suc n) ≡ n = omega arith in
     signed-high half (half + half - suc n) high ∙ ap negsuc back
 
-mag-signed-by : (half n : ℕ) → n < half + half → (b : Bool) → ltb n half ≡ b
-    → mag (cond b (pos n) (negsuc (half + half - suc n))) < half
-mag-signed-by half n h true e = ltb-true n half e
-mag-signed-by half n h false e = let l : half ≤ n = ltb-false n half e in omega arith
-
-pub mag-signed : (half n : ℕ) → n < half + half → mag (signed half n) < half
-mag-signed half n h = mag-signed-by half n h (ltb n half) refl
-
 -- ---- what a signed number is where it is tested for a range
 
 between-by : (half n least most : ℕ) → most < half → (b : Bool) → ltb n half ≡ b

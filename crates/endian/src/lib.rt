@@ -34,7 +34,7 @@ pub fn u32_at(s: &[u8], at: usize) -> u32
 }
 
 // The signed number with the bits v. A cast of v itself would lose its top bit, so the upper half goes by the complement.
-pub fn signed16(v: u16) -> i16
+fn signed16(v: u16) -> i16
     ensures { λ r. ⌜ r ≡ signed 32768 v ⌝ }
 {
     if v < 32768 {
@@ -44,28 +44,11 @@ pub fn signed16(v: u16) -> i16
     }
 }
 
-pub fn signed32(v: u32) -> i32
-    ensures { λ r. ⌜ r ≡ signed 2147483648 v ⌝ }
-{
-    if v < 2147483648 {
-        v as i32
-    } else {
-        !((4294967295 - v) as i32)
-    }
-}
-
 pub fn i16_at(s: &[u8], at: usize) -> i16
     requires { ⌜ at + 1 < length (now s) ⌝ }
     ensures { λ r. ⌜ r ≡ i16At (now (s .entry)) at ⌝ }
 {
     signed16(u16_at(s, at))
-}
-
-pub fn i32_at(s: &[u8], at: usize) -> i32
-    requires { ⌜ at + 3 < length (now s) ⌝ }
-    ensures { λ r. ⌜ r ≡ i32At (now (s .entry)) at ⌝ }
-{
-    signed32(u32_at(s, at))
 }
 
 // A signed number of four bytes as a count: 0 where it is negative.
@@ -93,16 +76,6 @@ pub fn bits16(v: i16) -> u16
     if v < 0 { 65535 - (!v as u16) } else { v as u16 }
 }
 
-pub fn bits32(v: i32) -> u32
-    ensures { λ r. ⌜ r ≡ bitsOf 2147483648 v ⌝ }
-{
-    if v < 0 {
-        4294967295 - (!v as u32)
-    } else {
-        v as u32
-    }
-}
-
 pub fn put_u16(s: &mut [u8], at: usize, v: u16)
     requires { ⌜ at + 1 < length (now s) ⌝ }
     ensures { λ _. ⌜ now (s .exit) ≡ putU16 (now (s .entry)) at v ⌝ }
@@ -124,11 +97,4 @@ pub fn put_i16(s: &mut [u8], at: usize, v: i16)
     ensures { λ _. ⌜ now (s .exit) ≡ putU16 (now (s .entry)) at (bitsOf 32768 v) ⌝ }
 {
     put_u16(s, at, bits16(v));
-}
-
-pub fn put_i32(s: &mut [u8], at: usize, v: i32)
-    requires { ⌜ at + 3 < length (now s) ⌝ }
-    ensures { λ _. ⌜ now (s .exit) ≡ putU32 (now (s .entry)) at (bitsOf 2147483648 v) ⌝ }
-{
-    put_u32(s, at, bits32(v));
 }

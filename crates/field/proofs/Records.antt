@@ -4,8 +4,8 @@ use mathlib.Core.Bool.{Bool, true, false, cond}
 use mathlib.Core.Path.{_≡_, refl, ap, _∙_, sym}
 use mathlib.Core.List.{List, [], _∷_, _++_, append-assoc}
 use native.Mathlib.Omega.{arith}
-use native.Mathlib.Nat.{le-refl, le-of-eq, le-trans, mul-le-mul-left, mul-div-le, mul-suc, mul-comm, le-div-iff-mul-le, add-assoc}
-use borrow.Author.Tests.{ltb-true, lt-ltb}
+use native.Mathlib.Nat.{le-refl, le-of-eq, le-trans, mul-le-mul-left, mul-div-le, mul-suc, add-assoc}
+use borrow.Author.Tests.{ltb-true}
 use lib.Dec.{ltb}
 use lib.ListN.{length, getD, take, drop, length-drop, take-append-drop}
 use lib.Seq.{paste, length-paste, take-take, take-add, drop-paste, take-all, getD-take, getD-drop, length-take-le, drop-at, take-at}
@@ -28,11 +28,6 @@ module _ (lump : List ℕ) (size index : ℕ) where
 
   pub inside-fits : inside lump size index ≡ true → size * index + size ≤ length lump
   inside-fits e = fits-inside size index (length lump) (ltb-true index (length lump / size) e)
-
-  pub fits-is-inside : 0 < size → size * index + size ≤ length lump → inside lump size index ≡ true
-  fits-is-inside positive h =
-      let fit : suc index * size ≤ length lump = rw (mul-comm (suc index) size, mul-suc size index) h in
-      lt-ltb index (length lump / size) (le-div-iff-mul-le positive .1 fit)
 
   -- ---- a record's bytes in the lump
 

@@ -10,23 +10,19 @@ use Rattle.name.specs.Names.{sameName}
 use Rattle.wad.specs.Map.{findMarker}
 
 module _ (dir name : List ℕ) where
-  pub findMarker-none : findMarker dir name 0 ≡ NoMarker MapMissing
-  unfolding findMarker
-  findMarker-none = refl
-
-  step : (n : ℕ) → findMarker dir name (suc n) ≡ cond (sameName (entryName dir n) name) (Entry n) (findMarker dir name n)
-  unfolding findMarker
-  step n = refl
-
   -- entry `n` has the name
   pub findMarker-found : (n k : ℕ) {b : Bool} → k ≡ suc n → b ≡ sameName (entryName dir n) name → b ≡ true → findMarker dir name k ≡ Entry n
+  unfolding findMarker
   findMarker-found n k e q t =
-      ap (findMarker dir name) e ∙ step n
-      ∙ ap (λ (x : Bool). cond x (Entry n) (findMarker dir name n)) (sym q ∙ t)
+      ap (findMarker dir name) e ∙ ap (λ (x : Bool). cond x (Entry n) (findMarker dir name n)) (sym q ∙ t)
 
   -- it has not: the search goes on before it
   pub findMarker-on : (n k : ℕ) {b : Bool} → k ≡ suc n → b ≡ sameName (entryName dir n) name → b ≡ false
       → findMarker dir name k ≡ findMarker dir name n
+  unfolding findMarker
   findMarker-on n k e q t =
-      ap (findMarker dir name) e ∙ step n
-      ∙ ap (λ (x : Bool). cond x (Entry n) (findMarker dir name n)) (sym q ∙ t)
+      ap (findMarker dir name) e ∙ ap (λ (x : Bool). cond x (Entry n) (findMarker dir name n)) (sym q ∙ t)
+
+  pub findMarker-none : findMarker dir name 0 ≡ NoMarker MapMissing
+  unfolding findMarker
+  findMarker-none = refl
