@@ -1,8 +1,8 @@
 -- Which numbers the search for a map's marker gives: none above 11. Assumes nothing.
 use Prim.Native.Nat.{ℕ, zero, suc, _≤_}
-use mathlib.Core.Bool.{Bool, true, false, cond}
+use mathlib.Core.Bool.{Bool, true, false}
 use mathlib.Core.List.{List}
-use mathlib.Core.Path.{_≡_, ap}
+use mathlib.Core.Path.{_≡_, refl, ap, subst⁻¹}
 use native.Mathlib.Omega.{arith}
 use lib.ListN.{length}
 use Rattle.refusal.specs.declared.Refusal.{Refusal}
@@ -16,6 +16,7 @@ use Rattle.wad.specs.declared.map.Marker.the-variants.{Entry, Refused as
 use Rattle.wad.specs.Header.{lengthOk, markOk, entryCountOk, boundsOk, headOf, entryCount}
 use Rattle.wad.specs.Entries.{offsetAt, sizeAt, entryName, insideOk, entryCheck, directoryOf, directoryCheck}
 use Rattle.name.specs.Names.{nameOk, sameName, mapNameOk}
+use Rattle.wad.proofs.Search.{findMarker-found, findMarker-on, findMarker-none}
 use Rattle.wad.specs.Map.{findMarker, found, markerAnswer}
 
 -- no refusal of the search has a larger number
@@ -29,14 +30,18 @@ numberIn (NoMarker r) = numberOf r
 none-atMost : (s : Refusal) → numberOf s ≤ 11 → MarkerAtMost (NoMarker s)
 none-atMost s h r e = rw (ap numberIn e) at h
 
-cond-atMost : (b : Bool) (i : ℕ) (m : Marker) → MarkerAtMost m → MarkerAtMost (cond b (Entry i) m)
-cond-atMost true i m h r e = let z : _≡_ {A = ℕ} 0 1 = cc in absurd (omega arith)
-cond-atMost false i m h r e = h r e
+entry-atMost : (i : ℕ) → MarkerAtMost (Entry i)
+entry-atMost i r e = let z : _≡_ {A = ℕ} 0 1 = cc in absurd (omega arith)
 
-find-atMost : (dir name : List ℕ) (n : ℕ) → MarkerAtMost (findMarker dir name n)
-unfolding findMarker
-find-atMost dir name zero = none-atMost MapMissing (omega arith)
-find-atMost dir name (suc n) = cond-atMost (sameName (entryName dir n) name) n (findMarker dir name n) (find-atMost dir name n)
+module _ (dir name : List ℕ) where
+  find-by : (n : ℕ) (b : Bool) → sameName (entryName dir n) name ≡ b → MarkerAtMost (findMarker dir name n)
+      → MarkerAtMost (findMarker dir name (suc n))
+  find-by n true e h = subst⁻¹ MarkerAtMost (findMarker-found dir name n (suc n) refl refl e) (entry-atMost n)
+  find-by n false e h = subst⁻¹ MarkerAtMost (findMarker-on dir name n (suc n) refl refl e) h
+
+  find-atMost : (n : ℕ) → MarkerAtMost (findMarker dir name n)
+  find-atMost zero = subst⁻¹ MarkerAtMost (findMarker-none dir name) (none-atMost MapMissing (omega arith))
+  find-atMost (suc n) = find-by n (sameName (entryName dir n) name) refl (find-atMost n)
 
 found-atMost : (c : Check) (m : Marker) → AtMost 11 c → MarkerAtMost m → MarkerAtMost (found c m)
 found-atMost Pass m h k = k
