@@ -14,10 +14,10 @@ use Rattle.refusal.specs.declared.Check.the-variants.{Pass, Refused}
 use Rattle.refusal.specs.Checks.{_andThen_}
 use Rattle.refusal.proofs.Checks.{both, unless-pass, andThen-pass}
 use Rattle.picture.specs.Layout.{areaOf}
-use Rattle.picture.specs.Judging.{headerCheck, columnsCheck, answerOf}
+use Rattle.picture.specs.Judging.{pictureHeaderCheck, columnsCheck, answerOf}
 use Rattle.picture.specs.declared.Picture.{Picture}
-use Rattle.picture.specs.declared.Judged.{Judged}
-use Rattle.picture.specs.declared.Judged.the-variants.{Accepted, Refused as NotAccepted}
+use Rattle.picture.specs.declared.PictureVerdict.{PictureVerdict}
+use Rattle.picture.specs.declared.PictureVerdict.the-variants.{Accepted, Refused as NotAccepted}
 use Rattle.picture.proofs.Checks.{Header, header-of}
 use Rattle.canvas.specs.Buffers.{roomCheck, paintCheck}
 use Rattle.canvas.specs.Pixels.{byColour, byCover, planeOf, bufferAfter, Painted}
@@ -32,7 +32,7 @@ pub record Good (lump : List ℕ) (colours covers : ℕ) : Type 0 where
 
 pub good-of : (lump : List ℕ) (colours covers : ℕ) → paintCheck lump colours covers ≡ Pass → Good lump colours covers
 good-of lump colours covers e =
-    let first = andThen-pass (headerCheck lump) (roomCheck lump colours covers andThen columnsCheck lump) e in
+    let first = andThen-pass (pictureHeaderCheck lump) (roomCheck lump colours covers andThen columnsCheck lump) e in
     let second = andThen-pass (roomCheck lump colours covers) (columnsCheck lump) (first .1) in
     let room = both (leb (areaOf lump) colours) (leb (areaOf lump) covers) (unless-pass _ PixelBuffer (second .0)) in
     record {
@@ -76,7 +76,7 @@ module _ (lump colour cover : List ℕ) where
         covered = ap (λ (k : Check). bufferAfter k (planeOf byCover lump) cover) (sym e);
       }
 
-  pub painted-passed : {answer : Judged} {colour' cover' : List ℕ} → paintCheck lump (length colour) (length cover) ≡ Pass
+  pub painted-passed : {answer : PictureVerdict} {colour' cover' : List ℕ} → paintCheck lump (length colour) (length cover) ≡ Pass
       → answer ≡ answerOf (paintCheck lump (length colour) (length cover)) lump
       → colour' ≡ bufferAfter Pass (planeOf byColour lump) colour
       → cover' ≡ bufferAfter Pass (planeOf byCover lump) cover

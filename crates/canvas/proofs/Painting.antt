@@ -10,7 +10,7 @@ use Rattle.refusal.specs.declared.Check.the-variants.{Pass}
 use Rattle.refusal.specs.declared.Refusal.the-variants.{PostBounds}
 use Rattle.refusal.specs.Checks.{unless, each}
 use Rattle.refusal.proofs.Checks.{andThen-pass, each-pass}
-use Rattle.picture.specs.Layout.{heightOf, tableEnd, offsetOf, startAt, lengthAt, postEnd, endRow, Skips, stay, step}
+use Rattle.picture.specs.Layout.{heightOf, tableEnd, columnOffset, startAt, lengthAt, postEnd, endRow, Skips, stay, step}
 use Rattle.picture.specs.Judging.{postsCheck, columnCheck}
 use Rattle.canvas.specs.Pixels.{byColour, byCover, overPost, overPosts, overColumn}
 use Rattle.canvas.specs.Strokes.{Stroke, Strokes}
@@ -101,15 +101,15 @@ module _ (lump : List ℕ) (from width column : ℕ) where
 
 -- a column of a picture that passed has posts that pass
 pub column-pass : (lump : List ℕ) (width height column at : ℕ) → each (columnCheck lump width height) width ≡ Pass
-    → column < width → at ≡ offsetOf lump column → postsCheck (length lump) lump height column at 0 ≡ Pass
+    → column < width → at ≡ columnOffset lump column → postsCheck (length lump) lump height column at 0 ≡ Pass
 column-pass lump width height column at e h q =
     let one = each-pass (columnCheck lump width height) width e column h in
-    let offset-part = unless (leb (tableEnd width) (offsetOf lump column)) (PostBounds column) in
-    rw q (andThen-pass offset-part (postsCheck (length lump) lump height column (offsetOf lump column) 0) one .1)
+    let offset-part = unless (leb (tableEnd width) (columnOffset lump column)) (PostBounds column) in
+    rw q (andThen-pass offset-part (postsCheck (length lump) lump height column (columnOffset lump column) 0) one .1)
 
 -- and once it is painted, one column more is done
 pub columns-more : (by : ℕ → ℕ) (lump : List ℕ) {area width at : ℕ} (column : ℕ) {a b c : List ℕ} → column < width
-    → at ≡ offsetOf lump column → Strokes area width column (overColumn by lump) a b
+    → at ≡ columnOffset lump column → Strokes area width column (overColumn by lump) a b
     → Stroke area width column (overPosts by (length lump) lump at) b c
     → Strokes area width (column + 1) (overColumn by lump) a c
 columns-more by lump {area} {width} column {a} {b} {c} h e s t =

@@ -7,7 +7,7 @@ use Rattle.refusal.specs.declared.Refusal.the-variants.{PixelBuffer}
 use Rattle.refusal.specs.declared.Check.{Check}
 use Rattle.refusal.specs.Checks.{unless, _andThen_}
 use Rattle.picture.specs.Layout.{areaOf}
-use Rattle.picture.specs.Judging.{headerCheck, columnsCheck}
+use Rattle.picture.specs.Judging.{pictureHeaderCheck, columnsCheck}
 
 -- 55: buffers of `colours` and `covers` bytes, each at least width × height
 abbrev pub roomCheck : List ℕ → ℕ → ℕ → Check
@@ -15,4 +15,5 @@ roomCheck lump colours covers = unless (leb (areaOf lump) colours && leb (areaOf
 
 -- a picture to be painted into buffers of `colours` and `covers` bytes
 abbrev pub paintCheck : List ℕ → ℕ → ℕ → Check
-paintCheck lump colours covers = headerCheck lump andThen roomCheck lump colours covers andThen columnsCheck lump
+paintCheck lump colours covers =
+    pictureHeaderCheck lump andThen roomCheck lump colours covers andThen columnsCheck lump

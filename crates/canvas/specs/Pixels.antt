@@ -7,8 +7,8 @@ use lib.Dec.{leb, ltb, eqb}
 use lib.ListN.{length, getD, drop}
 use Rattle.refusal.specs.declared.Check.{Check}
 use Rattle.refusal.specs.declared.Check.the-variants.{Pass, Refused}
-use Rattle.picture.specs.declared.Judged.{Judged}
-use Rattle.picture.specs.Layout.{widthOf, areaOf, offsetOf, startAt, endRow, postEnd}
+use Rattle.picture.specs.declared.PictureVerdict.{PictureVerdict}
+use Rattle.picture.specs.Layout.{widthOf, areaOf, columnOffset, startAt, endRow, postEnd}
 use Rattle.picture.specs.Judging.{answerOf}
 use Rattle.canvas.specs.Buffers.{paintCheck}
 
@@ -39,7 +39,7 @@ overPosts by (suc most) lump at row under =
 
 -- the same by the posts of `column`
 abbrev pub overColumn : (ℕ → ℕ) → List ℕ → ℕ → ℕ → ℕ → ℕ
-overColumn by lump column = overPosts by (length lump) lump (offsetOf lump column)
+overColumn by lump column = overPosts by (length lump) lump (columnOffset lump column)
 
 -- what a plane shows at `column` and `row`: 0 where the column's posts do not cover it
 abbrev pub shown : (ℕ → ℕ) → List ℕ → ℕ → ℕ → ℕ
@@ -61,7 +61,7 @@ bufferAfter Pass plane buffer = plane ++ drop (length plane) buffer
 bufferAfter (Refused r) plane buffer = buffer
 
 -- what painting into `colour` and `cover` answers, and what both hold afterwards
-pub record Painted (lump colour cover : List ℕ) (answer : Judged) (colour' cover' : List ℕ) : Type 0 where
+pub record Painted (lump colour cover : List ℕ) (answer : PictureVerdict) (colour' cover' : List ℕ) : Type 0 where
   -- the header, or the first refusal of 50, 51, 52, 55, 53 and 54
   pub answered : answer ≡ answerOf (paintCheck lump (length colour) (length cover)) lump
   -- each pixel's byte, or the buffer as it was

@@ -6,11 +6,11 @@ ghost use lib.ListN.{length, drop, replicate};
 ghost use Rattle.refusal.specs.declared.Check.the-variants.{Pass};
 ghost use Rattle.refusal.specs.Checks.{_andThen_, each};
 ghost use Rattle.picture.specs.Layout.{heightOf, postEnd, endRow};
-ghost use Rattle.picture.specs.Judging.{headerCheck, postsCheck, columnCheck};
+ghost use Rattle.picture.specs.Judging.{pictureHeaderCheck, postsCheck, columnCheck};
 ghost use Rattle.canvas.specs.Buffers.{roomCheck, paintCheck};
 ghost use Rattle.canvas.specs.Pixels.{Painted, byColour, byCover, overPost, overPosts, overColumn, planeOf, bufferAfter};
 ghost use Rattle.canvas.specs.Strokes.{Room, Stroke, Strokes};
-use picture::Judged;
+use picture::PictureVerdict;
 use picture::height_of;
 use picture::judge_header;
 use picture::skip_empty;
@@ -20,24 +20,24 @@ use refusal::Refusal;
 
 // Paints the picture into the first width × height bytes of both planes, row by row from the top: its colours, 0 where
 // nothing is painted, and its cover, 1 or 0. The numbers are 50 to 55. A refusal leaves both planes as they were.
-pub fn paint(lump: &[u8], colour: &mut [u8], cover: &mut [u8]) -> Judged
+pub fn paint(lump: &[u8], colour: &mut [u8], cover: &mut [u8]) -> PictureVerdict
     ensures { λ r. ⌜ Painted (now (lump .entry)) (now (colour .entry)) (now (cover .entry)) r (now (colour .exit)) (now (cover .exit)) ⌝ }
 {
     if let Check::Refused(r) = judge_room(lump, colour.len(), cover.len()) {
-        return Judged::Refused(r);
+        return PictureVerdict::Refused(r);
     }
     match picture::judge(lump) {
-        Judged::Refused(r) => Judged::Refused(r),
-        Judged::Accepted(picture) => {
+        PictureVerdict::Refused(r) => PictureVerdict::Refused(r),
+        PictureVerdict::Accepted(picture) => {
             paint_picture(lump, colour, cover);
-            Judged::Accepted(picture)
+            PictureVerdict::Accepted(picture)
         }
     }
 }
 
 // The header, and that the planes have enough bytes.
 fn judge_room(lump: &[u8], colours: usize, covers: usize) -> Check
-    ensures { λ r. ⌜ r ≡ headerCheck (now (lump .entry)) andThen roomCheck (now (lump .entry)) colours covers ⌝ }
+    ensures { λ r. ⌜ r ≡ pictureHeaderCheck (now (lump .entry)) andThen roomCheck (now (lump .entry)) colours covers ⌝ }
 {
     if let Check::Refused(r) = judge_header(lump) {
         return Check::Refused(r);

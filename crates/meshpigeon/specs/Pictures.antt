@@ -5,8 +5,8 @@ use mathlib.Core.Path.{_≡_}
 use lib.IntN.{pos}
 use lib.ListN.{length}
 use Rattle.picture.specs.declared.Picture.{Picture}
-use Rattle.picture.specs.declared.Judged.{Judged}
-use Rattle.picture.specs.declared.Judged.the-variants.{Accepted, Refused as NotAccepted}
+use Rattle.picture.specs.declared.PictureVerdict.{PictureVerdict}
+use Rattle.picture.specs.declared.PictureVerdict.the-variants.{Accepted, Refused as NotAccepted}
 use Rattle.picture.specs.Judging.{answerOf}
 use Rattle.canvas.specs.Buffers.{paintCheck}
 use Rattle.canvas.specs.Pixels.{planeOf, byColour, byCover, bufferAfter}
@@ -18,7 +18,7 @@ abbrev pub noPicture : Picture
 noPicture = record { width = 0; height = 0; left = pos 0; top = pos 0 }
 
 -- the header of an accepted picture
-abbrev pub pictureOut : Judged → PictureAnswer
+abbrev pub pictureOut : PictureVerdict → PictureAnswer
 pictureOut (Accepted picture) = record { status = accepted; picture = picture }
 pictureOut (NotAccepted r) = record { status = refused r; picture = noPicture }
 

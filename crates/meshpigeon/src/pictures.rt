@@ -1,12 +1,12 @@
 // Pictures.
 ghost use mathlib.Core.Path.{_≡_};
-ghost use Rattle.picture.specs.Judging.{judgeCheck, answerOf};
+ghost use Rattle.picture.specs.Judging.{pictureCheck, answerOf};
 ghost use Rattle.meshpigeon.specs.Pictures.{pictureOut, PicturePainted};
 use crate::status::Status;
 use crate::status::nothing_refused;
 use crate::status::refused;
-use picture::Judged;
 use picture::Picture;
+use picture::PictureVerdict;
 
 #[repr(C)]
 pub struct PictureAnswer {
@@ -14,15 +14,15 @@ pub struct PictureAnswer {
     pub picture: Picture,
 }
 
-fn answer(judged: Judged) -> PictureAnswer
-    ensures { λ r. ⌜ r ≡ pictureOut judged ⌝ }
+fn answer(verdict: PictureVerdict) -> PictureAnswer
+    ensures { λ r. ⌜ r ≡ pictureOut verdict ⌝ }
 {
-    match judged {
-        Judged::Accepted(picture) => PictureAnswer {
+    match verdict {
+        PictureVerdict::Accepted(picture) => PictureAnswer {
             status: nothing_refused(),
             picture,
         },
-        Judged::Refused(r) => PictureAnswer {
+        PictureVerdict::Refused(r) => PictureAnswer {
             status: refused(r),
             picture: Picture {
                 width: 0,
@@ -37,7 +37,7 @@ fn answer(judged: Judged) -> PictureAnswer
 // A picture judged, 50 to 54.
 #[no_mangle]
 pub extern "C" fn meshpigeon_judge_picture(lump: &[u8]) -> PictureAnswer
-    ensures { λ r. ⌜ r ≡ pictureOut (answerOf (judgeCheck (now (lump .entry))) (now (lump .entry))) ⌝ }
+    ensures { λ r. ⌜ r ≡ pictureOut (answerOf (pictureCheck (now (lump .entry))) (now (lump .entry))) ⌝ }
 {
     answer(picture::judge(lump))
 }

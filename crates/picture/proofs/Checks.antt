@@ -12,7 +12,7 @@ use Rattle.refusal.specs.declared.Check.the-variants.{Pass}
 use Rattle.refusal.specs.Checks.{unless, _andThen_}
 use Rattle.refusal.proofs.Checks.{both, unless-pass, andThen-pass}
 use Rattle.picture.specs.Layout.{widthOf, heightOf, areaOf, tableEnd}
-use Rattle.picture.specs.Judging.{sizeOk, headerCheck}
+use Rattle.picture.specs.Judging.{sizeOk, pictureHeaderCheck}
 
 pub record Header (lump : List ℕ) : Type 0 where
   pub long : 8 ≤ length lump
@@ -22,7 +22,7 @@ pub record Header (lump : List ℕ) : Type 0 where
   pub height : heightOf lump ≤ 200
   pub table : tableEnd (widthOf lump) ≤ length lump
 
-pub header-of : (lump : List ℕ) → headerCheck lump ≡ Pass → Header lump
+pub header-of : (lump : List ℕ) → pictureHeaderCheck lump ≡ Pass → Header lump
 header-of lump e =
     let length-part = unless (leb 8 (length lump)) PictureLength in
     let size-part = unless (sizeOk (widthOf lump) (heightOf lump)) PictureSize in

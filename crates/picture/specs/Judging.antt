@@ -9,17 +9,17 @@ use Rattle.refusal.specs.declared.Refusal.the-variants.{PictureLength, PictureS
 use Rattle.refusal.specs.declared.Check.{Check}
 use Rattle.refusal.specs.declared.Check.the-variants.{Pass, Refused}
 use Rattle.refusal.specs.Checks.{unless, _andThen_, each}
-use Rattle.picture.specs.declared.Judged.{Judged}
-use Rattle.picture.specs.declared.Judged.the-variants.{Accepted, Refused as NotAccepted}
-use Rattle.picture.specs.Layout.{widthOf, heightOf, pictureOf, tableEnd, offsetOf, startAt, endRow, postEnd}
+use Rattle.picture.specs.declared.PictureVerdict.{PictureVerdict}
+use Rattle.picture.specs.declared.PictureVerdict.the-variants.{Accepted, Refused as NotAccepted}
+use Rattle.picture.specs.Layout.{widthOf, heightOf, pictureOf, tableEnd, columnOffset, startAt, endRow, postEnd}
 
 -- width 1 to 320, height 1 to 200
 abbrev pub sizeOk : ℕ → ℕ → Bool
 sizeOk width height = (leb 1 width && leb width 320) && (leb 1 height && leb height 200)
 
 -- 50, 51 and 52
-abbrev pub headerCheck : List ℕ → Check
-headerCheck lump =
+abbrev pub pictureHeaderCheck : List ℕ → Check
+pictureHeaderCheck lump =
     unless (leb 8 (length lump)) PictureLength
     andThen unless (sizeOk (widthOf lump) (heightOf lump)) PictureSize
     andThen unless (leb (tableEnd (widthOf lump)) (length lump)) PictureOffsets
@@ -41,18 +41,18 @@ postsCheck (suc most) lump height column at row =
 -- 53 and 54 of one column: its offset, then its posts
 abbrev pub columnCheck : List ℕ → ℕ → ℕ → ℕ → Check
 columnCheck lump width height column =
-    unless (leb (tableEnd width) (offsetOf lump column)) (PostBounds column)
-    andThen postsCheck (length lump) lump height column (offsetOf lump column) 0
+    unless (leb (tableEnd width) (columnOffset lump column)) (PostBounds column)
+    andThen postsCheck (length lump) lump height column (columnOffset lump column) 0
 
 -- 53 and 54, columns left to right
 abbrev pub columnsCheck : List ℕ → Check
 columnsCheck lump = each (columnCheck lump (widthOf lump) (heightOf lump)) (widthOf lump)
 
 -- a picture as such
-abbrev pub judgeCheck : List ℕ → Check
-judgeCheck lump = headerCheck lump andThen columnsCheck lump
+abbrev pub pictureCheck : List ℕ → Check
+pictureCheck lump = pictureHeaderCheck lump andThen columnsCheck lump
 
 -- the answer: the header of a picture that passed, or the refusal
-abbrev pub answerOf : Check → List ℕ → Judged
+abbrev pub answerOf : Check → List ℕ → PictureVerdict
 answerOf Pass lump = Accepted (pictureOf lump)
 answerOf (Refused r) lump = NotAccepted r

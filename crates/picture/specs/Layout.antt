@@ -27,8 +27,8 @@ abbrev pub tableEnd : ℕ → ℕ
 tableEnd width = 8 + 4 * width
 
 -- where the posts of `column` begin, counted from the lump's start
-abbrev pub offsetOf : List ℕ → ℕ → ℕ
-offsetOf lump column = u32At lump (8 + 4 * column)
+abbrev pub columnOffset : List ℕ → ℕ → ℕ
+columnOffset lump column = u32At lump (8 + 4 * column)
 
 -- the start row of the post at `at`, or 255, which ends the column
 abbrev pub startAt : List ℕ → ℕ → ℕ

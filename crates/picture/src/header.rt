@@ -3,7 +3,7 @@ ghost use mathlib.Core.Path.{_≡_};
 ghost use Prim.Native.Nat.{_≤_, _<_};
 ghost use lib.ListN.{length};
 ghost use Rattle.picture.specs.Layout.{widthOf, heightOf, pictureOf};
-ghost use Rattle.picture.specs.Judging.{sizeOk, headerCheck};
+ghost use Rattle.picture.specs.Judging.{sizeOk, pictureHeaderCheck};
 use super::Picture;
 use refusal::Check;
 use refusal::Refusal;
@@ -41,7 +41,7 @@ fn size_ok(width: usize, height: usize) -> bool
 }
 
 pub fn judge_header(lump: &[u8]) -> Check
-    ensures { λ r. ⌜ r ≡ headerCheck (now (lump .entry)) ⌝ }
+    ensures { λ r. ⌜ r ≡ pictureHeaderCheck (now (lump .entry)) ⌝ }
 {
     if lump.len() < 8 {
         return Check::Refused(Refusal::PictureLength);

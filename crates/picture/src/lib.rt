@@ -1,6 +1,6 @@
 // Pictures: judged. The format and the order of the refusals are in specs/.
 ghost use mathlib.Core.Path.{_≡_};
-ghost use Rattle.picture.specs.Judging.{judgeCheck, answerOf};
+ghost use Rattle.picture.specs.Judging.{pictureCheck, answerOf};
 
 mod columns;
 mod header;
@@ -21,24 +21,24 @@ pub struct Picture {
     pub top: i16,
 }
 
-// What a lump was found to be.
-pub enum Judged {
+// What is answered of a lump: by the judge, and by the painter in the crate above.
+pub enum PictureVerdict {
     // a picture, by its header
     Accepted(Picture),
-    // no picture, or one that does not fit its planes: 50 to 55
+    // the first refusal: 50 to 54 by the judge, 50 to 55 by the painter
     Refused(Refusal),
 }
 
 // Whether the lump is a picture, with the numbers 50 to 54.
-pub fn judge(lump: &[u8]) -> Judged
-    ensures { λ r. ⌜ r ≡ answerOf (judgeCheck (now (lump .entry))) (now (lump .entry)) ⌝ }
+pub fn judge(lump: &[u8]) -> PictureVerdict
+    ensures { λ r. ⌜ r ≡ answerOf (pictureCheck (now (lump .entry))) (now (lump .entry)) ⌝ }
 {
     if let Check::Refused(r) = header::judge_header(lump) {
-        return Judged::Refused(r);
+        return PictureVerdict::Refused(r);
     }
     let picture = header::picture_of(lump);
     if let Check::Refused(r) = columns::judge_columns(lump, picture.width, picture.height) {
-        return Judged::Refused(r);
+        return PictureVerdict::Refused(r);
     }
-    Judged::Accepted(picture)
+    PictureVerdict::Accepted(picture)
 }

@@ -10,7 +10,7 @@ use Rattle.refusal.specs.declared.Check.the-variants.{Pass}
 use Rattle.refusal.specs.Checks.{unless}
 use Rattle.refusal.proofs.Checks.{refused-then, pass-then}
 use Rattle.picture.specs.Layout.{areaOf}
-use Rattle.picture.specs.Judging.{headerCheck}
+use Rattle.picture.specs.Judging.{pictureHeaderCheck}
 use Rattle.picture.proofs.Checks.{Header, header-of, area-small}
 use borrow.Author.Needs.{needs}
 use Rattle.canvas.proofs.judge_room.Statement.{statement}
@@ -19,7 +19,7 @@ use Rattle.canvas.proofs.judge_room.Tie as tie
 returns : tie.Need-returns
 returns c = refused-then _ (sym (c .before .before .before .judge-header .ensures) ∙ c .before .r .given .1)
 
-passed : (c : tie.After-enum-told) → headerCheck (now (c .before .before .before .before .args .lump)) ≡ Pass
+passed : (c : tie.After-enum-told) → pictureHeaderCheck (now (c .before .before .before .before .args .lump)) ≡ Pass
 passed c = sym (c .before .before .judge-header .ensures) ∙ c .enum-told .given .1
 
 header : (c : tie.After-enum-told) → Header (now (c .before .before .before .before .args .lump))

@@ -5,7 +5,7 @@ use denote.Ref.{now}
 use lib.ListN.{length}
 use Rattle.refusal.specs.declared.Check.{Check}
 use Rattle.refusal.specs.declared.Check.the-variants.{Pass}
-use Rattle.picture.specs.Judging.{headerCheck, columnsCheck, judgeCheck, answerOf}
+use Rattle.picture.specs.Judging.{pictureHeaderCheck, columnsCheck, pictureCheck, answerOf}
 use Rattle.canvas.specs.Buffers.{roomCheck, paintCheck}
 use Rattle.canvas.proofs.Checks.{room-refused, room-passed, answer-refused, answer-accepted, painted-refused, painted-passed}
 use borrow.Author.Needs.{needs}
@@ -23,21 +23,22 @@ returns : tie.Need-returns
 returns c =
     let s = c .before .before .before .before .before .before .before in
     painted-refused _ _ _
-    (room-refused (headerCheck (now (s .args .lump))) (room s) (columnsCheck (now (s .args .lump)))
+    (room-refused (pictureHeaderCheck (now (s .args .lump))) (room s) (columnsCheck (now (s .args .lump)))
     (sym (c .before .before .before .judge-room .ensures) ∙ c .before .r .given .1))
 
 -- once there is room, the judge's check is the whole
-judging : (c : tie.After-enum-told) → check (c .before .before .before .before .before .before) ≡ judgeCheck (now (c .before .before .before .before .before .before .args .lump))
+judging : (c : tie.After-enum-told)
+    → let s = c .before .before .before .before .before .before in check s ≡ pictureCheck (now (s .args .lump))
 judging c =
     let s = c .before .before .before .before .before .before in
-    room-passed (headerCheck (now (s .args .lump))) (room s) (columnsCheck (now (s .args .lump)))
+    room-passed (pictureHeaderCheck (now (s .args .lump))) (room s) (columnsCheck (now (s .args .lump)))
     (sym (c .before .before .judge-room .ensures) ∙ c .enum-told .given .1)
 
 passed : (c : tie.After-picture) → check (c .before .before .before .before .before .before .before .before .before) ≡ Pass
 passed c =
     let judged = c .before .before in
     let l = now (judged .before .before .before .before .before .before .before .args .lump) in
-    judging (judged .before) ∙ answer-accepted l (judgeCheck l) (sym (judged .judge .ensures) ∙ c .picture .given .1)
+    judging (judged .before) ∙ answer-accepted l (pictureCheck l) (sym (judged .judge .ensures) ∙ c .picture .given .1)
 
 paint-picture-requires : tie.Need-paint-picture-requires
 paint-picture-requires c κs = passed (c .before .before .before)
@@ -47,7 +48,7 @@ returns-2 c =
     let judged = c .before .before .before in
     let l = now (judged .before .before .before .before .before .before .before .args .lump) in
     painted-refused _ _ _
-    (judging (judged .before) ∙ answer-refused l (judgeCheck l) (sym (judged .judge .ensures) ∙ c .before .r2 .given .1))
+    (judging (judged .before) ∙ answer-refused l (pictureCheck l) (sym (judged .judge .ensures) ∙ c .before .r2 .given .1))
 
 returns-3 : tie.Need-returns-3
 returns-3 c =

@@ -8,9 +8,9 @@ use Rattle.refusal.specs.declared.Check.the-variants.{Pass}
 use Rattle.refusal.specs.Checks.{each}
 use Rattle.refusal.proofs.Checks.{refused-then, pass-then}
 use Rattle.picture.specs.declared.Picture.{Picture}
-use Rattle.picture.specs.declared.Judged.the-variants.{Accepted}
+use Rattle.picture.specs.declared.PictureVerdict.the-variants.{Accepted}
 use Rattle.picture.specs.Layout.{tableEnd}
-use Rattle.picture.specs.Judging.{headerCheck, columnsCheck, columnCheck, answerOf}
+use Rattle.picture.specs.Judging.{pictureHeaderCheck, columnsCheck, columnCheck, answerOf}
 use Rattle.picture.proofs.Checks.{Header, header-of}
 use native.Mathlib.Omega.{arith}
 use borrow.Author.Needs.{needs}
@@ -23,7 +23,7 @@ returns c =
     ap (λ (k : Check). answerOf k l) (refused-then (columnsCheck l) (sym (c .before .before .before .judge-header .ensures) ∙ c .before .r .given .1))
 
 -- the header has passed
-passed : (c : tie.After-enum-told) → headerCheck (now (c .before .before .before .before .args .lump)) ≡ Pass
+passed : (c : tie.After-enum-told) → pictureHeaderCheck (now (c .before .before .before .before .args .lump)) ≡ Pass
 passed c = sym (c .before .before .judge-header .ensures) ∙ c .enum-told .given .1
 
 header : (c : tie.After-enum-told) → Header (now (c .before .before .before .before .args .lump))

@@ -1,4 +1,4 @@
--- `meshpigeon::pictures::answer` meets its contract, by the judgement. Assumes nothing.
+-- `meshpigeon::pictures::answer` meets its contract, by the verdict. Assumes nothing.
 use mathlib.Core.Path.{sym, ap, _∙_}
 use Rattle.meshpigeon.specs.Pictures.{noPicture, pictureOut}
 use borrow.Author.Needs.{needs}
@@ -7,12 +7,12 @@ use Rattle.meshpigeon.proofs.pictures.answer.Tie as tie
 
 returns : tie.Need-returns
 returns c =
-    let g = c .before .before .judged .given in
+    let g = c .before .before .verdict .given in
     (λ i. record { status = c .nothing-refused .ensures i; picture = g .0 .0 }) ∙ ap pictureOut (sym (g .1))
 
 returns-2 : tie.Need-returns-2
 returns-2 c =
-    (λ i. record { status = c .refused .ensures i; picture = noPicture }) ∙ ap pictureOut (sym (c .before .before .judged2 .given .1))
+    (λ i. record { status = c .refused .ensures i; picture = noPicture }) ∙ ap pictureOut (sym (c .before .before .verdict2 .given .1))
 
 pub answer-spec : {M : Type 1} → statement M
 answer-spec =
