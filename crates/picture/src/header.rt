@@ -1,4 +1,4 @@
-// A picture's header, and the checks that come before any column: 50, 51, 52 and 55.
+// A picture's header, and the checks that come before any column: 50, 51 and 52.
 ghost use mathlib.Core.Path.{_≡_};
 ghost use Prim.Native.Nat.{_≤_, _<_};
 ghost use lib.ListN.{length};
