@@ -8,10 +8,10 @@ use lib.Dec.{leb}
 use lib.ListN.{length}
 use Rattle.refusal.specs.declared.Refusal.the-variants.{PostBounds, PostRows}
 use Rattle.refusal.specs.declared.Check.the-variants.{Pass}
-use Rattle.refusal.specs.Checks.{unless, _andThen_}
+use Rattle.refusal.specs.Checks.{unless}
 use Rattle.refusal.proofs.Checks.{both, unless-pass, andThen-pass}
 use Rattle.picture.specs.Layout.{startAt, endRow, postEnd}
-use Rattle.picture.specs.Judging.{postsCheck, rowsOk}
+use Rattle.picture.specs.Judging.{postsCheck, postCheck, rowsOk}
 use Rattle.canvas.specs.Pixels.{overPost, overPosts}
 
 module _ (lump : List ℕ) (height column : ℕ) where
@@ -34,15 +34,14 @@ module _ (lump : List ℕ) (height column : ℕ) where
   unfolding postsCheck overPosts
   next-of zero at row e post = let z : _≡_ {A = ℕ} 0 1 = cc in absurd (omega arith)
   next-of (suc most) at row e post =
-      let inside-part = unless (leb (postEnd lump at) (length lump)) (PostBounds column) in
-      let rows-part = unless (rowsOk lump height at row) (PostRows column) in
       let rest = postsCheck most lump height column (postEnd lump at) (endRow lump at) in
-      let first = andThen-pass inside-part (rows-part andThen rest) (simp (ne-eqb _ _ post) at e) in
-      let second = andThen-pass rows-part rest (first .1) in
+      let first = andThen-pass (postCheck lump height column at row) rest (simp (ne-eqb _ _ post) at e) in
+      let inside-part = unless (leb (postEnd lump at) (length lump)) (PostBounds column) in
+      let parts = andThen-pass inside-part (unless (rowsOk lump height at row) (PostRows column)) (first .0) in
       record {
         left = most;
-        inside = leb-true _ _ (unless-pass _ (PostBounds column) (first .0));
-        rows = leb-true _ _ (both (leb row (startAt lump at)) _ (unless-pass _ (PostRows column) (second .0)) .1);
-        rest = second .1;
+        inside = leb-true _ _ (unless-pass _ (PostBounds column) (parts .0));
+        rows = leb-true _ _ (both (leb row (startAt lump at)) _ (unless-pass _ (PostRows column) (parts .1)) .1);
+        rest = first .1;
         shows = λ by r v. simp (ne-eqb _ _ post);
       }

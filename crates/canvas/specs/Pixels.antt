@@ -3,12 +3,12 @@ use Prim.Native.Nat.{ℕ, zero, suc, _+_, _-_, _/_, _%_}
 use mathlib.Core.Bool.{Bool, _&&_, cond}
 use mathlib.Core.List.{List, [], _∷_, _++_}
 use mathlib.Core.Path.{_≡_}
-use lib.Dec.{leb, ltb, eqb}
+use lib.Dec.{leb, ltb}
 use lib.ListN.{length, getD, drop}
 use Rattle.refusal.specs.declared.Check.{Check}
 use Rattle.refusal.specs.declared.Check.the-variants.{Pass, Refused}
 use Rattle.picture.specs.declared.PictureVerdict.{PictureVerdict}
-use Rattle.picture.specs.Layout.{widthOf, areaOf, columnOffset, startAt, endRow, postEnd}
+use Rattle.picture.specs.Layout.{widthOf, areaOf, columnOffset, startAt, endAt, endRow, postEnd}
 use Rattle.picture.specs.Judging.{answerOf}
 use Rattle.canvas.specs.Buffers.{paintCheck}
 
@@ -35,7 +35,7 @@ overPost by lump at row under = cond (covers lump at row) (by (byteOf lump at ro
 unfoldable pub overPosts : (ℕ → ℕ) → ℕ → List ℕ → ℕ → ℕ → ℕ → ℕ
 overPosts by zero lump at row under = under
 overPosts by (suc most) lump at row under =
-    cond (eqb (startAt lump at) 255) under (overPosts by most lump (postEnd lump at) row (overPost by lump at row under))
+    cond (endAt lump at) under (overPosts by most lump (postEnd lump at) row (overPost by lump at row under))
 
 -- the same by the posts of `column`
 abbrev pub overColumn : (ℕ → ℕ) → List ℕ → ℕ → ℕ → ℕ → ℕ

@@ -3,15 +3,17 @@
 use Prim.Native.Nat.{ℕ, zero, suc}
 use mathlib.Core.Bool.{Bool, _&&_, cond}
 use mathlib.Core.List.{List}
-use lib.Dec.{leb, eqb}
+use lib.Dec.{leb}
 use lib.ListN.{length}
-use Rattle.refusal.specs.declared.Refusal.the-variants.{PictureLength, PictureSize, PictureOffsets, PostBounds, PostRows}
+use Rattle.refusal.specs.declared.Refusal.the-variants.{PictureLength, PictureSize}
+use Rattle.refusal.specs.declared.Refusal.the-variants.{PictureOffsets, PostBounds, PostRows}
 use Rattle.refusal.specs.declared.Check.{Check}
 use Rattle.refusal.specs.declared.Check.the-variants.{Pass, Refused}
 use Rattle.refusal.specs.Checks.{unless, _andThen_, each}
 use Rattle.picture.specs.declared.PictureVerdict.{PictureVerdict}
 use Rattle.picture.specs.declared.PictureVerdict.the-variants.{Accepted, Refused as NotAccepted}
-use Rattle.picture.specs.Layout.{widthOf, heightOf, pictureOf, tableEnd, columnOffset, startAt, endRow, postEnd}
+use Rattle.picture.specs.Layout.{widthOf, heightOf, pictureOf, tableEnd}
+use Rattle.picture.specs.Layout.{columnOffset, startAt, endAt, endRow, postEnd}
 
 -- width 1 to 320, height 1 to 200
 abbrev pub sizeOk : ℕ → ℕ → Bool
@@ -28,15 +30,19 @@ pictureHeaderCheck lump =
 abbrev pub rowsOk : List ℕ → ℕ → ℕ → ℕ → Bool
 rowsOk lump height at row = leb row (startAt lump at) && leb (endRow lump at) height
 
--- 53 and 54 over the posts from `at` on, downward, below a post that ended before `row`: the end byte, or a post inside
--- the lump with good rows and then the next. A post takes bytes, so that as many posts as bytes are enough to look at.
+-- 53 and 54 of the post at `at`, below a post that ended before `row`
+abbrev pub postCheck : List ℕ → ℕ → ℕ → ℕ → ℕ → Check
+postCheck lump height column at row =
+    unless (leb (postEnd lump at) (length lump)) (PostBounds column)
+    andThen unless (rowsOk lump height at row) (PostRows column)
+
+-- 53 and 54 over the posts from `at` on, downward: the end byte, or a post and then those below it. A post takes bytes,
+-- so that as many posts as bytes are enough to look at.
 unfoldable pub postsCheck : ℕ → List ℕ → ℕ → ℕ → ℕ → ℕ → Check
 postsCheck zero lump height column at row = Refused (PostBounds column)
 postsCheck (suc most) lump height column at row =
-    cond (eqb (startAt lump at) 255) Pass
-    (unless (leb (postEnd lump at) (length lump)) (PostBounds column)
-    andThen unless (rowsOk lump height at row) (PostRows column)
-    andThen postsCheck most lump height column (postEnd lump at) (endRow lump at))
+    cond (endAt lump at) Pass
+    (postCheck lump height column at row andThen postsCheck most lump height column (postEnd lump at) (endRow lump at))
 
 -- 53 and 54 of one column: its offset, then its posts
 abbrev pub columnCheck : List ℕ → ℕ → ℕ → ℕ → Check

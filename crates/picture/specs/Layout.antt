@@ -1,8 +1,10 @@
 -- A picture's header, its column offsets and a post (01, "Pictures"; document 004, "Picture format"). Past the lump's end
 -- a byte reads as 0. Assumes nothing.
 use Prim.Native.Nat.{ℕ, _+_, _*_, _≤_}
+use mathlib.Core.Bool.{Bool}
 use mathlib.Core.List.{List}
 use mathlib.Core.Path.{_≡_}
+use lib.Dec.{eqb}
 use lib.ListN.{length, getD}
 use Rattle.endian.specs.Unsigned.{u16At, u32At}
 use Rattle.endian.specs.Signed.{i16At}
@@ -30,9 +32,13 @@ tableEnd width = 8 + 4 * width
 abbrev pub columnOffset : List ℕ → ℕ → ℕ
 columnOffset lump column = u32At lump (8 + 4 * column)
 
--- the start row of the post at `at`, or 255, which ends the column
+-- the start row of the post at `at`, or the end byte
 abbrev pub startAt : List ℕ → ℕ → ℕ
 startAt lump at = getD lump at 0
+
+-- the column ends at `at`: 255 is no start row
+abbrev pub endAt : List ℕ → ℕ → Bool
+endAt lump at = eqb (startAt lump at) 255
 
 -- the post's number of pixels
 abbrev pub lengthAt : List ℕ → ℕ → ℕ
