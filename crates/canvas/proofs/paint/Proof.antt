@@ -7,7 +7,8 @@ use Rattle.refusal.specs.declared.Check.{Check}
 use Rattle.refusal.specs.declared.Check.the-variants.{Pass}
 use Rattle.picture.specs.Judging.{pictureHeaderCheck, columnsCheck, pictureCheck, answerOf}
 use Rattle.canvas.specs.Buffers.{roomCheck, paintCheck}
-use Rattle.canvas.proofs.Checks.{room-refused, room-passed, answer-refused, answer-accepted, painted-refused, painted-passed}
+use Rattle.canvas.proofs.Checks.{room-refused, room-passed, answer-refused}
+use Rattle.canvas.proofs.Checks.{answer-accepted, painted-refused, painted-passed}
 use borrow.Author.Needs.{needs}
 use Rattle.canvas.proofs.paint.Statement.{statement}
 use Rattle.canvas.proofs.paint.Tie as tie
