@@ -3,17 +3,18 @@
 use Prim.Native.Nat.{ℕ, _+_, _*_, _<_}
 use mathlib.Core.List.{List}
 use mathlib.Core.Path.{_≡_, refl, sym, _∙_, subst}
-use native.Mathlib.Omega.{arith}
 use lib.Dec.{leb}
 use lib.ListN.{length}
 use Rattle.refusal.specs.declared.Check.the-variants.{Pass}
 use Rattle.refusal.specs.declared.Refusal.the-variants.{PostBounds}
 use Rattle.refusal.specs.Checks.{unless, each}
 use Rattle.refusal.proofs.Checks.{andThen-pass, each-pass}
-use Rattle.picture.specs.Layout.{heightOf, tableEnd, columnOffset, startAt, lengthAt, postEnd, endRow, Skips, stay, step}
+use Rattle.picture.specs.Layout.{heightOf, tableEnd, columnOffset, startAt, lengthAt, postEnd, endRow}
 use Rattle.picture.specs.Judging.{postsCheck, columnCheck}
+use Rattle.picture.specs.Inner.{pastEmpty}
 use Rattle.canvas.specs.Pixels.{byColour, byCover, overPost, overPosts, overColumn}
 use Rattle.canvas.specs.Strokes.{Stroke, Strokes}
+use Rattle.picture.proofs.Inner.{past-holds}
 use Rattle.picture.proofs.Posts.{pass-inside}
 use Rattle.canvas.proofs.Posts.{Next, next-of, posts-ended}
 use Rattle.canvas.proofs.Strokes.{overFirst, first-none, stroke-none, stroke-then, strokes-more}
@@ -90,12 +91,15 @@ module _ (lump : List ℕ) (from width column : ℕ) where
   post-empty : (by : ℕ → ℕ) (at : ℕ) → lengthAt lump at ≡ 0 → (row v : ℕ) → v ≡ overPost by lump at row v
   post-empty by at z row v = subst (λ (n : ℕ). v ≡ overFirst by lump at n row v) (sym z) (first-none by lump at row v)
 
-  pub painting-skips : {colour₀ cover₀ colour cover : List ℕ} {row at to : ℕ} → (row ≡ 255 → ⊥)
-      → Painting colour₀ cover₀ colour cover at → Skips lump row at to → Painting colour₀ cover₀ colour cover to
-  painting-skips n p stay = p
-  painting-skips {colour₀} {cover₀} {colour} {cover} n p (step {at} s e z h) =
-      painting-more (painting-skips n p s) (λ q. n (sym e ∙ q)) (omega arith)
-      (stroke-none colour (post-empty byColour at z)) (stroke-none cover (post-empty byCover at z))
+  pub painting-past : {colour₀ cover₀ colour cover : List ℕ} {row at to : ℕ} → (row ≡ 255 → ⊥)
+      → Painting colour₀ cover₀ colour cover at → to ≡ pastEmpty (length lump) lump row at
+      → Painting colour₀ cover₀ colour cover to
+  painting-past {colour₀} {cover₀} {colour} {cover} {row} {at} {to} n p e =
+      past-holds lump row (Painting colour₀ cover₀ colour cover)
+      (λ x post q.
+      painting-more q (λ k. n (sym (post .start) ∙ k)) refl
+      (stroke-none colour (post-empty byColour x (post .none))) (stroke-none cover (post-empty byCover x (post .none))))
+      at to e p
 
 -- ---- columns
 

@@ -1,4 +1,5 @@
 -- The laws of judging a picture. Assumes nothing.
 
 pub mod Checks
+pub mod Inner
 pub mod Posts

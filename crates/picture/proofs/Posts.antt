@@ -11,12 +11,10 @@ use lib.ListN.{length, List·getD-eq-default}
 use Rattle.refusal.specs.declared.Refusal.the-variants.{PostBounds, PostRows}
 use Rattle.refusal.specs.declared.Check.{Check}
 use Rattle.refusal.specs.declared.Check.the-variants.{Pass, Refused}
-use Rattle.picture.specs.Layout.{startAt, endRow, postEnd, Skips, stay, step}
+use Rattle.picture.specs.Layout.{startAt, endRow, postEnd}
 use Rattle.picture.specs.Judging.{postsCheck, rowsOk}
-
-pub skips-on : {lump : List ℕ} {row from to : ℕ} → Skips lump row from to → from ≤ to
-skips-on stay = omega arith
-skips-on (step s e z h) = let k = skips-on s in omega arith
+use Rattle.picture.specs.Inner.{pastEmpty}
+use Rattle.picture.proofs.Inner.{Empty, past-holds}
 
 module _ (lump : List ℕ) (height column : ℕ) where
   -- the posts from `at` on, below row `row`, decide the answer
@@ -74,12 +72,15 @@ module _ (lump : List ℕ) (height column : ℕ) where
 
   -- ---- posts of length 0
 
-  pub rest-skips : {row from to : ℕ} {answer : Check} → row < 255 → row ≤ height → Rest from row answer
-      → Skips lump row from to → Rest to row answer
-  rest-skips low fits r stay = r
-  rest-skips {row} {from} {to} {answer} low fits r (step {at} s e z h) =
-      let rows : rowsOk lump height at row ≡ true = simp (le-leb row (startAt lump at) (omega arith), le-leb (endRow lump at) height (omega arith)) in
-      let p : postEnd lump at ≡ at + 4 = omega arith in
-      let q : endRow lump at ≡ row = omega arith in
-      let below = rest-more (rest-skips low fits r s) (λ k. omega arith) (omega arith) rows in
-      subst (λ (x : ℕ). Rest x row answer) p (subst (λ (x : ℕ). Rest (postEnd lump at) x answer) q below)
+  pub rest-past : {row from to : ℕ} {answer : Check} → row < 255 → row ≤ height → Rest from row answer
+      → to ≡ pastEmpty (length lump) lump row from → Rest to row answer
+  rest-past {row} {from} {to} {answer} low fits r e = past-holds lump row (λ x. Rest x row answer) step from to e r
+    where
+      step : (at : ℕ) → Empty lump row at → Rest at row answer → Rest (postEnd lump at) row answer
+      step at post r =
+          let s = post .start in
+          let z = post .none in
+          let i = post .inside in
+          let rows : rowsOk lump height at row ≡ true = simp (le-leb row (startAt lump at) (omega arith), le-leb (endRow lump at) height (omega arith)) in
+          let q : endRow lump at ≡ row = omega arith in
+          subst (λ (x : ℕ). Rest (postEnd lump at) x answer) q (rest-more r (λ k. omega arith) (omega arith) rows)

@@ -1,11 +1,10 @@
 -- A picture's header, its column offsets and a post (01, "Pictures"; document 004, "Picture format"). Past the lump's end
 -- a byte reads as 0. Assumes nothing.
-use Prim.Native.Nat.{ℕ, _+_, _*_, _≤_}
+use Prim.Native.Nat.{ℕ, _+_, _*_}
 use mathlib.Core.Bool.{Bool}
 use mathlib.Core.List.{List}
-use mathlib.Core.Path.{_≡_}
 use lib.Dec.{eqb}
-use lib.ListN.{length, getD}
+use lib.ListN.{getD}
 use Rattle.endian.specs.Unsigned.{u16At, u32At}
 use Rattle.endian.specs.Signed.{i16At}
 use Rattle.picture.specs.declared.Picture.{Picture}
@@ -51,9 +50,3 @@ endRow lump at = startAt lump at + lengthAt lump at
 -- where the post ends: start row, length, an ignored byte, the pixels, an ignored byte
 abbrev pub postEnd : List ℕ → ℕ → ℕ
 postEnd lump at = at + 4 + lengthAt lump at
-
--- from `from` to `to` the lump has posts of length 0 alone, all at `row`
-pub data Skips (lump : List ℕ) (row from : ℕ) : ℕ → Type 0 where
-  stay : Skips lump row from from
-  step : {at : ℕ} → Skips lump row from at → startAt lump at ≡ row → lengthAt lump at ≡ 0 → at + 4 ≤ length lump
-      → Skips lump row from (at + 4)

@@ -2,3 +2,4 @@
 
 pub mod Layout
 pub mod Judging
+pub mod Inner

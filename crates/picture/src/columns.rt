@@ -3,8 +3,8 @@ ghost use mathlib.Core.Path.{_≡_};
 ghost use Prim.Native.Nat.{_+_, _*_, _≤_, _<_};
 ghost use lib.ListN.{length};
 ghost use Rattle.refusal.specs.Checks.{each};
-ghost use Rattle.picture.specs.Layout.{Skips};
 ghost use Rattle.picture.specs.Judging.{postsCheck, columnCheck};
+ghost use Rattle.picture.specs.Inner.{pastEmpty};
 use refusal::Check;
 use refusal::Refusal;
 
@@ -67,7 +67,7 @@ fn judge_posts(lump: &[u8], height: usize, column: usize, from: usize) -> Check
 // one costs far less than to judge or to paint it.
 pub fn skip_empty(lump: &[u8], from: usize, row: u8) -> usize
     requires { ⌜ from ≤ length (now lump) ⌝ }
-    ensures { λ r. ⌜ Skips (now (lump .entry)) row from r ⌝ }
+    ensures { λ r. ⌜ r ≡ pastEmpty (length (now (lump .entry))) (now (lump .entry)) row from ⌝ }
 {
     let mut at = from;
     while 4 <= lump.len() - at {

@@ -3,8 +3,11 @@
 use Prim.Native.Nat.{_-_}
 use native.Mathlib.Omega.{arith}
 use lib.ListN.{length}
-use Rattle.canvas.proofs.Painting.{Painting, painting-first, painting-inside, painting-next, painting-more, painting-done, painting-skips}
-use Rattle.picture.proofs.Posts.{skips-on}
+use denote.Ref.{now}
+use Rattle.picture.specs.Layout.{startAt}
+use Rattle.picture.proofs.Inner.{past-on}
+use Rattle.canvas.proofs.Painting.{Painting, painting-first, painting-inside, painting-next, painting-more}
+use Rattle.canvas.proofs.Painting.{painting-done, painting-past}
 use Rattle.canvas.proofs.paint_posts.Statement.{statement}
 use Rattle.canvas.proofs.paint_posts.Tie as tie
 
@@ -47,8 +50,10 @@ skip-empty-requires c κs =
 loop-less : tie.Need-loop-less Inv-loop μ-loop
 loop-less c =
     let called = c .before .before .before .before .before in
-    let h = painting-inside _ _ _ _ (called .before .before .before .before .before .loop .inv) in
-    omega (arith, called .paint-post .ensures .0, h, skips-on (c .skip-empty .ensures))
+    let at = called .before .before .before .before .before in
+    let l = now (at .before .before .before .before .args .lump) in
+    let on = past-on l (startAt l (at .loop .at)) (called .paint-post .result) _ (c .skip-empty .ensures) in
+    omega (arith, called .paint-post .ensures .0, painting-inside _ _ _ _ (at .loop .inv))
 
 loop-again : tie.Need-loop-again Inv-loop μ-loop
 loop-again c =
@@ -56,7 +61,7 @@ loop-again c =
     let p = called .before .before .before .before .before .loop .inv in
     let post = called .before .before .before .if1 .left in
     let s = called .paint-post .ensures in
-    painting-skips _ _ _ _ post (painting-more _ _ _ _ p post (s .0) (s .1 .0) (s .1 .1)) (c .skip-empty .ensures)
+    painting-past _ _ _ _ post (painting-more _ _ _ _ p post (s .0) (s .1 .0) (s .1 .1)) (c .skip-empty .ensures)
 
 pub paint-posts-spec : {M : Type 1} → statement M
 paint-posts-spec =

@@ -9,8 +9,10 @@ use lib.Dec.{leb}
 use lib.ListN.{length}
 use Rattle.refusal.proofs.Checks.{both}
 use Rattle.picture.specs.Judging.{postsCheck}
-use Rattle.picture.specs.Layout.{startAt, endRow}
-use Rattle.picture.proofs.Posts.{Rest, rest-first, rest-ended, rest-cut, rest-rows, rest-more, rest-off, rest-skips, skips-on}
+use Rattle.picture.specs.Layout.{startAt, endRow, postEnd}
+use Rattle.picture.proofs.Inner.{past-on}
+use Rattle.picture.proofs.Posts.{Rest, rest-first, rest-ended, rest-cut}
+use Rattle.picture.proofs.Posts.{rest-rows, rest-more, rest-off, rest-past}
 use Rattle.picture.proofs.columns.judge_posts.Statement.{statement}
 use Rattle.picture.proofs.columns.judge_posts.Tie as tie
 
@@ -61,14 +63,17 @@ cast-skip-empty : tie.Need-cast-skip-empty Inv-loop μ-loop
 cast-skip-empty c = omega (arith, rows-fit c)
 
 loop-less : tie.Need-loop-less Inv-loop μ-loop
-loop-less c = omega (arith, skips-on (c .skip-empty .ensures))
+loop-less c =
+    let at = c .before .before .before .before .before .before .before .before in
+    let l = now (at .before .before .args .lump) in
+    omega (arith, past-on l (endRow l (at .loop .at)) (postEnd l (at .loop .at)) _ (c .skip-empty .ensures))
 
 loop-again : tie.Need-loop-again Inv-loop μ-loop
 loop-again c =
     let l = c .before .before .before .before .before .before .before .before .loop in
     let r = rest-more _ _ _ (l .inv) (c .before .before .before .before .before .if1 .left) (c .before .before .if3 .left) (c .before .if4 .taken) in
     let fits = rows-fit (c .before) in
-    rest-skips _ _ _ (omega arith) fits r (c .skip-empty .ensures)
+    rest-past _ _ _ (omega arith) fits r (c .skip-empty .ensures)
 
 returns-4 : tie.Need-returns-4 Inv-loop μ-loop
 returns-4 c =
