@@ -2,6 +2,6 @@
 
 pub mod Checks
 pub mod Posts
-pub mod Strokes
+pub mod Inner
 pub mod Painting
 pub mod Planes

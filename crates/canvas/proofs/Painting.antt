@@ -13,11 +13,11 @@ use Rattle.picture.specs.Layout.{heightOf, tableEnd, columnOffset, startAt, len
 use Rattle.picture.specs.Judging.{postsCheck, columnCheck}
 use Rattle.picture.specs.Inner.{pastEmpty}
 use Rattle.canvas.specs.Pixels.{byColour, byCover, overPost, overPosts, overColumn}
-use Rattle.canvas.specs.Strokes.{Stroke, Strokes}
+use Rattle.canvas.specs.Inner.{Stroke, Strokes}
 use Rattle.picture.proofs.Inner.{past-holds}
 use Rattle.picture.proofs.Posts.{pass-inside}
 use Rattle.canvas.proofs.Posts.{Next, next-of, posts-ended}
-use Rattle.canvas.proofs.Strokes.{overFirst, first-none, stroke-none, stroke-then, strokes-more}
+use Rattle.canvas.proofs.Inner.{overFirst, first-none, stroke-none, stroke-then, strokes-more}
 
 module _ (lump : List ℕ) (from width column : ℕ) where
   -- one plane, with `most` posts left to look at

@@ -9,7 +9,7 @@ use lib.ListN.{List·getD-append, take-append-drop}
 use lib.Seq.{ext-getD, getD-take, length-take-le, drop-at}
 use Rattle.picture.specs.Layout.{widthOf, heightOf, areaOf}
 use Rattle.canvas.specs.Pixels.{overColumn, listOf, planeOf}
-use Rattle.canvas.specs.Strokes.{Strokes}
+use Rattle.canvas.specs.Inner.{Strokes}
 
 pub length-listOf : (f : ℕ → ℕ) (from count : ℕ) → length (listOf f from count) ≡ count
 unfolding listOf

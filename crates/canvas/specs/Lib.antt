@@ -2,4 +2,4 @@
 
 pub mod Buffers
 pub mod Pixels
-pub mod Strokes
+pub mod Inner

@@ -9,7 +9,7 @@ ghost use Rattle.picture.specs.Layout.{heightOf, postEnd, endRow};
 ghost use Rattle.picture.specs.Judging.{pictureHeaderCheck, postsCheck, columnCheck};
 ghost use Rattle.canvas.specs.Buffers.{roomCheck, paintCheck};
 ghost use Rattle.canvas.specs.Pixels.{Painted, byColour, byCover, overPost, overPosts, overColumn, planeOf, bufferAfter};
-ghost use Rattle.canvas.specs.Strokes.{Room, Stroke, Strokes};
+ghost use Rattle.canvas.specs.Inner.{Room, Stroke, Strokes};
 use picture::PictureVerdict;
 use picture::height_of;
 use picture::judge_header;

@@ -5,8 +5,8 @@ use borrow.Author.Needs.{needs}
 use denote.Ref.{now}
 use Rattle.picture.specs.Layout.{heightOf}
 use Rattle.canvas.specs.Pixels.{byColour, byCover, overColumn}
-use Rattle.canvas.specs.Strokes.{Strokes}
-use Rattle.canvas.proofs.Strokes.{strokes-none}
+use Rattle.canvas.specs.Inner.{Strokes}
+use Rattle.canvas.proofs.Inner.{strokes-none}
 use Rattle.canvas.proofs.Painting.{column-pass, columns-more}
 use Rattle.canvas.proofs.paint_columns.Statement.{statement}
 use Rattle.canvas.proofs.paint_columns.Tie as tie

@@ -7,8 +7,8 @@ use denote.Ref.{now}
 use lib.ListN.{length}
 use Rattle.picture.specs.Layout.{heightOf, startAt, lengthAt}
 use Rattle.canvas.specs.Pixels.{byColour, byCover}
-use Rattle.canvas.specs.Strokes.{Stroke}
-use Rattle.canvas.proofs.Strokes.{overFirst, stroke-none, first-none, first-all, pixel-fits, stroke-pixel}
+use Rattle.canvas.specs.Inner.{Stroke}
+use Rattle.canvas.proofs.Inner.{overFirst, stroke-none, first-none, first-all, pixel-fits, stroke-pixel}
 use Rattle.canvas.proofs.paint_post.Statement.{statement}
 use Rattle.canvas.proofs.paint_post.Tie as tie
 

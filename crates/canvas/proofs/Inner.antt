@@ -14,7 +14,7 @@ use lib.ListN.{length, getD, set, length-set}
 use lib.Seq.{getD-set-same, getD-set-other, drop-set-lt}
 use Rattle.picture.specs.Layout.{startAt, lengthAt}
 use Rattle.canvas.specs.Pixels.{byteOf, overPost}
-use Rattle.canvas.specs.Strokes.{Stroke, Strokes}
+use Rattle.canvas.specs.Inner.{Stroke, Strokes}
 
 module _ {area width column : ℕ} where
   pub stroke-none : {f : ℕ → ℕ → ℕ} (plane : List ℕ) → ((row v : ℕ) → v ≡ f row v) → Stroke area width column f plane plane
