@@ -51,6 +51,11 @@ add-end c =
     let known = c .before .shared-slice-known3 .given in
     omega (arith, known at, known (at + 1))
 
+returns-4 : tie.Need-returns-4 Inv-loop μ-loop
+returns-4 c =
+    rest-rows _ _ _ (c .before .before .before .before .before .before .before .loop .inv)
+    (c .before .before .before .before .if1 .left) (c .before .if3 .left) (c .if4 .left)
+
 -- the post ends inside the picture
 rows-fit : (c : tie.Then4 Inv-loop μ-loop)
     → let at = c .before .before .before .before .before .before .before in
@@ -74,11 +79,6 @@ loop-again c =
     let r = rest-more _ _ _ (l .inv) (c .before .before .before .before .before .if1 .left) (c .before .before .if3 .left) (c .before .if4 .taken) in
     let fits = rows-fit (c .before) in
     rest-past _ _ _ (omega arith) fits r (c .skip-empty .ensures)
-
-returns-4 : tie.Need-returns-4 Inv-loop μ-loop
-returns-4 c =
-    rest-rows _ _ _ (c .before .before .before .before .before .before .before .loop .inv)
-    (c .before .before .before .before .if1 .left) (c .before .if3 .left) (c .if4 .left)
 
 returns-5 : tie.Need-returns-5 Inv-loop μ-loop
 returns-5 c = rest-off _ _ _ (c .before .loop .inv) (c .loop-test .left)
