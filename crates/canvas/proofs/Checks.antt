@@ -14,13 +14,34 @@ use Rattle.refusal.specs.declared.Check.the-variants.{Pass, Refused}
 use Rattle.refusal.specs.Checks.{_andThen_}
 use Rattle.refusal.proofs.Checks.{both, unless-pass, andThen-pass}
 use Rattle.picture.specs.Layout.{areaOf}
-use Rattle.picture.specs.Judging.{pictureHeaderCheck, columnsCheck, answerOf}
+use Rattle.picture.specs.Judging.{pictureHeaderCheck, columnsCheck, pictureCheck, answerOf}
 use Rattle.picture.specs.declared.Picture.{Picture}
 use Rattle.picture.specs.declared.PictureVerdict.{PictureVerdict}
 use Rattle.picture.specs.declared.PictureVerdict.the-variants.{Accepted, Refused as NotAccepted}
 use Rattle.picture.proofs.Checks.{Header, header-of}
 use Rattle.canvas.specs.Buffers.{roomCheck, paintCheck}
 use Rattle.canvas.specs.Pixels.{byColour, byCover, planeOf, bufferAfter, Painted}
+
+-- ---- two questions for one: the header with the room, then the header with the columns
+
+refused-both : (a b c : Check) {r : Refusal} → a andThen b ≡ Refused r → a andThen b andThen c ≡ Refused r
+refused-both (Refused s) b c e = e
+refused-both Pass (Refused s) c e = e
+refused-both Pass Pass c e = let z : _≡_ {A = ℕ} 0 1 = cc in absurd (omega arith)
+
+passed-both : (a b c : Check) → a andThen b ≡ Pass → a andThen b andThen c ≡ a andThen c
+passed-both a b c e = let both = andThen-pass a b e in simp (both .0, both .1)
+
+module _ (lump : List ℕ) (colours covers : ℕ) where
+  -- what the header and the room refuse is refused before any column
+  pub room-refused : {r : Refusal} → pictureHeaderCheck lump andThen roomCheck lump colours covers ≡ Refused r
+      → paintCheck lump colours covers ≡ Refused r
+  room-refused = refused-both (pictureHeaderCheck lump) (roomCheck lump colours covers) (columnsCheck lump)
+
+  -- and where both pass the rest is to judge the picture
+  pub room-passed : pictureHeaderCheck lump andThen roomCheck lump colours covers ≡ Pass
+      → paintCheck lump colours covers ≡ pictureCheck lump
+  room-passed = passed-both (pictureHeaderCheck lump) (roomCheck lump colours covers) (columnsCheck lump)
 
 -- ---- a picture that may be painted
 
@@ -41,18 +62,6 @@ good-of lump colours covers e =
       covers-fit = leb-true _ _ (room .1);
       columns = second .1;
     }
-
--- ---- two questions for one: the header with the room, then the header with the columns
-
-pub room-refused : (a b c : Check) {r : Refusal} → a andThen b ≡ Refused r → a andThen b andThen c ≡ Refused r
-room-refused (Refused s) b c e = e
-room-refused Pass (Refused s) c e = e
-room-refused Pass Pass c e = let z : _≡_ {A = ℕ} 0 1 = cc in absurd (omega arith)
-
-pub room-passed : (a b c : Check) → a andThen b ≡ Pass → a andThen b andThen c ≡ a andThen c
-room-passed (Refused s) b c e = refl
-room-passed Pass (Refused s) c e = let z : _≡_ {A = ℕ} 0 1 = cc in absurd (omega arith)
-room-passed Pass Pass c e = refl
 
 -- ---- an answer, taken back to its check
 

@@ -17,22 +17,19 @@ use Rattle.canvas.proofs.paint.Tie as tie
 abbrev check : tie.Start → Check
 check c = paintCheck (now (c .args .lump)) (length (now (c .args .colour))) (length (now (c .args .cover)))
 
-abbrev room : tie.Start → Check
-room c = roomCheck (now (c .args .lump)) (length (now (c .args .colour))) (length (now (c .args .cover)))
-
 returns : tie.Need-returns
 returns c =
-    let s = c .before .before .before .before .before .before .before in
+    let a = c .before .before .before .before .before .before .before .args in
     painted-refused _ _ _
-    (room-refused (pictureHeaderCheck (now (s .args .lump))) (room s) (columnsCheck (now (s .args .lump)))
+    (room-refused (now (a .lump)) (length (now (a .colour))) (length (now (a .cover)))
     (sym (c .before .before .before .judge-room .ensures) ∙ c .before .r .given .1))
 
 -- once there is room, the judge's check is the whole
 judging : (c : tie.After-enum-told)
     → let s = c .before .before .before .before .before .before in check s ≡ pictureCheck (now (s .args .lump))
 judging c =
-    let s = c .before .before .before .before .before .before in
-    room-passed (pictureHeaderCheck (now (s .args .lump))) (room s) (columnsCheck (now (s .args .lump)))
+    let a = c .before .before .before .before .before .before .args in
+    room-passed (now (a .lump)) (length (now (a .colour))) (length (now (a .cover)))
     (sym (c .before .before .judge-room .ensures) ∙ c .enum-told .given .1)
 
 passed : (c : tie.After-picture) → check (c .before .before .before .before .before .before .before .before .before) ≡ Pass

@@ -68,10 +68,10 @@ add-to-2 : tie.Need-add-to-2 Inv-loop μ-loop
 add-to-2 c = omega (arith, colour-fits c)
 
 slice-write-colour : tie.Need-slice-write-colour Inv-loop μ-loop
-slice-write-colour c = colour-fits (c .before)
+slice-write-colour c = omega (arith, colour-fits (c .before))
 
 slice-write-cover : tie.Need-slice-write-cover Inv-loop μ-loop
-slice-write-cover c = cover-fits (c .before)
+slice-write-cover c = omega (arith, cover-fits (c .before))
 
 loop-again : tie.Need-loop-again Inv-loop μ-loop
 loop-again c =
