@@ -7,7 +7,7 @@ use lib.ListN.{length}
 use Rattle.picture.specs.declared.Picture.{Picture}
 use Rattle.picture.specs.declared.PictureVerdict.{PictureVerdict}
 use Rattle.picture.specs.declared.PictureVerdict.the-variants.{Accepted, Refused as NotAccepted}
-use Rattle.picture.specs.Judging.{answerOf}
+use Rattle.picture.specs.Judging.{pictureCheck, answerOf}
 use Rattle.canvas.specs.Buffers.{paintCheck}
 use Rattle.canvas.specs.Pixels.{planeOf, byColour, byCover, bufferAfter}
 use Rattle.meshpigeon.specs.declared.pictures.PictureAnswer.{PictureAnswer}
@@ -21,6 +21,10 @@ noPicture = record { width = 0; height = 0; left = pos 0; top = pos 0 }
 abbrev pub pictureOut : PictureVerdict → PictureAnswer
 pictureOut (Accepted picture) = record { status = accepted; picture = picture }
 pictureOut (NotAccepted r) = record { status = refused r; picture = noPicture }
+
+-- the judging entry's answer
+abbrev pub pictureJudged : List ℕ → PictureAnswer
+pictureJudged lump = pictureOut (answerOf (pictureCheck lump) lump)
 
 -- the painting entry's answer, and both buffers afterwards
 pub record PicturePainted (lump colour cover : List ℕ) (answer : PictureAnswer) (colour′ cover′ : List ℕ) : Type 0 where

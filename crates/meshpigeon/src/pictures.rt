@@ -1,7 +1,6 @@
 // Pictures.
 ghost use mathlib.Core.Path.{_≡_};
-ghost use Rattle.picture.specs.Judging.{pictureCheck, answerOf};
-ghost use Rattle.meshpigeon.specs.Pictures.{pictureOut, PicturePainted};
+ghost use Rattle.meshpigeon.specs.Pictures.{pictureOut, pictureJudged, PicturePainted};
 use crate::status::Status;
 use crate::status::nothing_refused;
 use crate::status::refused;
@@ -37,7 +36,7 @@ fn answer(verdict: PictureVerdict) -> PictureAnswer
 // A picture judged, 50 to 54.
 #[no_mangle]
 pub extern "C" fn meshpigeon_judge_picture(lump: &[u8]) -> PictureAnswer
-    ensures { λ r. ⌜ r ≡ pictureOut (answerOf (pictureCheck (now (lump .entry))) (now (lump .entry))) ⌝ }
+    ensures { λ r. ⌜ r ≡ pictureJudged (now (lump .entry)) ⌝ }
 {
     answer(picture::judge(lump))
 }
