@@ -75,24 +75,13 @@ answer-accepted lump (Refused s) e = let z : _≡_ {A = ℕ} 0 1 = cc in absurd 
 
 -- ---- what painting promises, from the check's outcome
 
-module _ (lump colour cover : List ℕ) where
-  pub painted-refused : {r : Refusal} → paintCheck lump (length colour) (length cover) ≡ Refused r
-      → Painted lump colour cover (NotAccepted r) colour cover
-  painted-refused e =
-      record {
-        answered = ap (λ (k : Check). answerOf k lump) (sym e);
-        colours = ap (λ (k : Check). bufferAfter k (planeOf byColour lump) colour) (sym e);
-        covered = ap (λ (k : Check). bufferAfter k (planeOf byCover lump) cover) (sym e);
-      }
-
-  pub painted-passed : {answer : PictureVerdict} {colour' cover' : List ℕ} → paintCheck lump (length colour) (length cover) ≡ Pass
-      → answer ≡ answerOf (paintCheck lump (length colour) (length cover)) lump
-      → colour' ≡ bufferAfter Pass (planeOf byColour lump) colour
-      → cover' ≡ bufferAfter Pass (planeOf byCover lump) cover
-      → Painted lump colour cover answer colour' cover'
-  painted-passed e a b c =
-      record {
-        answered = a;
-        colours = b ∙ ap (λ (k : Check). bufferAfter k (planeOf byColour lump) colour) (sym e);
-        covered = c ∙ ap (λ (k : Check). bufferAfter k (planeOf byCover lump) cover) (sym e);
-      }
+pub painted-by : (lump colour cover : List ℕ) (k : Check) {answer : PictureVerdict} {colour' cover' : List ℕ}
+    → paintCheck lump (length colour) (length cover) ≡ k → answer ≡ answerOf k lump
+    → colour' ≡ bufferAfter k (planeOf byColour lump) colour → cover' ≡ bufferAfter k (planeOf byCover lump) cover
+    → Painted lump colour cover answer colour' cover'
+painted-by lump colour cover k e a b c =
+    record {
+      answered = a ∙ ap (λ (k : Check). answerOf k lump) (sym e);
+      colours = b ∙ ap (λ (k : Check). bufferAfter k (planeOf byColour lump) colour) (sym e);
+      covered = c ∙ ap (λ (k : Check). bufferAfter k (planeOf byCover lump) cover) (sym e);
+    }

@@ -13,8 +13,29 @@ use lib.Dec.{leb, ltb, eqb}
 use lib.ListN.{length, getD, set, length-set}
 use lib.Seq.{getD-set-same, getD-set-other, drop-set-lt}
 use Rattle.picture.specs.Layout.{startAt, lengthAt}
-use Rattle.canvas.specs.Pixels.{byteOf, overPost}
-use Rattle.canvas.specs.Inner.{Stroke, Strokes}
+use Rattle.canvas.specs.Pixels.{byColour, byCover, byteOf, overPost}
+use Rattle.canvas.specs.Inner.{Stroke, Strokes, Both}
+
+-- ---- both planes
+
+-- what is said of a plane before and after
+abbrev Said : Type 1
+Said = (ℕ → ℕ) → List ℕ → List ℕ → Type 0
+
+pub both-none : {P : Said} (colour cover : List ℕ) → ((by : ℕ → ℕ) (plane : List ℕ) → P by plane plane)
+    → Both P colour cover colour cover
+both-none colour cover f = record { on-colour = f byColour colour; on-cover = f byCover cover }
+
+pub both-as : {P Q : Said} {a b c d : List ℕ} → Both P a b c d
+    → ((by : ℕ → ℕ) (x y : List ℕ) → P by x y → Q by x y) → Both Q a b c d
+both-as s f = record { on-colour = f byColour _ _ (s .on-colour); on-cover = f byCover _ _ (s .on-cover) }
+
+pub both-then : {P Q R : Said} {a b c d e f : List ℕ} → Both P a b c d → Both Q c d e f
+    → ((by : ℕ → ℕ) (x y z : List ℕ) → P by x y → Q by y z → R by x z) → Both R a b e f
+both-then s t f =
+    record { on-colour = f byColour _ _ _ (s .on-colour) (t .on-colour); on-cover = f byCover _ _ _ (s .on-cover) (t .on-cover) }
+
+-- ---- one column
 
 module _ {area width column : ℕ} where
   pub stroke-none : {f : ℕ → ℕ → ℕ} (plane : List ℕ) → ((row v : ℕ) → v ≡ f row v) → Stroke area width column f plane plane

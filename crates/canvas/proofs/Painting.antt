@@ -12,12 +12,13 @@ use Rattle.refusal.proofs.Checks.{andThen-pass, each-pass}
 use Rattle.picture.specs.Layout.{heightOf, tableEnd, columnOffset, startAt, lengthAt, postEnd, endRow}
 use Rattle.picture.specs.Judging.{postsCheck, columnCheck}
 use Rattle.picture.specs.Inner.{pastEmpty}
-use Rattle.canvas.specs.Pixels.{byColour, byCover, overPost, overPosts, overColumn}
-use Rattle.canvas.specs.Inner.{Stroke, Strokes}
+use Rattle.canvas.specs.Pixels.{overPost, overPosts, overColumn}
+use Rattle.canvas.specs.Inner.{Stroke, Strokes, Both}
 use Rattle.picture.proofs.Inner.{past-holds}
 use Rattle.picture.proofs.Posts.{pass-inside}
 use Rattle.canvas.proofs.Posts.{Next, next-of, posts-ended}
-use Rattle.canvas.proofs.Inner.{overFirst, first-none, stroke-none, stroke-then, strokes-more}
+use Rattle.canvas.proofs.Inner.{both-none, both-as, both-then, overFirst}
+use Rattle.canvas.proofs.Inner.{first-none, stroke-none, stroke-then, strokes-more}
 
 module _ (lump : List ℕ) (from width column : ℕ) where
   -- one plane, with `most` posts left to look at
@@ -32,8 +33,7 @@ module _ (lump : List ℕ) (from width column : ℕ) where
     pub most : ℕ
     pub row : ℕ
     pub passes : postsCheck most lump (heightOf lump) column at row ≡ Pass
-    pub on-colour : Plane byColour colour₀ colour most at
-    pub on-cover : Plane byCover cover₀ cover most at
+    pub planes : Both (λ by old new. Plane by old new most at) colour₀ cover₀ colour cover
 
   plane-first : (by : ℕ → ℕ) (plane : List ℕ) → Plane by plane plane (length lump) from
   plane-first by plane = record { same = refl; finish = λ last s. s }
@@ -52,13 +52,7 @@ module _ (lump : List ℕ) (from width column : ℕ) where
   pub painting-first : (colour cover : List ℕ) → postsCheck (length lump) lump (heightOf lump) column from 0 ≡ Pass
       → Painting colour cover colour cover from
   painting-first colour cover e =
-      record {
-        most = length lump;
-        row = 0;
-        passes = e;
-        on-colour = plane-first byColour colour;
-        on-cover = plane-first byCover cover;
-      }
+      record { most = length lump; row = 0; passes = e; planes = both-none colour cover plane-first }
 
   module _ {colour₀ cover₀ colour cover : List ℕ} {at : ℕ} (p : Painting colour₀ cover₀ colour cover at) where
     pub painting-inside : at < length lump
@@ -68,24 +62,21 @@ module _ (lump : List ℕ) (from width column : ℕ) where
     painting-next = next-of lump (heightOf lump) column (p .most) at (p .row) (p .passes)
 
     pub painting-more : {next : ℕ} {colour' cover' : List ℕ} → (startAt lump at ≡ 255 → ⊥) → next ≡ postEnd lump at
-        → Stroke (heightOf lump * width) width column (overPost byColour lump at) colour colour'
-        → Stroke (heightOf lump * width) width column (overPost byCover lump at) cover cover'
+        → Both (λ by. Stroke (heightOf lump * width) width column (overPost by lump at)) colour cover colour' cover'
         → Painting colour₀ cover₀ colour' cover' next
-    painting-more {next} {colour'} {cover'} post e s t =
+    painting-more {next} {colour'} {cover'} post e s =
         let n = painting-next post in
         subst (Painting colour₀ cover₀ colour' cover') (sym e)
         record {
           most = n .left;
           row = endRow lump at;
           passes = n .rest;
-          on-colour = plane-more byColour (p .most) at (p .on-colour) s n;
-          on-cover = plane-more byCover (p .most) at (p .on-cover) t n;
+          planes = both-then (p .planes) s (λ by x y z q t. plane-more by (p .most) at q t n);
         }
 
     pub painting-done : startAt lump at ≡ 255
-        → (Stroke (heightOf lump * width) width column (overPosts byColour (length lump) lump from) colour₀ colour)
-        × (Stroke (heightOf lump * width) width column (overPosts byCover (length lump) lump from) cover₀ cover)
-    painting-done e = (plane-done byColour (p .most) at (p .on-colour) e, plane-done byCover (p .most) at (p .on-cover) e)
+        → Both (λ by. Stroke (heightOf lump * width) width column (overPosts by (length lump) lump from)) colour₀ cover₀ colour cover
+    painting-done e = both-as (p .planes) (λ by x y q. plane-done by (p .most) at q e)
 
   -- posts of length 0 paint nothing
   post-empty : (by : ℕ → ℕ) (at : ℕ) → lengthAt lump at ≡ 0 → (row v : ℕ) → v ≡ overPost by lump at row v
@@ -98,7 +89,7 @@ module _ (lump : List ℕ) (from width column : ℕ) where
       past-holds lump row (Painting colour₀ cover₀ colour cover)
       (λ x post q.
       painting-more q (λ k. n (sym (post .start) ∙ k)) refl
-      (stroke-none colour (post-empty byColour x (post .none))) (stroke-none cover (post-empty byCover x (post .none))))
+      (both-none colour cover (λ by plane. stroke-none plane (post-empty by x (post .none)))))
       at to e p
 
 -- ---- columns

@@ -6,6 +6,7 @@ use mathlib.Core.List.{List}
 use mathlib.Core.Path.{_≡_}
 use lib.ListN.{length, getD, drop}
 use Rattle.picture.specs.Layout.{heightOf}
+use Rattle.canvas.specs.Pixels.{byColour, byCover}
 
 -- two planes that a picture with rows of `width` fits into
 pub record Room (lump : List ℕ) (width : ℕ) (colour cover : List ℕ) : Type 0 where
@@ -28,3 +29,8 @@ pub record Strokes (area width count : ℕ) (f : ℕ → ℕ → ℕ → ℕ) (o
       → getD new (row * width + column) 0 ≡ f column row (getD old (row * width + column) 0)
   pub left : (column row : ℕ) → column < width → count ≤ column
       → getD new (row * width + column) 0 ≡ getD old (row * width + column) 0
+
+-- `P` says of both planes how they changed, of each by what it shows
+pub record Both (P : (ℕ → ℕ) → List ℕ → List ℕ → Type 0) (colour cover colour' cover' : List ℕ) : Type 0 where
+  pub on-colour : P byColour colour colour'
+  pub on-cover : P byCover cover cover'

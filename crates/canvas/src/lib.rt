@@ -9,7 +9,7 @@ ghost use Rattle.picture.specs.Layout.{heightOf, postEnd, endRow};
 ghost use Rattle.picture.specs.Judging.{pictureHeaderCheck, postsCheck, columnCheck};
 ghost use Rattle.canvas.specs.Buffers.{roomCheck, paintCheck};
 ghost use Rattle.canvas.specs.Pixels.{Painted, byColour, byCover, overPost, overPosts, overColumn, planeOf, bufferAfter};
-ghost use Rattle.canvas.specs.Inner.{Room, Stroke, Strokes};
+ghost use Rattle.canvas.specs.Inner.{Room, Stroke, Strokes, Both};
 use picture::PictureVerdict;
 use picture::height_of;
 use picture::judge_header;
@@ -73,8 +73,7 @@ fn clear(plane: &mut [u8], count: usize)
 fn paint_columns(lump: &[u8], width: usize, colour: &mut [u8], cover: &mut [u8])
     requires { ⌜ (8 + 4 * width ≤ length (now lump)) × (each (columnCheck (now lump) width (heightOf (now lump))) width ≡ Pass) ⌝ }
     requires { ⌜ Room (now lump) width (now colour) (now cover) ⌝ }
-    ensures { λ _. ⌜ Strokes (heightOf (now (lump .entry)) * width) width width (overColumn byColour (now (lump .entry))) (now (colour .entry)) (now (colour .exit)) ⌝ }
-    ensures { λ _. ⌜ Strokes (heightOf (now (lump .entry)) * width) width width (overColumn byCover (now (lump .entry))) (now (cover .entry)) (now (cover .exit)) ⌝ }
+    ensures { λ _. ⌜ Both (λ by. Strokes (heightOf (now (lump .entry)) * width) width width (overColumn by (now (lump .entry)))) (now (colour .entry)) (now (cover .entry)) (now (colour .exit)) (now (cover .exit)) ⌝ }
 {
     for column in 0..width {
         let offset = endian::u32_at(lump, 8 + 4 * column) as usize;
@@ -93,8 +92,7 @@ fn paint_posts(
 )
     requires { ⌜ (column < width) × (postsCheck (length (now lump)) (now lump) (heightOf (now lump)) column from 0 ≡ Pass) ⌝ }
     requires { ⌜ Room (now lump) width (now colour) (now cover) ⌝ }
-    ensures { λ _. ⌜ Stroke (heightOf (now (lump .entry)) * width) width column (overPosts byColour (length (now (lump .entry))) (now (lump .entry)) from) (now (colour .entry)) (now (colour .exit)) ⌝ }
-    ensures { λ _. ⌜ Stroke (heightOf (now (lump .entry)) * width) width column (overPosts byCover (length (now (lump .entry))) (now (lump .entry)) from) (now (cover .entry)) (now (cover .exit)) ⌝ }
+    ensures { λ _. ⌜ Both (λ by. Stroke (heightOf (now (lump .entry)) * width) width column (overPosts by (length (now (lump .entry))) (now (lump .entry)) from)) (now (colour .entry)) (now (cover .entry)) (now (colour .exit)) (now (cover .exit)) ⌝ }
 {
     let mut at = from;
     loop {
@@ -119,8 +117,7 @@ fn paint_post(
     requires { ⌜ (column < width) × (postEnd (now lump) at ≤ length (now lump)) × (endRow (now lump) at ≤ heightOf (now lump)) ⌝ }
     requires { ⌜ Room (now lump) width (now colour) (now cover) ⌝ }
     ensures { λ r. ⌜ r ≡ postEnd (now (lump .entry)) at ⌝ }
-    ensures { λ _. ⌜ Stroke (heightOf (now (lump .entry)) * width) width column (overPost byColour (now (lump .entry)) at) (now (colour .entry)) (now (colour .exit)) ⌝ }
-    ensures { λ _. ⌜ Stroke (heightOf (now (lump .entry)) * width) width column (overPost byCover (now (lump .entry)) at) (now (cover .entry)) (now (cover .exit)) ⌝ }
+    ensures { λ _. ⌜ Both (λ by. Stroke (heightOf (now (lump .entry)) * width) width column (overPost by (now (lump .entry)) at)) (now (colour .entry)) (now (cover .entry)) (now (colour .exit)) (now (cover .exit)) ⌝ }
 {
     let start = lump[at] as usize;
     let count = lump[at + 1] as usize;

@@ -46,13 +46,5 @@ returns-2 c =
 pub judge-room-spec : {M : Type 1} → statement M
 judge-room-spec =
     tie.close
-    (tie.spec
-    (λ c κs. search needs)
-    (λ c. search needs)
-    returns
-    (λ c. search needs)
-    height-of-requires
-    width-of-requires
-    mul-area
-    (λ c κs. search needs)
-    returns-2)
+    (tie.spec (λ c κs. search needs) (λ c. search needs) returns (λ c. search needs) height-of-requires
+    width-of-requires mul-area (λ c κs. search needs) returns-2)

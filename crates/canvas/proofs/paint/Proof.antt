@@ -1,14 +1,13 @@
 -- `canvas::paint` meets its contract: the room's check and the judge's answer are the definition's check, and the
 -- planes are painted where it passed. Assumes nothing.
-use mathlib.Core.Path.{_≡_, sym, ap, _∙_}
+use mathlib.Core.Path.{_≡_, refl, sym, ap, _∙_}
 use denote.Ref.{now}
 use lib.ListN.{length}
 use Rattle.refusal.specs.declared.Check.{Check}
 use Rattle.refusal.specs.declared.Check.the-variants.{Pass}
-use Rattle.picture.specs.Judging.{pictureHeaderCheck, columnsCheck, pictureCheck, answerOf}
-use Rattle.canvas.specs.Buffers.{roomCheck, paintCheck}
-use Rattle.canvas.proofs.Checks.{room-refused, room-passed, answer-refused}
-use Rattle.canvas.proofs.Checks.{answer-accepted, painted-refused, painted-passed}
+use Rattle.picture.specs.Judging.{pictureCheck, answerOf}
+use Rattle.canvas.specs.Buffers.{paintCheck}
+use Rattle.canvas.proofs.Checks.{room-refused, room-passed, answer-refused, answer-accepted, painted-by}
 use borrow.Author.Needs.{needs}
 use Rattle.canvas.proofs.paint.Statement.{statement}
 use Rattle.canvas.proofs.paint.Tie as tie
@@ -20,9 +19,10 @@ check c = paintCheck (now (c .args .lump)) (length (now (c .args .colour))) (len
 returns : tie.Need-returns
 returns c =
     let a = c .before .before .before .before .before .before .before .args in
-    painted-refused _ _ _
+    painted-by _ _ _ _
     (room-refused (now (a .lump)) (length (now (a .colour))) (length (now (a .cover)))
     (sym (c .before .before .before .judge-room .ensures) ∙ c .before .r .given .1))
+    refl refl refl
 
 -- once there is room, the judge's check is the whole
 judging : (c : tie.After-enum-told)
@@ -45,8 +45,9 @@ returns-2 : tie.Need-returns-2
 returns-2 c =
     let judged = c .before .before .before in
     let l = now (judged .before .before .before .before .before .before .before .args .lump) in
-    painted-refused _ _ _
+    painted-by _ _ _ _
     (judging (judged .before) ∙ answer-refused l (pictureCheck l) (sym (judged .judge .ensures) ∙ c .before .r2 .given .1))
+    refl refl refl
 
 returns-3 : tie.Need-returns-3
 returns-3 c =
@@ -54,23 +55,13 @@ returns-3 c =
     let met = called .before .before .before .before in
     let judged = met .before .before in
     let l = now (judged .before .before .before .before .before .before .before .args .lump) in
-    painted-passed l _ _ (passed met)
-    (sym (met .picture .given .1) ∙ judged .judge .ensures ∙ ap (λ (k : Check). answerOf k l) (sym (judging (judged .before))))
+    painted-by l _ _ Pass (passed met)
+    (sym (met .picture .given .1) ∙ judged .judge .ensures ∙ ap (λ (k : Check). answerOf k l) (sym (judging (judged .before)) ∙ passed met))
     (called .paint-picture .ensures .0) (called .paint-picture .ensures .1)
 
 pub paint-spec : {M : Type 1} → statement M
 paint-spec =
     tie.close
-    (tie.spec
-    (λ c κs. search needs)
-    (λ c. search needs)
-    returns
-    (λ c. search needs)
-    (λ c κs. search needs)
-    (λ c. search needs)
-    (λ c. search needs)
-    paint-picture-requires
-    returns-2
-    (λ c. search needs)
-    (λ c. search needs)
-    returns-3)
+    (tie.spec (λ c κs. search needs) (λ c. search needs) returns (λ c. search needs) (λ c κs. search needs)
+    (λ c. search needs) (λ c. search needs) paint-picture-requires returns-2 (λ c. search needs)
+    (λ c. search needs) returns-3)

@@ -4,9 +4,9 @@ use mathlib.Core.Path.{_≡_}
 use borrow.Author.Needs.{needs}
 use denote.Ref.{now}
 use Rattle.picture.specs.Layout.{heightOf}
-use Rattle.canvas.specs.Pixels.{byColour, byCover, overColumn}
-use Rattle.canvas.specs.Inner.{Strokes}
-use Rattle.canvas.proofs.Inner.{strokes-none}
+use Rattle.canvas.specs.Pixels.{overColumn}
+use Rattle.canvas.specs.Inner.{Strokes, Both}
+use Rattle.canvas.proofs.Inner.{both-none, both-then, strokes-none}
 use Rattle.canvas.proofs.Painting.{column-pass, columns-more}
 use Rattle.canvas.proofs.paint_columns.Statement.{statement}
 use Rattle.canvas.proofs.paint_columns.Tie as tie
@@ -14,14 +14,13 @@ use Rattle.canvas.proofs.paint_columns.Tie as tie
 abbrev Inv-loop : tie.InvT-loop
 Inv-loop lump width colour₀ cover₀ column₀ colour cover column =
     (column ≤ width)
-    × Strokes (heightOf lump * width) width column (overColumn byColour lump) colour₀ colour
-    × Strokes (heightOf lump * width) width column (overColumn byCover lump) cover₀ cover
+    × Both (λ by. Strokes (heightOf lump * width) width column (overColumn by lump)) colour₀ cover₀ colour cover
 
 abbrev μ-loop : tie.MeasureT-loop
 μ-loop lump width colour₀ cover₀ column₀ colour cover column = width - column
 
 loop-holds : tie.Need-loop-holds Inv-loop μ-loop
-loop-holds c = (search needs, strokes-none _, strokes-none _)
+loop-holds c = (search needs, both-none _ _ (λ by. strokes-none))
 
 paint-posts-requires : tie.Need-paint-posts-requires Inv-loop μ-loop
 paint-posts-requires c κs =
@@ -30,7 +29,10 @@ paint-posts-requires c κs =
     let s = asked .before .before .before .before .before .before in
     let h = asked .before .loop-test .taken in (
       (h, column-pass (now (s .args .lump)) (s .args .width) _ (l .column) _ (s .pre .0 .1) h (asked .u32-at .ensures)),
-      record { colours = rw (l .inv .1 .same) (s .pre .1 .colours); covers = rw (l .inv .2 .same) (s .pre .1 .covers) },
+      record {
+        colours = rw (l .inv .1 .on-colour .same) (s .pre .1 .colours);
+        covers = rw (l .inv .1 .on-cover .same) (s .pre .1 .covers);
+      },
     )
 
 loop-again : tie.Need-loop-again Inv-loop μ-loop
@@ -41,37 +43,24 @@ loop-again c =
     let lump = now (asked .before .before .before .before .before .before .args .lump) in
     let h = asked .before .loop-test .taken in (
       search needs,
-      columns-more byColour lump (l .column) h (asked .u32-at .ensures) (l .inv .1) (called .paint-posts .ensures .0),
-      columns-more byCover lump (l .column) h (asked .u32-at .ensures) (l .inv .2) (called .paint-posts .ensures .1),
+      both-then (l .inv .1) (called .paint-posts .ensures) (λ by x y z. columns-more by lump (l .column) h (asked .u32-at .ensures)),
     )
 
 same-length : tie.Need-same-length Inv-loop μ-loop
-same-length c = c .before .loop .inv .1 .same
+same-length c = c .before .loop .inv .1 .on-colour .same
 
 same-length-2 : tie.Need-same-length-2 Inv-loop μ-loop
-same-length-2 c = c .before .loop .inv .2 .same
+same-length-2 c = c .before .loop .inv .1 .on-cover .same
 
 returns : tie.Need-returns Inv-loop μ-loop
 returns c =
     let l = c .before .loop in
     let e : l .column ≡ c .before .before .before .before .before .args .width = search needs in
-    (rw e at (l .inv .1), rw e at (l .inv .2))
+    rw e at (l .inv .1)
 
 pub paint-columns-spec : {M : Type 1} → statement M
 paint-columns-spec =
     tie.close
-    (tie.spec
-    Inv-loop
-    μ-loop
-    loop-holds
-    (λ c. search needs)
-    (λ c. search needs)
-    (λ c κs. search needs)
-    (λ c. search needs)
-    paint-posts-requires
-    (λ c. search needs)
-    (λ c. search needs)
-    loop-again
-    same-length
-    same-length-2
-    returns)
+    (tie.spec Inv-loop μ-loop loop-holds (λ c. search needs) (λ c. search needs) (λ c κs. search needs)
+    (λ c. search needs) paint-posts-requires (λ c. search needs) (λ c. search needs) loop-again same-length
+    same-length-2 returns)

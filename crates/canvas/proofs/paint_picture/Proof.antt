@@ -70,21 +70,13 @@ returns c =
     let g = good (start read) in
     let w = g .header .some-width in (
       plane-painted byColour (now (a .lump)) _ _ (now (a .colour)) (wide read) (read .height-of .ensures .0) w (g .colours-fit)
-          (filled .before .before .before .before .clear .ensures) (called .paint-columns .ensures .0),
+          (filled .before .before .before .before .clear .ensures) (called .paint-columns .ensures .on-colour),
       plane-painted byCover (now (a .lump)) _ _ (now (a .cover)) (wide read) (read .height-of .ensures .0) w (g .covers-fit)
-          (filled .clear2 .ensures) (called .paint-columns .ensures .1),
+          (filled .clear2 .ensures) (called .paint-columns .ensures .on-cover),
     )
 
 pub paint-picture-spec : {M : Type 1} → statement M
 paint-picture-spec =
     tie.close
-    (tie.spec
-    width-of-requires
-    height-of-requires
-    mul-area
-    clear-requires
-    clear-requires-2
-    paint-columns-requires
-    (λ c. search needs)
-    (λ c. search needs)
-    returns)
+    (tie.spec width-of-requires height-of-requires mul-area clear-requires clear-requires-2
+    paint-columns-requires (λ c. search needs) (λ c. search needs) returns)

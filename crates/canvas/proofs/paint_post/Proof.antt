@@ -7,16 +7,16 @@ use denote.Ref.{now}
 use lib.ListN.{length}
 use Rattle.picture.specs.Layout.{heightOf, startAt, lengthAt}
 use Rattle.canvas.specs.Pixels.{byColour, byCover}
-use Rattle.canvas.specs.Inner.{Stroke}
-use Rattle.canvas.proofs.Inner.{overFirst, stroke-none, first-none, first-all, pixel-fits, stroke-pixel}
+use Rattle.canvas.specs.Inner.{Stroke, Both}
+use Rattle.canvas.proofs.Inner.{both-none, both-as, overFirst, stroke-none}
+use Rattle.canvas.proofs.Inner.{first-none, first-all, pixel-fits, stroke-pixel}
 use Rattle.canvas.proofs.paint_post.Statement.{statement}
 use Rattle.canvas.proofs.paint_post.Tie as tie
 
 abbrev Inv-loop : tie.InvT-loop
 Inv-loop lump at width column colour₀ cover₀ start count i₀ colour cover i =
     (i ≤ count)
-    × Stroke (heightOf lump * width) width column (overFirst byColour lump at i) colour₀ colour
-    × Stroke (heightOf lump * width) width column (overFirst byCover lump at i) cover₀ cover
+    × Both (λ by. Stroke (heightOf lump * width) width column (overFirst by lump at i)) colour₀ cover₀ colour cover
 
 abbrev μ-loop : tie.MeasureT-loop
 μ-loop lump at width column colour₀ cover₀ start count i₀ colour cover i = count - i
@@ -29,11 +29,8 @@ cast-count c = omega (arith, c .shared-slice-known2 .given (c .before .before .a
 
 loop-holds : tie.Need-loop-holds Inv-loop μ-loop
 loop-holds c =
-    let a = c .before .before .args in (
-      search needs,
-      stroke-none _ (first-none byColour (now (a .lump)) (a .at)),
-      stroke-none _ (first-none byCover (now (a .lump)) (a .at)),
-    )
+    let a = c .before .before .args in
+    (search needs, both-none _ _ (λ by plane. stroke-none plane (first-none by (now (a .lump)) (a .at))))
 
 -- the row that a turn paints, and where
 abbrev row : tie.In-loop Inv-loop μ-loop → ℕ
@@ -48,12 +45,14 @@ row-ok c = omega arith
 colour-fits : (c : tie.In-loop Inv-loop μ-loop) → to c < length (c .before .loop .colour)
 colour-fits c =
     let s = c .before .before .before .before in
-    pixel-fits byColour (now (s .args .lump)) (s .args .at) _ _ _ _ (s .pre .0 .0) (row-ok c) (s .pre .1 .colours) (c .before .loop .inv .1)
+    pixel-fits byColour (now (s .args .lump)) (s .args .at) _ _ _ _ (s .pre .0 .0) (row-ok c) (s .pre .1 .colours)
+    (c .before .loop .inv .1 .on-colour)
 
 cover-fits : (c : tie.In-loop Inv-loop μ-loop) → to c < length (c .before .loop .cover)
 cover-fits c =
     let s = c .before .before .before .before in
-    pixel-fits byCover (now (s .args .lump)) (s .args .at) _ _ _ _ (s .pre .0 .0) (row-ok c) (s .pre .1 .covers) (c .before .loop .inv .2)
+    pixel-fits byCover (now (s .args .lump)) (s .args .at) _ _ _ _ (s .pre .0 .0) (row-ok c) (s .pre .1 .covers)
+    (c .before .loop .inv .1 .on-cover)
 
 add-to : tie.Need-add-to Inv-loop μ-loop
 add-to c =
@@ -76,55 +75,35 @@ slice-write-cover c = omega (arith, cover-fits (c .before))
 loop-again : tie.Need-loop-again Inv-loop μ-loop
 loop-again c =
     let s = c .before .before .before .before .before in
-    let l = c .before .before .loop in (
+    let l = c .before .before .loop in
+    let lump = now (s .args .lump) in
+    let at = s .args .at in
+    let inside = s .pre .0 .0 in
+    let ok = row-ok (c .before) in (
       search needs,
-      stroke-pixel byColour (now (s .args .lump)) (s .args .at) _ _ _ (l .i) (s .pre .0 .0) (row-ok (c .before)) (s .pre .1 .colours) (l .inv .1),
-      stroke-pixel byCover (now (s .args .lump)) (s .args .at) _ _ _ (l .i) (s .pre .0 .0) (row-ok (c .before)) (s .pre .1 .covers) (l .inv .2),
+      record {
+        on-colour = stroke-pixel byColour lump at _ _ _ (l .i) inside ok (s .pre .1 .colours) (l .inv .1 .on-colour);
+        on-cover = stroke-pixel byCover lump at _ _ _ (l .i) inside ok (s .pre .1 .covers) (l .inv .1 .on-cover);
+      },
     )
 
 same-length : tie.Need-same-length Inv-loop μ-loop
-same-length c = c .before .loop .inv .1 .same
+same-length c = c .before .loop .inv .1 .on-colour .same
 
 same-length-2 : tie.Need-same-length-2 Inv-loop μ-loop
-same-length-2 c = c .before .loop .inv .2 .same
+same-length-2 c = c .before .loop .inv .1 .on-cover .same
 
 returns : tie.Need-returns Inv-loop μ-loop
 returns c =
     let s = c .before .before .before .before in
     let l = c .before .loop in
-    let e : l .i ≡ lengthAt (now (s .args .lump)) (s .args .at) = search needs in (
-      refl,
-      (
-        first-all byColour (now (s .args .lump)) (s .args .at) (l .i) e (l .inv .1),
-        first-all byCover (now (s .args .lump)) (s .args .at) (l .i) e (l .inv .2),
-      ),
-    )
+    let e : l .i ≡ lengthAt (now (s .args .lump)) (s .args .at) = search needs in
+    (refl, both-as (l .inv .1) (λ by x y. first-all by (now (s .args .lump)) (s .args .at) (l .i) e))
 
 pub paint-post-spec : {M : Type 1} → statement M
 paint-post-spec =
     tie.close
-    (tie.spec
-    Inv-loop
-    μ-loop
-    (λ c. search needs)
-    cast-start
-    (λ c. search needs)
-    (λ c. search needs)
-    cast-count
-    loop-holds
-    add-to
-    mul-to
-    add-to-2
-    (λ c. search needs)
-    (λ c. search needs)
-    (λ c. search needs)
-    slice-write-colour
-    slice-write-cover
-    (λ c. search needs)
-    (λ c. search needs)
-    loop-again
-    (λ c. search needs)
-    (λ c. search needs)
-    same-length
-    same-length-2
-    returns)
+    (tie.spec Inv-loop μ-loop (λ c. search needs) cast-start (λ c. search needs) (λ c. search needs)
+    cast-count loop-holds add-to mul-to add-to-2 (λ c. search needs) (λ c. search needs) (λ c. search needs)
+    slice-write-colour slice-write-cover (λ c. search needs) (λ c. search needs) loop-again
+    (λ c. search needs) (λ c. search needs) same-length same-length-2 returns)

@@ -24,10 +24,10 @@ shared-slice-read-start : tie.Need-shared-slice-read-start Inv-loop μ-loop
 shared-slice-read-start c = painting-inside _ _ _ _ (c .before .loop .inv)
 
 same-length : tie.Need-same-length Inv-loop μ-loop
-same-length c = c .before .before .loop .inv .on-colour .same
+same-length c = c .before .before .loop .inv .planes .on-colour .same
 
 same-length-2 : tie.Need-same-length-2 Inv-loop μ-loop
-same-length-2 c = c .before .before .loop .inv .on-cover .same
+same-length-2 c = c .before .before .loop .inv .planes .on-cover .same
 
 returns : tie.Need-returns Inv-loop μ-loop
 returns c = painting-done _ _ _ _ (c .before .before .loop .inv) (c .if1 .taken)
@@ -38,7 +38,10 @@ paint-post-requires c κs =
     let pre = c .before .before .before .before .before .before .before .before .pre in
     let n = painting-next _ _ _ _ p (c .before .before .if1 .left) in (
       (pre .0 .0, n .inside, n .rows),
-      record { colours = rw (p .on-colour .same) (pre .1 .colours); covers = rw (p .on-cover .same) (pre .1 .covers) },
+      record {
+        colours = rw (p .planes .on-colour .same) (pre .1 .colours);
+        covers = rw (p .planes .on-cover .same) (pre .1 .covers);
+      },
     )
 
 skip-empty-requires : tie.Need-skip-empty-requires Inv-loop μ-loop
@@ -61,20 +64,10 @@ loop-again c =
     let p = called .before .before .before .before .before .loop .inv in
     let post = called .before .before .before .if1 .left in
     let s = called .paint-post .ensures in
-    painting-past _ _ _ _ post (painting-more _ _ _ _ p post (s .0) (s .1 .0) (s .1 .1)) (c .skip-empty .ensures)
+    painting-past _ _ _ _ post (painting-more _ _ _ _ p post (s .0) (s .1)) (c .skip-empty .ensures)
 
 pub paint-posts-spec : {M : Type 1} → statement M
 paint-posts-spec =
     tie.close
-    (tie.spec
-    Inv-loop
-    μ-loop
-    loop-holds
-    shared-slice-read-start
-    same-length
-    same-length-2
-    returns
-    paint-post-requires
-    skip-empty-requires
-    loop-less
-    loop-again)
+    (tie.spec Inv-loop μ-loop loop-holds shared-slice-read-start same-length same-length-2 returns
+    paint-post-requires skip-empty-requires loop-less loop-again)
