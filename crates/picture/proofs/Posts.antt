@@ -78,9 +78,8 @@ module _ (lump : List ℕ) (height column : ℕ) where
     where
       step : (at : ℕ) → Empty lump row at → Rest at row answer → Rest (postEnd lump at) row answer
       step at post r =
-          let s = post .start in
-          let z = post .none in
-          let i = post .inside in
-          let rows : rowsOk lump height at row ≡ true = simp (le-leb row (startAt lump at) (omega arith), le-leb (endRow lump at) height (omega arith)) in
           let q : endRow lump at ≡ row = omega arith in
+          let top = le-leb row (startAt lump at) (omega arith) in
+          let end = le-leb (endRow lump at) height (omega arith) in
+          let rows : rowsOk lump height at row ≡ true = simp (top, end) in
           subst (λ (x : ℕ). Rest (postEnd lump at) x answer) q (rest-more r (λ k. omega arith) (omega arith) rows)
