@@ -1,6 +1,5 @@
--- Only inner contracts speak of this: a reader who wants to know what the library promises need not read it. What the
--- painting functions do to a plane of `area` pixels in rows of `width`, said of each pixel: pixel (column, row) stands at
--- row × width + column. Assumes nothing.
+-- Not for the reader of promises: what only contracts of inner functions cite, what the painting functions do to a plane of
+-- `area` pixels in rows of `width`, said of each pixel. Pixel (column, row) stands at row × width + column. Assumes nothing.
 use Prim.Native.Nat.{ℕ, _+_, _*_, _≤_, _<_}
 use mathlib.Core.List.{List}
 use mathlib.Core.Path.{_≡_}

@@ -1,5 +1,5 @@
--- Only inner contracts speak of this: a reader who wants to know what the library promises need not read it. Which posts
--- are stepped over without being judged or painted one by one. Assumes nothing.
+-- Not for the reader of promises: what only contracts of inner functions cite, which posts are stepped over without being
+-- judged or painted one by one. Assumes nothing.
 use Prim.Native.Nat.{ℕ, zero, suc}
 use mathlib.Core.Bool.{Bool, _&&_, cond}
 use mathlib.Core.List.{List}
