@@ -34,7 +34,7 @@ pub fn u32_at(s: &[u8], at: usize) -> u32
 }
 
 // The signed number with the bits v. A cast of v itself would lose its top bit, so the upper half goes by the complement.
-fn signed16(v: u16) -> i16
+pub fn signed16(v: u16) -> i16
     ensures { λ r. ⌜ r ≡ signed 32768 v ⌝ }
 {
     if v < 32768 {
