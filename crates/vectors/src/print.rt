@@ -1,4 +1,5 @@
-// Answers as lines of text on standard output.
+// Answers as text on standard output.
+use crate::script;
 use refusal::Check;
 use refusal::Refusal;
 
@@ -6,8 +7,8 @@ pub(crate) fn text(s: &[u8]) {
     io::write_all(1, s);
 }
 
-pub(crate) fn end_line() {
-    text(b"\n");
+pub(crate) fn ill_formed() {
+    text(b" ILL-FORMED\n");
 }
 
 fn number(n: usize) {
@@ -15,7 +16,24 @@ fn number(n: usize) {
     io::print_decimal(1, n as u64);
 }
 
-fn signed(n: i16) {
+// A number after its name.
+pub(crate) fn field(name: &[u8], n: usize) {
+    text(name);
+    number(n);
+}
+
+pub(crate) fn pair(names: &[u8], m: usize, n: usize) {
+    field(names, m);
+    number(n);
+}
+
+pub(crate) fn signed(numbers: &[i16]) {
+    for i in 0..numbers.len() {
+        signed_number(numbers[i]);
+    }
+}
+
+fn signed_number(n: i16) {
     let bits = endian::bits16(n);
     if bits < 32768 {
         number(bits as usize);
@@ -25,77 +43,74 @@ fn signed(n: i16) {
     }
 }
 
-// Each byte as a number.
+// Each byte as a number, a row of the same as 0*8.
 pub(crate) fn bytes(s: &[u8]) {
+    let mut times: usize = 0;
     for i in 0..s.len() {
-        number(s[i] as usize);
+        times = row(byte_at(s, i), byte_at(s, i + 1), times);
     }
 }
 
-// Each word as a number.
 pub(crate) fn words(s: &[u16]) {
+    let mut times: usize = 0;
     for i in 0..s.len() {
-        number(s[i] as usize);
+        times = row(word_at(s, i), word_at(s, i + 1), times);
     }
 }
 
-// The name at `from`, up to a space; returns where the next one begins.
-fn name(names: &[u8], from: usize) -> usize {
-    text(b" ");
-    for i in from..names.len() {
-        if names[i] == b' ' {
-            return i + 1;
-        }
-        text(&names[i..i + 1]);
-    }
-    names.len()
+// Bytes after their name.
+pub(crate) fn list(name: &[u8], s: &[u8]) {
+    text(name);
+    bytes(s);
 }
 
-// Each number after its name.
-pub(crate) fn fields(names: &[u8], numbers: &[usize]) {
-    let mut at: usize = 0;
-    for i in 0..numbers.len() {
-        at = name(names, at);
-        number(numbers[i]);
+pub(crate) fn lent_words(s: &[u16]) {
+    text(b" words");
+    words(s);
+}
+
+fn byte_at(s: &[u8], i: usize) -> usize {
+    if i < s.len() {
+        script::wide(s[i])
+    } else {
+        65536
     }
 }
 
-pub(crate) fn word_fields(names: &[u8], words: &[u16]) {
-    let mut at: usize = 0;
-    for i in 0..words.len() {
-        at = name(names, at);
-        number(words[i] as usize);
+fn word_at(s: &[u16], i: usize) -> usize {
+    if i < s.len() { wider(s[i]) } else { 65536 }
+}
+
+fn wider(w: u16) -> usize {
+    w as usize
+}
+
+// A number is printed where another comes next; returns how often it stood so far.
+fn row(n: usize, next: usize, before: usize) -> usize {
+    let times = std::num::wrapping_add_usize(before, 1);
+    if n == next {
+        return times;
     }
-}
-
-pub(crate) fn signed_fields(names: &[u8], numbers: &[i16]) {
-    let mut at: usize = 0;
-    for i in 0..numbers.len() {
-        at = name(names, at);
-        signed(numbers[i]);
+    number(n);
+    if 1 < times {
+        text(b"*");
+        io::print_decimal(1, times as u64);
     }
+    0
 }
 
-// Each number after its name, and the line's end.
-pub(crate) fn line(names: &[u8], numbers: &[usize]) {
-    fields(names, numbers);
-    end_line();
-}
-
-// A refusal as its three numbers, and the line's end.
 pub(crate) fn refused(r: Refusal) {
-    text(b" refused");
-    number(refusal::number_of(r) as usize);
-    line(
-        b"place record",
-        &[refusal::place_of(r), refusal::record_of(r)],
+    field(b" refused", refusal::number_of(r) as usize);
+    pair(
+        b" place, record",
+        refusal::place_of(r),
+        refusal::record_of(r),
     );
 }
 
-// What a check answers, and the line's end.
 pub(crate) fn check(c: Check) {
     match c {
-        Check::Pass => text(b" pass\n"),
+        Check::Pass => text(b" pass"),
         Check::Refused(r) => refused(r),
     }
 }

@@ -1,17 +1,16 @@
--- `vectors::print::words` reads inside its slice, and ends: the measure is what is left of the slice. Assumes nothing.
+-- `vectors::print::words` ends: the measure is what is left of the slice. Assumes nothing.
 use Prim.Native.Nat.{_-_}
 use mathlib.Core.Path.{_≡_}
-use native.Mathlib.Omega.{arith}
 use borrow.Author.Needs.{needs}
 use lib.ListN.{length}
 use Rattle.vectors.proofs.print.words.Statement.{statement}
 use Rattle.vectors.proofs.print.words.Tie as tie
 
 abbrev Inv-loop : tie.InvT-loop
-Inv-loop s i₀ i-end i = i-end ≡ length s
+Inv-loop s times₀ i₀ i-end times i = i-end ≡ length s
 
 abbrev μ-loop : tie.MeasureT-loop
-μ-loop s i₀ i-end i = length s - i
+μ-loop s times₀ i₀ i-end times i = length s - i
 
 pub words-spec : {M : Type 1} → statement M
 words-spec =
@@ -20,9 +19,9 @@ words-spec =
     Inv-loop
     μ-loop
     (λ c. search needs)
+    (λ c κs. search needs)
     (λ c. search needs)
-    (λ c. search needs)
-    (λ c. omega (arith, c .shared-slice-known2 .given (c .before .before .loop .i)))
+    (λ c κs. search needs)
     (λ c κs. search needs)
     (λ c. search needs)
     (λ c. search needs)

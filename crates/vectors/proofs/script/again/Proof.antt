@@ -1,0 +1,30 @@
+-- `vectors::script::again` ends: the measure is how many times are left. Assumes nothing.
+use Prim.Native.Nat.{_-_}
+use mathlib.Core.Path.{_≡_}
+use borrow.Author.Needs.{needs}
+use lib.ListN.{length}
+use Rattle.vectors.proofs.script.again.Statement.{statement}
+use Rattle.vectors.proofs.script.again.Tie as tie
+
+abbrev Inv-loop : tie.InvT-loop
+Inv-loop n times store₀ from at₀ i₀ store at i = length store ≡ length store₀
+
+abbrev μ-loop : tie.MeasureT-loop
+μ-loop n times store₀ from at₀ i₀ store at i = times - i
+
+pub again-spec : {M : Type 1} → statement M
+again-spec =
+    tie.close
+    (tie.spec
+    Inv-loop
+    μ-loop
+    (λ c κs. search needs)
+    (λ c. search needs)
+    (λ c. search needs)
+    (λ c κs. search needs)
+    (λ c κs. search needs)
+    (λ c. search needs)
+    (λ c. search needs)
+    (λ c. search needs)
+    (λ c. search needs)
+    (λ c. search needs))

@@ -1,0 +1,35 @@
+-- `vectors::script::lend` ends: the measure is what is left of the text. Assumes nothing.
+use Prim.Native.Nat.{_-_}
+use mathlib.Core.Path.{_≡_}
+use borrow.Author.Needs.{needs}
+use lib.ListN.{length}
+use Rattle.vectors.proofs.script.lend.Statement.{statement}
+use Rattle.vectors.proofs.script.lend.Tie as tie
+
+abbrev Inv-loop : tie.InvT-loop
+Inv-loop text from store₀ r₀ -step₀ -step-end store r -step = length store ≡ length store₀
+
+abbrev μ-loop : tie.MeasureT-loop
+μ-loop text from store₀ r₀ -step₀ -step-end store r -step = -step-end - -step
+
+pub lend-spec : {M : Type 1} → statement M
+lend-spec =
+    tie.close
+    (tie.spec
+    Inv-loop
+    μ-loop
+    (λ c. search needs)
+    (λ c. search needs)
+    (λ c. search needs)
+    (λ c κs. search needs)
+    (λ c κs. search needs)
+    (λ c κs. search needs)
+    (λ c. search needs)
+    (λ c. search needs)
+    (λ c κs. search needs)
+    (λ c. search needs)
+    (λ c. search needs)
+    (λ c. search needs)
+    (λ c. search needs)
+    (λ c. search needs)
+    (λ c. search needs))
