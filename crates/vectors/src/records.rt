@@ -55,7 +55,7 @@ fn write_built(kind: usize, lump: &mut [u8], index: usize, new: &[u8]) -> Check 
 fn write_short(kind: usize, lump: &mut [u8], index: usize, new: &[u8]) -> Check
     requires { ⌜ length (now new) ≡ 4 ⌝ }
 {
-    if kind + 1 == record::Vertex::PLACE {
+    if kind == record::Vertex::PLACE - 1 {
         return record::Vertex::write(lump, index, record::Vertex::parse(new));
     }
     built::Subsector::write(lump, index, built::Subsector::parse(new))
