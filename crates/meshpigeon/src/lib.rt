@@ -1,7 +1,7 @@
 // What C and Rust call: each function hands its arguments to the layer below and gives the answer as plain numbers.
 // include/meshpigeon.h is the same for C.
-mod files;
-mod maps;
-mod pictures;
-mod records;
-mod status;
+pub mod files;
+pub mod maps;
+pub mod pictures;
+pub mod records;
+pub mod status;

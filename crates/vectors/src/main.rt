@@ -19,47 +19,30 @@ fn main() {
 
 fn run(text: &[u8]) {
     let mut store = [0u8; STORE];
-    let mut r = [0usize; 10];
-    r[script::BASE] = text.len();
+    let mut r = [0usize; 11];
     go_over(text, &mut store, &mut r);
 }
 
-fn go_over(text: &[u8], store: &mut [u8; STORE], r: &mut [usize; 10]) {
-    let mut at: usize = 0;
-    for _line in 0..text.len() {
-        if text.len() <= at {
-            return;
+fn go_over(text: &[u8], store: &mut [u8; STORE], r: &mut [usize; 11]) {
+    script::lend(text, 0, store, r);
+    for _statement in 0..text.len() {
+        if r[script::NEXT] < text.len() {
+            statement(text, store, r);
         }
-        at = line(text, at, store, r);
     }
 }
 
-fn line(text: &[u8], at: usize, store: &mut [u8], r: &mut [usize; 10]) -> usize {
-    match script::byte(text, at) {
-        b'#' | b'\n' => script::after(script::find(text, at, b'\n')),
-        _ => statement(text, at, store, r),
-    }
-}
-
-// A question's word, its label, and changes of what the last base lends; returns where the next line begins.
-fn statement(text: &[u8], at: usize, store: &mut [u8], r: &mut [usize; 10]) -> usize {
-    let end = script::find(text, at, b' ');
-    let asked = ask::number_of(script::part(text, at, end));
-    let to = label(text, end);
+// A question's word, its label, and changes of what the last base lends.
+fn statement(text: &[u8], store: &mut [u8], r: &mut [usize; 11]) {
+    let at = r[script::NEXT];
+    let from = script::find(text, at, b'"');
+    let to = script::after(script::find(text, script::after(from), b'"'));
+    let asked = ask::number_of(script::part(text, at, script::find(text, at, b' ')));
+    print::text(script::part(text, at, to));
     if asked == 0 {
         r[script::BASE] = to;
     }
     script::lend_both(text, to, store, r);
     ask::put(asked, store, r);
     print::text(b"\n");
-    script::after(r[script::NEXT])
-}
-
-// Prints the quoted label, and returns where it ends.
-fn label(text: &[u8], at: usize) -> usize {
-    let from = script::after(script::find(text, at, b'"'));
-    let to = script::find(text, from, b'"');
-    print::text(script::part(text, from, to));
-    print::text(b":");
-    script::after(to)
 }

@@ -1,7 +1,5 @@
 // Answers as text on standard output.
-use crate::script;
-use refusal::Check;
-use refusal::Refusal;
+use meshpigeon::status::Status;
 
 pub(crate) fn text(s: &[u8]) {
     io::write_all(1, s);
@@ -11,39 +9,42 @@ pub(crate) fn ill_formed() {
     text(b" ILL-FORMED\n");
 }
 
-fn number(n: usize) {
-    text(b" ");
+fn number(before: &[u8], n: usize) {
+    text(before);
     io::print_decimal(1, n as u64);
 }
 
-// A number after its name.
-pub(crate) fn field(name: &[u8], n: usize) {
-    text(name);
-    number(n);
+// What was answered, or the refusal.
+pub(crate) fn answer(s: Status, names: &[u8], answered: &[usize]) {
+    if s.number == 0 {
+        return numbers(names, answered);
+    }
+    numbers(b" refused", &[s.number as usize]);
+    numbers(b" place, record", &[s.place, s.record]);
 }
 
-pub(crate) fn pair(names: &[u8], m: usize, n: usize) {
-    field(names, m);
-    number(n);
+fn numbers(names: &[u8], s: &[usize]) {
+    text(names);
+    for i in 0..s.len() {
+        number(b" ", s[i]);
+    }
 }
 
-pub(crate) fn signed(numbers: &[i16]) {
-    for i in 0..numbers.len() {
-        signed_number(numbers[i]);
+pub(crate) fn signed(s: &[i16]) {
+    for i in 0..s.len() {
+        signed_number(s[i]);
     }
 }
 
 fn signed_number(n: i16) {
     let bits = endian::bits16(n);
     if bits < 32768 {
-        number(bits as usize);
-    } else {
-        text(b" -");
-        io::print_decimal(1, 65536 - (bits as u64));
+        return number(b" ", bits as usize);
     }
+    number(b" -", 65536 - (bits as usize));
 }
 
-// Each byte as a number, a row of the same as 0*8.
+// A row of the same as 0*8.
 pub(crate) fn bytes(s: &[u8]) {
     let mut times: usize = 0;
     for i in 0..s.len() {
@@ -58,23 +59,12 @@ pub(crate) fn words(s: &[u16]) {
     }
 }
 
-// Bytes after their name.
-pub(crate) fn list(name: &[u8], s: &[u8]) {
-    text(name);
-    bytes(s);
-}
-
-pub(crate) fn lent_words(s: &[u16]) {
-    text(b" words");
-    words(s);
-}
-
 fn byte_at(s: &[u8], i: usize) -> usize {
-    if i < s.len() {
-        script::wide(s[i])
-    } else {
-        65536
-    }
+    if i < s.len() { wide(s[i]) } else { 65536 }
+}
+
+fn wide(b: u8) -> usize {
+    b as usize
 }
 
 fn word_at(s: &[u16], i: usize) -> usize {
@@ -91,26 +81,9 @@ fn row(n: usize, next: usize, before: usize) -> usize {
     if n == next {
         return times;
     }
-    number(n);
+    number(b" ", n);
     if 1 < times {
-        text(b"*");
-        io::print_decimal(1, times as u64);
+        number(b"*", times);
     }
     0
-}
-
-pub(crate) fn refused(r: Refusal) {
-    field(b" refused", refusal::number_of(r) as usize);
-    pair(
-        b" place, record",
-        refusal::place_of(r),
-        refusal::record_of(r),
-    );
-}
-
-pub(crate) fn check(c: Check) {
-    match c {
-        Check::Pass => text(b" pass"),
-        Check::Refused(r) => refused(r),
-    }
 }

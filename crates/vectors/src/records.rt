@@ -1,98 +1,57 @@
-// The eight kinds of map record, by their places.
-ghost use mathlib.Core.Path.{_≡_};
-ghost use lib.ListN.{length};
-use crate::ask;
+// The eight kinds of map record, by their places. With a new record's bytes it is written, else the fields are printed in
+// their order.
 use crate::print;
-use crate::script;
-use refusal::Check;
+use meshpigeon::records;
+use meshpigeon::status::Status;
 
-// With an index alone the record is read; with an index and a record's bytes that one is written.
-pub(crate) fn put(kind: usize, lump: &mut [u8], with: &[u8]) {
-    let index = ask::argument(with, 0);
-    let new = script::part(with, 4, with.len());
-    if new.len() == 0 {
-        return print::check(read(kind, lump, index));
-    }
-    if new.len() == size_of(kind) {
-        return put_new(kind, lump, index, new);
-    }
-    print::ill_formed();
-}
-
-fn put_new(kind: usize, lump: &mut [u8], index: usize, new: &[u8]) {
-    print::check(write(kind, lump, index, new));
-    print::list(b" bytes", lump);
-}
-
-fn size_of(kind: usize) -> usize {
-    if kind < 10 {
-        table::record_size(kind + 1)
-    } else {
-        0
+pub(crate) fn put(kind: usize, lump: &mut [u8], i: usize, new: &[u8]) {
+    print::answer(ask(kind, lump, i, new), b" pass", &[]);
+    if new.len() != 0 {
+        print::text(b" bytes");
+        print::bytes(lump);
     }
 }
 
-// The length says which kind it is, but for vertices and subsectors.
-fn write(kind: usize, lump: &mut [u8], index: usize, new: &[u8]) -> Check {
-    match new.len() {
-        10 => record::Thing::write(lump, index, record::Thing::parse(new)),
-        14 => record::Linedef::write(lump, index, record::Linedef::parse(new)),
-        30 => record::Sidedef::write(lump, index, record::Sidedef::parse(new)),
-        26 => record::Sector::write(lump, index, record::Sector::parse(new)),
-        _ => write_built(kind, lump, index, new),
-    }
-}
-
-fn write_built(kind: usize, lump: &mut [u8], index: usize, new: &[u8]) -> Check {
-    match new.len() {
-        12 => built::Seg::write(lump, index, built::Seg::parse(new)),
-        28 => built::Node::write(lump, index, built::Node::parse(new)),
-        4 => write_short(kind, lump, index, new),
-        _ => Check::Pass,
-    }
-}
-
-fn write_short(kind: usize, lump: &mut [u8], index: usize, new: &[u8]) -> Check
-    requires { ⌜ length (now new) ≡ 4 ⌝ }
-{
-    if kind == record::Vertex::PLACE - 1 {
-        return record::Vertex::write(lump, index, record::Vertex::parse(new));
-    }
-    built::Subsector::write(lump, index, built::Subsector::parse(new))
-}
-
-fn read(kind: usize, lump: &[u8], index: usize) -> Check {
+fn ask(kind: usize, lump: &mut [u8], i: usize, new: &[u8]) -> Status {
     match kind {
-        0 => thing(lump, index),
-        1 => linedef(lump, index),
-        2 => sidedef(lump, index),
-        3 => vertex(lump, index),
-        4 => seg(lump, index),
-        5 => subsector(lump, index),
-        6 => node(lump, index),
-        _ => sector(lump, index),
+        0 => thing(lump, i, new),
+        1 => linedef(lump, i, new),
+        2 => sidedef(lump, i, new),
+        3 => vertex(lump, i, new),
+        4 => seg(lump, i, new),
+        5 => subsector(lump, i, new),
+        6 => node(lump, i, new),
+        _ => sector(lump, i, new),
     }
 }
 
-// Each prints the fields in the record's order.
-fn thing(lump: &[u8], index: usize) -> Check {
-    let r = record::Thing::read(lump, index);
-    let t = r.thing;
+fn thing(lump: &mut [u8], i: usize, new: &[u8]) -> Status {
+    if new.len() == record::Thing::SIZE {
+        return records::meshpigeon_write_thing(lump, i, record::Thing::parse(new));
+    }
+    let a = records::meshpigeon_read_thing(lump, i);
+    let t = a.thing;
     print::signed(&[t.x, t.y]);
     print::words(&[t.angle, t.kind, t.flags]);
-    r.check
+    a.status
 }
 
-fn linedef(lump: &[u8], index: usize) -> Check {
-    let r = record::Linedef::read(lump, index);
-    let l = r.linedef;
+fn linedef(lump: &mut [u8], i: usize, new: &[u8]) -> Status {
+    if new.len() == record::Linedef::SIZE {
+        return records::meshpigeon_write_linedef(lump, i, record::Linedef::parse(new));
+    }
+    let a = records::meshpigeon_read_linedef(lump, i);
+    let l = a.linedef;
     print::words(&[l.start, l.end, l.flags, l.special, l.tag, l.right, l.left]);
-    r.check
+    a.status
 }
 
-fn sidedef(lump: &[u8], index: usize) -> Check {
-    let r = record::Sidedef::read(lump, index);
-    let s = r.sidedef;
+fn sidedef(lump: &mut [u8], i: usize, new: &[u8]) -> Status {
+    if new.len() == record::Sidedef::SIZE {
+        return records::meshpigeon_write_sidedef(lump, i, record::Sidedef::parse(new));
+    }
+    let a = records::meshpigeon_read_sidedef(lump, i);
+    let s = a.sidedef;
     print::signed(&[s.x_offset, s.y_offset]);
     let upper = s.upper;
     print::bytes(&upper);
@@ -101,51 +60,66 @@ fn sidedef(lump: &[u8], index: usize) -> Check {
     let middle = s.middle;
     print::bytes(&middle);
     print::words(&[s.sector]);
-    r.check
+    a.status
 }
 
-fn vertex(lump: &[u8], index: usize) -> Check {
-    let r = record::Vertex::read(lump, index);
-    let v = r.vertex;
+fn vertex(lump: &mut [u8], i: usize, new: &[u8]) -> Status {
+    if new.len() == record::Vertex::SIZE {
+        return records::meshpigeon_write_vertex(lump, i, record::Vertex::parse(new));
+    }
+    let a = records::meshpigeon_read_vertex(lump, i);
+    let v = a.vertex;
     print::signed(&[v.x, v.y]);
-    r.check
+    a.status
 }
 
-fn seg(lump: &[u8], index: usize) -> Check {
-    let r = built::Seg::read(lump, index);
-    let s = r.seg;
+fn seg(lump: &mut [u8], i: usize, new: &[u8]) -> Status {
+    if new.len() == built::Seg::SIZE {
+        return records::meshpigeon_write_seg(lump, i, built::Seg::parse(new));
+    }
+    let a = records::meshpigeon_read_seg(lump, i);
+    let s = a.seg;
     print::words(&[s.start, s.end, s.angle, s.linedef, s.direction]);
     print::signed(&[s.offset]);
-    r.check
+    a.status
 }
 
-fn subsector(lump: &[u8], index: usize) -> Check {
-    let r = built::Subsector::read(lump, index);
-    let s = r.subsector;
+fn subsector(lump: &mut [u8], i: usize, new: &[u8]) -> Status {
+    if new.len() == built::Subsector::SIZE {
+        return records::meshpigeon_write_subsector(lump, i, built::Subsector::parse(new));
+    }
+    let a = records::meshpigeon_read_subsector(lump, i);
+    let s = a.subsector;
     print::words(&[s.number, s.first]);
-    r.check
+    a.status
 }
 
-fn node(lump: &[u8], index: usize) -> Check {
-    let r = built::Node::read(lump, index);
-    let n = r.node;
+fn node(lump: &mut [u8], i: usize, new: &[u8]) -> Status {
+    if new.len() == built::Node::SIZE {
+        return records::meshpigeon_write_node(lump, i, built::Node::parse(new));
+    }
+    let a = records::meshpigeon_read_node(lump, i);
+    let n = a.node;
     print::signed(&[n.x, n.y, n.dx, n.dy]);
     let right_box = n.right_box;
     print::signed(&right_box);
     let left_box = n.left_box;
     print::signed(&left_box);
     print::words(&[n.right, n.left]);
-    r.check
+    a.status
 }
 
-fn sector(lump: &[u8], index: usize) -> Check {
-    let r = record::Sector::read(lump, index);
-    let s = r.sector;
+fn sector(lump: &mut [u8], i: usize, new: &[u8]) -> Status {
+    if new.len() == record::Sector::SIZE {
+        return records::meshpigeon_write_sector(lump, i, record::Sector::parse(new));
+    }
+    let a = records::meshpigeon_read_sector(lump, i);
+    let s = a.sector;
     print::signed(&[s.floor, s.ceiling]);
     let floor_flat = s.floor_flat;
     print::bytes(&floor_flat);
     let ceiling_flat = s.ceiling_flat;
     print::bytes(&ceiling_flat);
     print::words(&[s.light, s.special, s.tag]);
-    r.check
+    a.status
 }

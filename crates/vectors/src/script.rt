@@ -1,5 +1,4 @@
 // The script: what its statements lend is written into one store of four parts, and the registers hold how far each goes.
-ghost use Prim.Native.Nat.{_<_};
 use crate::print;
 
 // The store's parts, each from a multiple of 65536 on: what is asked with, two planes, the file or lump. Register i is where
@@ -24,17 +23,14 @@ pub(crate) const BASE: usize = 6;
 
 pub(crate) const NEXT: usize = 7;
 
-// Where writing goes on, and what the next number is for.
-const AT: usize = 8;
+// The part that is written, where writing goes on, and what the next number is for.
+const PART: usize = 8;
 
-const USE: usize = 9;
+const AT: usize = 9;
 
-// A sum of numbers, and where it ends.
-struct Sum {
-    value: usize,
-    next: usize,
-}
+const USE: usize = 10;
 
+// Past the end every byte is a line's end.
 pub(crate) fn byte(s: &[u8], at: usize) -> u8 {
     if at < s.len() { s[at] } else { b'\n' }
 }
@@ -63,7 +59,8 @@ pub(crate) fn place_among(names: &[u8], word: &[u8]) -> usize {
     let mut matched: usize = 0;
     for i in 0..names.len() {
         if names[i] != b' ' {
-            matched = longer_match(word, matched, names[i]);
+            let same = byte(word, matched) == names[i];
+            matched = if same { after(matched) } else { names.len() };
         } else if matched == word.len() {
             return place;
         } else {
@@ -74,179 +71,72 @@ pub(crate) fn place_among(names: &[u8], word: &[u8]) -> usize {
     place
 }
 
-// One more byte that is the word's, or no match.
-fn longer_match(word: &[u8], matched: usize, b: u8) -> usize {
-    if matched < word.len() {
-        if word[matched] == b {
-            return matched + 1;
-        }
-    }
-    word.len() + 1
-}
-
 // What the last base lends, and then what the statement says from a place on.
-pub(crate) fn lend_both(text: &[u8], from: usize, store: &mut [u8], r: &mut [usize; 10]) {
-    *r = [0, 65536, 131072, FILE_START, 0, 0, r[BASE], 0, 0, 0];
+pub(crate) fn lend_both(text: &[u8], from: usize, store: &mut [u8], r: &mut [usize; 11]) {
+    *r = [0, 65536, 131072, FILE_START, 0, 0, r[BASE], 0, 0, 0, 0];
     lend(text, r[BASE], store, r);
     lend(text, from, store, r);
 }
 
-// Reads on to the end of a statement, a line's end with no indented line after it.
-fn lend(text: &[u8], from: usize, store: &mut [u8], r: &mut [usize; 10]) {
+// Reads on to the next line that begins with a word.
+pub(crate) fn lend(text: &[u8], from: usize, store: &mut [u8], r: &mut [usize; 11]) {
     r[NEXT] = from;
-    for _step in from..text.len() {
-        let at = r[NEXT];
-        let b = byte(text, at);
-        if (b == b'\n') & (byte(text, after(at)) != b' ') {
+    for _token in from..text.len() {
+        let b = byte(text, r[NEXT]);
+        if (b'A' <= b) & (byte(text, std::num::wrapping_sub_usize(r[NEXT], 1)) == b'\n') {
             return;
         }
-        r[NEXT] = step(b, text, at, store, r);
+        token(b, text, store, r);
     }
 }
 
-fn step(b: u8, text: &[u8], at: usize, store: &mut [u8], r: &mut [usize; 10]) -> usize {
+fn token(b: u8, text: &[u8], store: &mut [u8], r: &mut [usize; 11]) {
+    let at = r[NEXT];
+    r[NEXT] = find(text, at, b' ');
+    let token = part(text, at, r[NEXT]);
     match b {
-        b' ' | b'\n' => after(at),
-        b'#' => find(text, at, b'\n'),
-        b'"' => quoted(text, after(at), store, r),
-        b'-' => number(true, text, after(at), store, r),
-        b'0'..=b'9' => number(false, text, at, store, r),
-        _ => word(text, at, r),
+        b' ' | b'\n' => r[NEXT] = after(at),
+        b'#' => r[NEXT] = find(text, at, b'\n'),
+        b'"' => write(part(token, 1, find(token, 1, b'"')), store, r),
+        b'-' | b'0'..=b'9' => number(token, store, r),
+        _ => word(token, r),
     }
-}
-
-fn quoted(text: &[u8], from: usize, store: &mut [u8], r: &mut [usize; 10]) -> usize {
-    let to = find(text, from, b'"');
-    let bytes = part(text, from, to);
-    copy(store, r[AT], bytes);
-    wrote(std::num::wrapping_add_usize(r[AT], bytes.len()), r);
-    after(to)
 }
 
 // A word says which part is written next, or what the next number is for.
-fn word(text: &[u8], at: usize, r: &mut [usize; 10]) -> usize {
-    let end = find(text, at, b' ');
-    let place = place_among(
-        b"with colour cover file words at cut again rise ",
-        part(text, at, end),
-    );
+fn word(word: &[u8], r: &mut [usize; 11]) {
+    let place = place_among(b"with colour cover file words at cut again rise ", word);
     if place < 4 {
+        r[PART] = place;
         r[AT] = 65536 * place;
         r[place] = 65536 * place;
-        return end;
+        return;
     }
     r[USE] = place;
     if place == 9 {
         print::ill_formed();
     }
-    end
 }
 
-// A number, the letter of its width, then * and how many times.
-fn number(minus: bool, text: &[u8], at: usize, store: &mut [u8], r: &mut [usize; 10]) -> usize {
-    let first = sum_at(text, at);
-    let width = width_of(byte(text, first.next));
-    let times = times(text, first.next, width);
-    act(signed(minus, first.value), width, times.value, store, r);
-    times.next
-}
-
-fn signed(minus: bool, n: usize) -> usize {
-    if minus {
-        std::num::wrapping_sub_usize(0, n)
-    } else {
-        n
-    }
-}
-
-fn times(text: &[u8], at: usize, width: usize) -> Sum {
-    let star = if width == 1 { at } else { after(at) };
-    if byte(text, star) == b'*' {
-        return sum_at(text, after(star));
-    }
-    Sum {
-        value: 1,
-        next: star,
-    }
-}
-
-// Decimal numbers with + between them.
-fn sum_at(text: &[u8], from: usize) -> Sum {
-    let mut before: usize = 0;
-    let mut last: usize = 0;
-    for i in from..text.len() {
-        if text[i] == b'+' {
-            before = std::num::wrapping_add_usize(before, last);
-            last = 0;
-        } else if (b'0' <= text[i]) & (text[i] <= b'9') {
-            last = longer(last, text[i]);
-        } else {
-            return Sum {
-                value: std::num::wrapping_add_usize(before, last),
-                next: i,
-            };
-        }
-    }
-    Sum {
-        value: 0,
-        next: text.len(),
-    }
-}
-
-// A number is written, unless a word said what else it is for.
-fn act(n: usize, width: usize, times: usize, store: &mut [u8], r: &mut [usize; 10]) {
+// A number, the letter of its width, then * and how many times. It is written, unless a word said what else it is for.
+fn number(token: &[u8], store: &mut [u8], r: &mut [usize; 11]) {
+    let star = find(token, 0, b'*');
+    let last = std::num::wrapping_sub_usize(star, 1);
+    let width = width_of(byte(token, last));
+    let n = sum(part(token, 0, if width == 1 { star } else { last }));
+    let times = sum(part(token, after(star), token.len()));
     let purpose = r[USE];
     r[USE] = 0;
-    if (4 <= purpose) & (purpose <= 6) {
-        return note(purpose, n, times, r);
-    }
-    let end = write(purpose, n, width, times, store, r[AT]);
-    wrote(end, r);
-}
-
-// The words that are lent, or a place of the file, where writing goes on or the file ends.
-fn note(purpose: usize, n: usize, times: usize, r: &mut [usize; 10]) {
-    if purpose == 4 {
-        r[WORD] = n;
-        r[WORDS] = times;
-        return;
-    }
-    let place = std::num::wrapping_add_usize(FILE_START, n);
-    if r[FILE] < place {
-        print::ill_formed();
-    }
-    if purpose == 5 {
-        r[AT] = place;
-    } else {
-        r[FILE] = place;
-    }
-}
-
-// Each of these returns where writing goes on.
-fn write(
-    purpose: usize,
-    n: usize,
-    width: usize,
-    times: usize,
-    store: &mut [u8],
-    at: usize,
-) -> usize {
     match purpose {
-        7 => again(n, times, store, at),
-        8 => rise(n, times, store, at),
-        _ => write_number(n, width, times, store, at),
+        4 => {
+            r[WORD] = n;
+            r[WORDS] = times;
+        }
+        5 | 6 => go_to(n, purpose == 6, r),
+        7 => again(n, times, store, r),
+        8 => rise(n, times, store, r[AT]),
+        _ => write_number(n, width, times, store, r),
     }
-}
-
-// A number with one more digit; 16 digits are enough.
-fn longer(n: usize, digit: u8) -> usize {
-    10 * (n % 1000000000000000) + wide(digit % 16)
-}
-
-pub(crate) fn wide(b: u8) -> usize
-    ensures { λ r. ⌜ r < 256 ⌝ }
-{
-    b as usize
 }
 
 fn width_of(letter: u8) -> usize {
@@ -258,59 +148,94 @@ fn width_of(letter: u8) -> usize {
     }
 }
 
-// What does not fit the width is ill-formed, but for a negative number's upper bits.
-fn write_number(n: usize, width: usize, times: usize, store: &mut [u8], at: usize) -> usize {
-    let rest = put(store, at, width, n);
-    if ((rest != 0) & (n < 9223372036854775808)) | (times == 0) {
+// Decimal numbers with + between them, or one after a -.
+fn sum(s: &[u8]) -> usize {
+    let from: usize = if byte(s, 0) == b'-' { 1 } else { 0 };
+    let mut before: usize = 0;
+    let mut last: usize = 0;
+    for i in from..s.len() {
+        if s[i] == b'+' {
+            before = std::num::wrapping_add_usize(before, last);
+            last = 0;
+        } else {
+            last = longer(last, s[i]);
+        }
+    }
+    let n = std::num::wrapping_add_usize(before, last);
+    if from == 1 { after(!n) } else { n }
+}
+
+// A number with one more digit; 16 digits are enough.
+fn longer(n: usize, digit: u8) -> usize {
+    if (digit < b'0') | (b'9' < digit) {
         print::ill_formed();
     }
-    let end = std::num::wrapping_add_usize(at, width);
-    again(width, std::num::wrapping_sub_usize(times, 1), store, end)
+    10 * (n % 1000000000000000) + (digit % 16) as usize
+}
+
+// Writing goes on at a place of the file, or the file ends there.
+fn go_to(n: usize, cut: bool, r: &mut [usize; 11]) {
+    let place = std::num::wrapping_add_usize(FILE_START, n);
+    if r[FILE] < place {
+        print::ill_formed();
+    }
+    r[PART] = FILE;
+    r[AT] = place;
+    if cut {
+        r[FILE] = place;
+    }
+}
+
+// What does not fit the width is ill-formed, but for a negative number's upper bits.
+fn write_number(n: usize, width: usize, times: usize, store: &mut [u8], r: &mut [usize; 11]) {
+    let rest = put(store, r[AT], width, n);
+    if (rest != 0) & (n < 9223372036854775808) {
+        print::ill_formed();
+    }
+    wrote(std::num::wrapping_add_usize(r[AT], width), r);
+    if 1 < times {
+        again(width, times - 1, store, r);
+    }
 }
 
 // The last n bytes, so many times more.
-fn again(n: usize, times: usize, store: &mut [u8], from: usize) -> usize {
-    let mut at = from;
-    if store.len() < times {
-        print::ill_formed();
-        return at;
+fn again(n: usize, times: usize, store: &mut [u8], r: &mut [usize; 11]) {
+    let end = std::num::wrapping_add_usize(r[AT], (n % 4194304) * (times % 4194304));
+    if store.len() < end {
+        return print::ill_formed();
     }
-    for i in 0..times {
-        repeat(store, at, n);
-        at = std::num::wrapping_add_usize(at, n);
+    for i in r[AT]..end {
+        store[i] = byte(store, std::num::wrapping_sub_usize(i, n));
     }
-    at
-}
-
-fn repeat(store: &mut [u8], at: usize, n: usize) {
-    for i in at..std::num::wrapping_add_usize(at, n) {
-        let b = byte(store, std::num::wrapping_sub_usize(i, n));
-        set(store, i, b);
-    }
+    wrote(end, r);
 }
 
 // The words 0, 1, 2 and so on, at each n bytes.
-fn rise(n: usize, times: usize, store: &mut [u8], from: usize) -> usize {
+fn rise(n: usize, times: usize, store: &mut [u8], from: usize) {
     let mut at = from;
     for i in 0..times {
         put(store, at, 2, i);
         at = std::num::wrapping_add_usize(at, n);
     }
-    from
 }
 
 // Writes the lowest bytes, and returns what is left of the number.
 fn put(store: &mut [u8], at: usize, width: usize, bits: usize) -> usize {
     let mut rest = bits;
     for i in 0..width {
-        set(store, std::num::wrapping_add_usize(at, i), low(rest));
+        set(
+            store,
+            std::num::wrapping_add_usize(at, i),
+            (rest % 256) as u8,
+        );
         rest = rest / 256;
     }
     rest
 }
 
-fn low(n: usize) -> u8 {
-    (n % 256) as u8
+fn write(bytes: &[u8], store: &mut [u8], r: &mut [usize; 11]) {
+    copy(store, r[AT], bytes);
+    wrote(std::num::wrapping_add_usize(r[AT], bytes.len()), r);
 }
 
 pub(crate) fn copy(store: &mut [u8], at: usize, bytes: &[u8]) {
@@ -328,16 +253,10 @@ fn set(store: &mut [u8], at: usize, b: u8) {
 }
 
 // Writing goes on there, and so does the part, unless it was longer already.
-fn wrote(end: usize, r: &mut [usize; 10]) {
-    let part = part_of(r[AT]);
+fn wrote(end: usize, r: &mut [usize; 11]) {
+    let part = r[PART] % 4;
     r[AT] = end;
-    if part < 4 {
-        if r[part] < end {
-            r[part] = end;
-        }
+    if r[part] < end {
+        r[part] = end;
     }
-}
-
-fn part_of(at: usize) -> usize {
-    if at < FILE_START { at / 65536 } else { FILE }
 }

@@ -1,16 +1,17 @@
--- `vectors::script::again` ends: the measure is how many times are left. Assumes nothing.
+-- `vectors::script::again` ends: the measure is what is left of the range. Assumes nothing.
 use Prim.Native.Nat.{_-_}
 use mathlib.Core.Path.{_≡_}
-use borrow.Author.Needs.{needs}
+use borrow.Author.Needs.{needs, scaled-fits}
+use native.Mathlib.Omega.{arith}
 use lib.ListN.{length}
 use Rattle.vectors.proofs.script.again.Statement.{statement}
 use Rattle.vectors.proofs.script.again.Tie as tie
 
 abbrev Inv-loop : tie.InvT-loop
-Inv-loop n times store₀ from at₀ i₀ store at i = length store ≡ length store₀
+Inv-loop n times store₀ r end i₀ store i = length store ≡ length store₀
 
 abbrev μ-loop : tie.MeasureT-loop
-μ-loop n times store₀ from at₀ i₀ store at i = times - i
+μ-loop n times store₀ r end i₀ store i = end - i
 
 pub again-spec : {M : Type 1} → statement M
 again-spec =
@@ -18,13 +19,19 @@ again-spec =
     (tie.spec
     Inv-loop
     μ-loop
+    (λ c. search needs)
+    (λ c. scaled-fits _ 4194304 _ (omega arith) (omega arith))
+    (λ c κs. search needs)
     (λ c κs. search needs)
     (λ c. search needs)
     (λ c. search needs)
+    (λ c. search needs)
     (λ c κs. search needs)
     (λ c κs. search needs)
     (λ c. search needs)
     (λ c. search needs)
     (λ c. search needs)
+    (λ c. search needs)
+    (λ c κs. search needs)
     (λ c. search needs)
     (λ c. search needs))

@@ -7,10 +7,10 @@ use Rattle.vectors.proofs.script.lend.Statement.{statement}
 use Rattle.vectors.proofs.script.lend.Tie as tie
 
 abbrev Inv-loop : tie.InvT-loop
-Inv-loop text from store₀ r₀ -step₀ -step-end store r -step = length store ≡ length store₀
+Inv-loop text from store₀ r₀ -token₀ -token-end store r -token = length store ≡ length store₀
 
 abbrev μ-loop : tie.MeasureT-loop
-μ-loop text from store₀ r₀ -step₀ -step-end store r -step = -step-end - -step
+μ-loop text from store₀ r₀ -token₀ -token-end store r -token = -token-end - -token
 
 pub lend-spec : {M : Type 1} → statement M
 lend-spec =
@@ -22,12 +22,12 @@ lend-spec =
     (λ c. search needs)
     (λ c. search needs)
     (λ c κs. search needs)
-    (λ c κs. search needs)
-    (λ c κs. search needs)
-    (λ c. search needs)
     (λ c. search needs)
     (λ c κs. search needs)
+    (λ c κs. search needs)
     (λ c. search needs)
+    (λ c. search needs)
+    (λ c κs. search needs)
     (λ c. search needs)
     (λ c. search needs)
     (λ c. search needs)

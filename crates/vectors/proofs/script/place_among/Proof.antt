@@ -1,4 +1,4 @@
--- `vectors::script::place_among` reads inside its slice, and ends: the measure is what is left of it. Assumes nothing.
+-- `vectors::script::place_among` ends: the measure is what is left of the names. Assumes nothing.
 use Prim.Native.Nat.{_-_}
 use mathlib.Core.Path.{_≡_}
 use borrow.Author.Needs.{needs}
@@ -20,6 +20,7 @@ place-among-spec =
     μ-loop
     (λ c. search needs)
     (λ c. search needs)
+    (λ c κs. search needs)
     (λ c. search needs)
     (λ c κs. search needs)
     (λ c. search needs)
