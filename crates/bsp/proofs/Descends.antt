@@ -61,7 +61,7 @@ module _ (nodes : List ℕ) (subsectors : ℕ) where
 
   pub descent-holds : DescentHolds nodes subsectors
   descent-holds p depth e x y =
-      let (off, is) = depth-verdict nodes e in
+      let (off, alone, is) = depth-verdict nodes e in
       let f =
       finds nodes subsectors x y (p .inRange) (nodesOf nodes) 0 (root (nodesOf nodes))
       (root-node (nodesOf nodes)) off in

@@ -7,3 +7,7 @@ pub mod Verdict
 pub mod Coordinates
 pub mod Walks
 pub mod Descends
+pub mod Repeats
+pub mod Shared
+pub mod Reach
+pub mod Places

@@ -3,6 +3,7 @@
 pub mod Nodes
 pub mod Routes
 pub mod Heights
+pub mod Reach
 pub mod Side
 pub mod Walks
 pub mod Promises

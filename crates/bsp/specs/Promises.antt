@@ -8,14 +8,15 @@ use lib.IntN.{ℤ}
 use Rattle.bsp.specs.declared.Descent.the-variants.{Found}
 use Rattle.bsp.specs.declared.Graph.{Graph}
 use Rattle.bsp.specs.Nodes.{nodesOf, root}
-use Rattle.bsp.specs.Routes.{Loop, Depth}
+use Rattle.bsp.specs.Routes.{Loop, Shared, Depth}
 use Rattle.bsp.specs.Heights.{graphVerdict}
 use Rattle.bsp.specs.Walks.{Walk, descent}
 
--- the verdict is a loop exactly if there is one, and otherwise the depth
+-- the verdict is a loop exactly if there is one, otherwise a shared child exactly if there is one, and otherwise the depth
 pub record VerdictHolds (nodes : List ℕ) : Type 0 where
   pub loop : graphVerdict nodes ≡ Graph.HasLoop ↔ Loop nodes
-  pub noLoop : (Loop nodes → ⊥) → (depth : ℕ) × (graphVerdict nodes ≡ Graph.HasDepth depth)
+  pub shared : (Loop nodes → ⊥) → graphVerdict nodes ≡ Graph.HasShared ↔ Shared nodes
+  pub neither : (Loop nodes → ⊥) → (Shared nodes → ⊥) → (depth : ℕ) × (graphVerdict nodes ≡ Graph.HasDepth depth)
   pub deep : (depth : ℕ) → graphVerdict nodes ≡ Graph.HasDepth depth → Depth nodes depth
 
 -- the descent of the point (x, y) finds the end and the count of its plain walk, which has no others, and the count is at

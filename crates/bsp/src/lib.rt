@@ -24,9 +24,10 @@ pub enum Choice {
     Left,
 }
 
-// What the graph of a NODES lump is: it has a loop, or its depth is known.
+// What the graph of a NODES lump is: it has a loop, or a node or subsector that two ways lead to, or its depth is known.
 pub enum Graph {
     HasLoop,
+    HasShared,
     HasDepth(usize),
 }
 
@@ -104,7 +105,7 @@ fn chosen_child(nodes: &[u8], x: i16, y: i16, node: usize) -> usize
 // The word of a node's child.
 pub fn child_of(nodes: &[u8], node: usize, choice: Choice) -> usize
     requires { ⌜ nodeSize * node + nodeSize ≤ length (now nodes) ⌝ }
-    ensures { λ r. ⌜ r ≡ childOf (now (nodes .entry)) node choice ⌝ }
+    ensures { λ r. ⌜ (r ≡ childOf (now (nodes .entry)) node choice) × (r < 65536) ⌝ }
 {
     let at = Node::SIZE * node;
     match choice {
@@ -115,7 +116,7 @@ pub fn child_of(nodes: &[u8], node: usize, choice: Choice) -> usize
 
 fn word_at(nodes: &[u8], at: usize) -> usize
     requires { ⌜ at + 1 < length (now nodes) ⌝ }
-    ensures { λ r. ⌜ r ≡ u16At (now (nodes .entry)) at ⌝ }
+    ensures { λ r. ⌜ (r ≡ u16At (now (nodes .entry)) at) × (r < 65536) ⌝ }
 {
     endian::u16_at(nodes, at) as usize
 }

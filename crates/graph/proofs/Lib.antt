@@ -5,3 +5,4 @@ pub mod Tall
 pub mod Searching
 pub mod Looks
 pub mod Words
+pub mod Sharing

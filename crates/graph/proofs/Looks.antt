@@ -20,13 +20,15 @@ module _ (nodes : List ℕ) (count : ℕ) (words : List ℕ) (sp : ℕ) where
   abbrev Said : ℕ → Look → Type 0
   Said w (New v) = (v ≡ w) × (w < count) × (markOf words w ≡ 0)
   Said w OnPath = (w < count) × (markOf words w ≡ pathMark)
-  Said w (Height a) = Tall nodes w a × (a + (unmet (markOf words) count + sp) ≤ count)
+  Said w (Height a) = Tall nodes w a × (a + (unmet (markOf words) count + sp) ≤ count) × (w < subsectorBit → markOf words w ≡ 0 → ⊥)
 
   -- what a look at both children of the node `i` says
   abbrev pub SaidBelow : ℕ → Look → Type 0
   SaidBelow i (New v) = (c : Choice) × (v ≡ childOf nodes i c) × (v < count) × (markOf words v ≡ 0)
   SaidBelow i OnPath = (c : Choice) × (childOf nodes i c < count) × (markOf words (childOf nodes i c) ≡ pathMark)
-  SaidBelow i (Height h) = Tall nodes i (suc h) × (h + (unmet (markOf words) count + sp) ≤ count)
+  SaidBelow i (Height h) =
+      Tall nodes i (suc h) × (h + (unmet (markOf words) count + sp) ≤ count)
+      × ((c : Choice) → childOf nodes i c < subsectorBit → markOf words (childOf nodes i c) ≡ 0 → ⊥)
 
   module _ (s : State nodes count words sp) where
     path-or-height : (w : ℕ) → w < count → eqb (markOf words w) 0 ≡ false → (b : Bool) → eqb (markOf words w) pathMark ≡ b
@@ -35,7 +37,7 @@ module _ (nodes : List ℕ) (count : ℕ) (words : List ℕ) (sp : ℕ) where
     path-or-height w l n false e =
         let met = eqb-false (markOf words w) 0 n in
         let off = eqb-false (markOf words w) pathMark e in
-        (s .tall w l met off, s .low w l met off)
+        (s .tall w l met off, s .low w l met off, λ h. met)
 
     mark-said : (w : ℕ) → w < count → (b : Bool) → eqb (markOf words w) 0 ≡ b
         → Said w (cond b (New w) (cond (eqb (markOf words w) pathMark) OnPath (Height (markOf words w))))
@@ -47,7 +49,8 @@ module _ (nodes : List ℕ) (count : ℕ) (words : List ℕ) (sp : ℕ) where
     said-by w r true e = mark-said w (r (ltb-true w subsectorBit e)) (eqb (markOf words w) 0) refl
     said-by w r false e =
         let room = s .room in
-        (tall-end nodes w (ltb-false w subsectorBit e), omega arith)
+        let end = ltb-false w subsectorBit e in
+        (tall-end nodes w end, omega arith, λ (h : w < subsectorBit). absurd (omega arith))
 
     said : (w : ℕ) → (w < subsectorBit → w < count) → Said w (lookAt words w)
     said w r = said-by w r (isNode w) refl
@@ -58,8 +61,11 @@ module _ (nodes : List ℕ) (count : ℕ) (words : List ℕ) (sp : ℕ) where
       both-said OnPath l (h, e) q = (Right, h, e)
       both-said (Height a) (New v) p (is, h, e) = (Left, is, rw is h, rw is e)
       both-said (Height a) OnPath p (h, e) = (Left, h, e)
-      both-said (Height a) (Height b) (t, h) (u, k) =
-          (tall-node nodes i a b node t u, omega arith)
+      both-said (Height a) (Height b) (t, h, m) (u, k, n) = (tall-node nodes i a b node t u, omega arith, by)
+        where
+          by : (c : Choice) → childOf nodes i c < subsectorBit → markOf words (childOf nodes i c) ≡ 0 → ⊥
+          by Right = m
+          by Left = n
 
       pub said-below : ((c : Choice) → childOf nodes i c < subsectorBit → childOf nodes i c < count)
           → SaidBelow i (lookBelow nodes words i)

@@ -3,7 +3,7 @@
 -- root's mark is the depth. Assumes nothing.
 use Prim.Native.Nat.{ℕ, zero, suc, _+_, _-_, _≤_, _<_}
 use mathlib.Core.Bool.{true, false}
-use mathlib.Core.List.{List}
+use mathlib.Core.List.{List, [], _∷_}
 use mathlib.Core.Logic.{_⊎_, ⊎-elim}
 use mathlib.Core.Path.{_≡_, refl, sym, ap, _∙_}
 use native.Mathlib.Decide.{decLt}
@@ -13,29 +13,35 @@ use borrow.Author.Tests.{lt-ltb, ne-eqb}
 use lib.Dec.{eqb}
 use Rattle.bsp.specs.declared.Choice.{Choice}
 use Rattle.bsp.specs.declared.Graph.{Graph}
-use Rattle.bsp.specs.Nodes.{nodesOf, subsectorBit, childOf}
+use Rattle.bsp.specs.Nodes.{nodesOf, subsectorBit, childOf, root}
+use Rattle.bsp.specs.Inner.{NodesInRange}
+use Rattle.bsp.specs.Routes.{Follow, Reached}
+use Rattle.bsp.proofs.Places.{reached-child}
 use Rattle.bsp.specs.Heights.{stands, graphVerdict}
-use Rattle.graph.specs.Inner.Searching.{unmet, Tall, Searching}
+use Rattle.graph.specs.Inner.Searching.{unmet, Tall, Searching, Explored}
 use Rattle.bsp.proofs.Nodes.{root-last}
 use Rattle.bsp.proofs.Heights.{stands-none, stands-node}
 use Rattle.graph.proofs.Unmet.{same-or-not, unmet-all, unmet-same, unmet-less}
-use Rattle.bsp.proofs.Verdict.{looping, rootHeight, verdict-loop, verdict-depth}
+use Rattle.bsp.proofs.Verdict.{looping, rootHeight, verdict-loop}
 
 end-or-below : (n j : ℕ) → j < n + 1 → (j ≡ n) ⊎ (j < n)
 end-or-below n j h = eq-or-lt-of-le {n = j} {m = n} (omega arith)
 
-module _ (nodes : List ℕ) (count : ℕ) (least : 1 ≤ count) (most : count ≤ 32767) where
+module _ (nodes : List ℕ) (count : ℕ) (least : 1 ≤ count) (most : count ≤ 32767) (counted : nodesOf nodes ≡ count) (within : NodesInRange nodes) where
+  -- a child that is a node is one of the lump's
+  childInside : (i : ℕ) → i < count → (c : Choice) → childOf nodes i c < subsectorBit → childOf nodes i c < count
+  childInside i l c b = rw counted at (within i (rw counted l) c b)
+
+  root-reached : Reached nodes (count - 1)
+  root-reached = record { choices = []; leads = rw (counted, root-last count least) }
+
   -- ---- the verdict at the root
 
-  module _ (whole : nodesOf nodes ≡ count) where
-    loop-at-root : stands nodes count (count - 1) ≡ true → graphVerdict nodes ≡ Graph.HasLoop
-    loop-at-root e = verdict-loop nodes (rw (whole, root-last count least) e)
+  loop-at-root : stands nodes count (count - 1) ≡ true → graphVerdict nodes ≡ Graph.HasLoop
+  loop-at-root e = verdict-loop nodes (rw (counted, root-last count least) e)
 
-    depth-at-root : {h : ℕ} → Tall nodes (count - 1) h → h ≤ count → graphVerdict nodes ≡ Graph.HasDepth h
-    depth-at-root {h} t l =
-        let off : looping nodes ≡ false = rw (whole, root-last count least) (t count l .0) in
-        let is : rootHeight nodes ≡ h = rw (whole, root-last count least) (t count l .1) in
-        verdict-depth nodes off ∙ ap Graph.HasDepth is
+  depth-at-root : {h : ℕ} → Tall nodes (count - 1) h → h ≤ count → (looping nodes ≡ false) × (rootHeight nodes ≡ h)
+  depth-at-root t l = (rw (counted, root-last count least) (t count l .0), rw (counted, root-last count least) (t count l .1))
 
   module _ (mark path : ℕ → ℕ) (sp : ℕ) (s : Searching nodes count mark path sp) where
     -- ---- a child on the path
@@ -58,17 +64,39 @@ module _ (nodes : List ℕ) (count : ℕ) (least : 1 ≤ count) (most : count �
               let (i, m, is) = s .onPath (childOf nodes (path (sp - 1)) c) l e in
               stands-node nodes k (node-on-path j h) c (rw (is, last) at (before i m))
 
-      pub path-loop : nodesOf nodes ≡ count → 0 < sp → graphVerdict nodes ≡ Graph.HasLoop
-      path-loop whole h = loop-at-root whole (rw (s .first h) at (loop-stands count 0 h))
+      pub path-loop : 0 < sp → graphVerdict nodes ≡ Graph.HasLoop
+      path-loop h = loop-at-root (rw (s .first h) at (loop-stands count 0 h))
 
     -- ---- the path is empty
 
-    pub path-done : nodesOf nodes ≡ count → sp ≡ 0 → graphVerdict nodes ≡ Graph.HasDepth (mark (count - 1))
-    path-done whole none =
-        let l : count - 1 < count = omega arith in
-        let off : mark (count - 1) ≡ 65535 → ⊥ = λ e. (let (j, h, is) = s .onPath (count - 1) l e in omega arith) in
-        let low = s .low (count - 1) l (s .rootMet) off in
-        depth-at-root whole (s .tall (count - 1) l (s .rootMet) off) (omega arith)
+    module _ (none : sp ≡ 0) where
+      off-path : (i : ℕ) → i < count → mark i ≡ 65535 → ⊥
+      off-path i l e = let (j, h, is) = s .onPath i l e in omega arith
+
+      -- from a node that was met only such nodes are reached
+      follow-met : (cs : List Choice) (w v : ℕ) → (w < subsectorBit → (w < count) × (mark w ≡ 0 → ⊥)) → Follow nodes w cs v
+          → v < subsectorBit → (v < count) × (mark v ≡ 0 → ⊥)
+      follow-met [] w v m f h = rw f at (m (rw (sym f) at h))
+      follow-met (c ∷ cs) w v m f h =
+          let (l, n) = m (f .0) in
+          follow-met cs (childOf nodes w c) v
+          (λ (k : childOf nodes w c < subsectorBit). (childInside w l c k, s .closed w l n (off-path w l) c k)) (f .1) h
+
+      root-met : root (nodesOf nodes) < subsectorBit → (root (nodesOf nodes) < count) × (mark (root (nodesOf nodes)) ≡ 0 → ⊥)
+      root-met h = rw (counted, root-last count least) (omega arith, s .rootMet)
+
+      pub path-done : Explored nodes mark (mark (count - 1))
+      path-done =
+          let l : count - 1 < count = omega arith in
+          let off = off-path (count - 1) l in
+          let low = s .low (count - 1) l (s .rootMet) off in
+          let (straight, high) = depth-at-root (s .tall (count - 1) l (s .rootMet) off) (omega arith) in
+          record {
+            straight = straight;
+            high = high;
+            known = λ i h n. s .known i (rw counted at h) n;
+            every = λ i r h. rw counted (follow-met (r .choices) (root (nodesOf nodes)) i root-met (r .leads) h);
+          }
 
     -- ---- a node that is put on the path
 
@@ -94,6 +122,16 @@ module _ (nodes : List ℕ) (count : ℕ) (least : 1 ≤ count) (most : count �
               let next : j + 1 ≡ sp = omega arith in
               (c, rw (next, end, below j (omega arith)) (rw last at is))
 
+      push-known : 0 < sp → (c : Choice) → v ≡ childOf nodes (path (sp - 1)) c → (i : ℕ) → i < count → (mark′ i ≡ 0 → ⊥) → Reached nodes i
+      push-known some c is i h n =
+          ⊎-elim
+          (λ (q : i ≡ v).
+          let k : sp - 1 < sp = omega arith in
+          let top = s .known (path (sp - 1)) (s .inRange (sp - 1) k) (s .met (sp - 1) k) in
+          rw (q, is) (reached-child nodes (path (sp - 1)) top (node-on-path (sp - 1) k) c))
+          (λ (q : i ≡ v → ⊥). s .known i h (λ z. n (other i h q ∙ z)))
+          (same-or-not i v)
+
       -- the state, and one node less that is not met
       pub push : 0 < sp → (c : Choice) → v ≡ childOf nodes (path (sp - 1)) c
           → Searching nodes count mark′ path′ (sp + 1) × (unmet mark count ≡ suc (unmet mark′ count))
@@ -115,6 +153,12 @@ module _ (nodes : List ℕ) (count : ℕ) (least : 1 ≤ count) (most : count �
               (λ (k : j < sp). rw (below j k) (kept (path j) (s .inRange j k) (s .met j k)))
               (end-or-below sp j h);
           linked = push-linked some c is;
+          known = push-known some c is;
+          closed =
+              λ i h n m d b e.
+              let same = other i h (λ q. m (ap mark′ q ∙ put)) in
+              let low = childInside i h d b in
+              kept (childOf nodes i d) low (s .closed i h (λ z. n (same ∙ z)) (λ z. m (same ∙ z)) d b) e;
           onPath =
               λ i h e.
               ⊎-elim
@@ -141,6 +185,7 @@ module _ (nodes : List ℕ) (count : ℕ) (least : 1 ≤ count) (most : count �
 
     module _ (some : 0 < sp) (mark′ path′ : ℕ → ℕ) (h : ℕ) (done : mark′ (path (sp - 1)) ≡ suc h)
         (is : Tall nodes (path (sp - 1)) (suc h)) (fits : h + (unmet mark count + sp) ≤ count)
+        (children : (c : Choice) → childOf nodes (path (sp - 1)) c < subsectorBit → mark (childOf nodes (path (sp - 1)) c) ≡ 0 → ⊥)
         (other : (i : ℕ) → i < count → (i ≡ path (sp - 1) → ⊥) → mark′ i ≡ mark i)
         (below : (j : ℕ) → j < sp - 1 → path′ j ≡ path j) where
       last : sp - 1 < sp
@@ -178,6 +223,20 @@ module _ (nodes : List ℕ) (count : ℕ) (least : 1 ≤ count) (most : count �
               let (way, q) = s .linked j (omega arith) in
               (way, rw (below (j + 1) k, below j (omega arith)) q);
           onPath = finish-path;
+          known =
+              λ i l n.
+              ⊎-elim
+              (λ (q : i ≡ path (sp - 1)). s .known i l (rw q (s .met (sp - 1) last)))
+              (λ (q : i ≡ path (sp - 1) → ⊥). s .known i l (λ z. n (other i l q ∙ z)))
+              (same-or-not i (path (sp - 1)));
+          closed =
+              λ i l n m c b e.
+              ⊎-elim
+              (λ (q : i ≡ path (sp - 1)). still (childOf nodes i c) (childInside i l c b) (rw q (children c (rw q at b))) e)
+              (λ (q : i ≡ path (sp - 1) → ⊥).
+              let same = other i l q in
+              still (childOf nodes i c) (childInside i l c b) (s .closed i l (λ z. n (same ∙ z)) (λ z. m (same ∙ z)) c b) e)
+              (same-or-not i (path (sp - 1)));
           tall =
               λ i l n m.
               ⊎-elim
@@ -224,10 +283,19 @@ module _ (nodes : List ℕ) (count : ℕ) (least : 1 ≤ count) (most : count �
         met = λ j h. (let z : j ≡ 0 = omega arith in rw (z, at, put) (λ e. omega arith));
         linked = λ j h. absurd (omega arith);
         onPath = λ i h e. (0, omega arith, at ∙ sym (is-root i h e));
+        known = λ i h n. rw (met-root i h n) root-reached;
+        closed = λ i h n m. absurd (n (other i h (λ q. m (ap mark q ∙ put))));
         tall = λ i h n m. absurd (n (other i h (λ q. m (ap mark q ∙ put))));
         low = λ i h n m. absurd (n (other i h (λ q. m (ap mark q ∙ put))));
       }
     where
+      met-root : (i : ℕ) → i < count → (mark i ≡ 0 → ⊥) → i ≡ count - 1
+      met-root i h n =
+          ⊎-elim
+          (λ (q : i ≡ count - 1). q)
+          (λ (q : i ≡ count - 1 → ⊥). absurd (n (other i h q)))
+          (same-or-not i (count - 1))
+
       is-root : (i : ℕ) → i < count → mark i ≡ 65535 → i ≡ count - 1
       is-root i h e =
           ⊎-elim

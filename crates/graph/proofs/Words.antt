@@ -13,7 +13,7 @@ use Rattle.bsp.specs.Nodes.{nodesOf, subsectorBit, childOf}
 use Rattle.bsp.specs.Heights.{graphVerdict}
 use Rattle.graph.specs.Judging.{cleared}
 use Rattle.graph.specs.Inner.Looks.{markOf, pathOf, lookBelow, LooksInside, pushed, begun}
-use Rattle.graph.specs.Inner.Searching.{unmet, Tall, Searchable, State, effort}
+use Rattle.graph.specs.Inner.Searching.{unmet, Tall, Searchable, State, effort, Explored}
 use Rattle.graph.proofs.Searching.{path-loop, path-done, push, finish, start}
 use Rattle.graph.proofs.Unmet.{unmet-some}
 use Rattle.graph.proofs.Looks.{SaidBelow, said-below}
@@ -53,7 +53,7 @@ module _ (nodes : List ℕ) (count : ℕ) (words : List ℕ) (g : Searchable nod
       let fits : count + 0 < length (replicate count 0 ++ drop count words) =
       (let e = g .enough in let h = g .least in rw long (omega arith)) in
       let cleared = replicate count 0 ++ drop count words in
-      start nodes count (g .least) (g .most) _ _
+      start nodes count (g .least) (g .most) counted (g .inRange) _ _
       (pushed-put cleared count 0 (count - 1) l fits)
       (λ i h n. pushed-other cleared count 0 (count - 1) l fits i h n ∙ zero-below i h)
       (pushed-end cleared count 0 (count - 1) l fits)
@@ -92,7 +92,7 @@ module _ (nodes : List ℕ) (count : ℕ) (words : List ℕ) (g : Searchable nod
 
     pub top-looped : (c : Choice) → childOf nodes (pathOf words count (sp - 1)) c < count
         → markOf words (childOf nodes (pathOf words count (sp - 1)) c) ≡ 65535 → graphVerdict nodes ≡ Graph.HasLoop
-    top-looped c l e = path-loop nodes count (g .least) (g .most) (markOf words) (pathOf words count) sp s c l e counted some
+    top-looped c l e = path-loop nodes count (g .least) (g .most) counted (g .inRange) (markOf words) (pathOf words count) sp s c l e some
 
     -- ---- a node that is put on the path
 
@@ -113,7 +113,7 @@ module _ (nodes : List ℕ) (count : ℕ) (words : List ℕ) (g : Searchable nod
           let below = pushed-below words count sp v l push-fits in
           let end = pushed-end words count sp v l push-fits in
           let (state, less) =
-          push nodes count (g .least) (g .most) (markOf words) (pathOf words count) sp s
+          push nodes count (g .least) (g .most) counted (g .inRange) (markOf words) (pathOf words count) sp s
           (markOf (pushed words count sp v)) (pathOf (pushed words count sp v) count)
           v l new put other below end some c is in
           (state, omega arith)
@@ -121,7 +121,9 @@ module _ (nodes : List ℕ) (count : ℕ) (words : List ℕ) (g : Searchable nod
     -- ---- the path's end, done
 
     module _ (h : ℕ) (is : Tall nodes (pathOf words count (sp - 1)) (suc h))
-        (fits : h + (unmet (markOf words) count + sp) ≤ count) where
+        (fits : h + (unmet (markOf words) count + sp) ≤ count)
+        (children : (c : Choice) → childOf nodes (pathOf words count (sp - 1)) c < subsectorBit
+        → markOf words (childOf nodes (pathOf words count (sp - 1)) c) ≡ 0 → ⊥) where
       pub state-finish : State nodes count (set words (pathOf words count (sp - 1)) (h + 1)) (sp - 1)
           × (effort (set words (pathOf words count (sp - 1)) (h + 1)) count (sp - 1) < effort words count sp)
       state-finish =
@@ -134,12 +136,12 @@ module _ (nodes : List ℕ) (count : ℕ) (words : List ℕ) (g : Searchable nod
           let below : (j : ℕ) → j < sp - 1 → pathOf (set words top (h + 1)) count j ≡ pathOf words count j =
           λ j k. getD-set-other words top (count + j) (h + 1) 0 (λ e. omega arith) in
           let (state, same) =
-          finish nodes count (g .least) (g .most) (markOf words) (pathOf words count) sp s some
-          (markOf (set words top (h + 1))) (pathOf (set words top (h + 1)) count) h done is fits other below in
+          finish nodes count (g .least) (g .most) counted (g .inRange) (markOf words) (pathOf words count) sp s some
+          (markOf (set words top (h + 1))) (pathOf (set words top (h + 1)) count) h done is fits children other below in
           (state, omega arith)
 
-  pub state-done : State nodes count words 0 → graphVerdict nodes ≡ Graph.HasDepth (markOf words (count - 1))
-  state-done s = path-done nodes count (g .least) (g .most) (markOf words) (pathOf words count) 0 s counted refl
+  pub state-done : State nodes count words 0 → Explored nodes (markOf words) (markOf words (count - 1))
+  state-done s = path-done nodes count (g .least) (g .most) counted (g .inRange) (markOf words) (pathOf words count) 0 s refl
 
 -- what the search is given goes by the number of words
 pub searchable-long : {nodes : List ℕ} {count : ℕ} {words : List ℕ} (after : List ℕ) → length after ≡ length words

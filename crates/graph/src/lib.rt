@@ -1,5 +1,5 @@
-// Loop or depth of a node graph, by a search from the root: always to a child not met yet, back where there is none. Each
-// node is put on the path once and taken off it once. specs/Inner/Looks.antt says what the work words hold.
+// Loop, shared child or depth of a node graph, by a search from the root: always to a child not met yet, back where there is
+// none. Each node is put on the path once and taken off it once; then the children of the nodes met are looked at once more. specs/Inner/Looks.antt says what the work words hold.
 use bsp::Choice;
 use bsp::Graph;
 ghost use mathlib.Core.Path.{_≡_};
@@ -8,8 +8,8 @@ ghost use lib.ListN.{length};
 ghost use Rattle.bsp.specs.Heights.{graphVerdict};
 ghost use Rattle.graph.specs.Judging.{Judgeable, GraphJudged, cleared};
 ghost use Rattle.bsp.specs.Nodes.{subsectorBit};
-ghost use Rattle.graph.specs.Inner.Looks.{lookAt, joined, lookBelow, LooksInside, pushed, begun};
-ghost use Rattle.graph.specs.Inner.Searching.{State, Searchable, Stepped};
+ghost use Rattle.graph.specs.Inner.Looks.{markOf, lookAt, joined, lookBelow, LooksInside, pushed, begun};
+ghost use Rattle.graph.specs.Inner.Searching.{State, Searchable, Stepped, Explored, Searched};
 
 // The mark of a node on the path. A height is at most the count of nodes.
 const ON_PATH: u16 = 65535;
@@ -31,7 +31,14 @@ pub enum Step {
     Path(usize),
 }
 
-// Loop or depth of a NODES lump whose children are in range. Whatever the words hold changes nothing; afterwards the first
+// What the search finds.
+pub enum Search {
+    Looping,
+    // no loop, and the depth
+    Done(usize),
+}
+
+// Loop, shared child or depth of a NODES lump whose children are in range. Whatever the words hold changes nothing; afterwards the first
 // four for each node are zero, and the others as found.
 pub fn judge(nodes: &[u8], count: usize, words: &mut [u16]) -> Graph
     requires { ⌜ Judgeable (now nodes) count (now words) ⌝ }
@@ -56,21 +63,43 @@ fn clear(words: &mut [u16], n: usize)
     }
 }
 
-// The whole search. Whatever the words hold, only what it wrote is read.
+// The verdict of at least one node. Whatever the words hold, only what the search wrote is read.
 fn graph_of(nodes: &[u8], count: usize, words: &mut [u16]) -> Graph
     requires { ⌜ Searchable (now nodes) count (now words) ⌝ }
     ensures { λ r. ⌜ r ≡ graphVerdict (now (nodes .entry)) ⌝ }
+{
+    match explore(nodes, count, words) {
+        Search::Looping => Graph::HasLoop,
+        Search::Done(depth) => shared_or_deep(nodes, count, words, depth),
+    }
+}
+
+// Without a loop: a child that two ways lead to, or the depth. The marked nodes are the reached ones.
+fn shared_or_deep(nodes: &[u8], count: usize, words: &[u16], depth: usize) -> Graph
+    requires { ⌜ Searchable (now nodes) count (now words) × Explored (now nodes) (markOf (now words)) depth ⌝ }
+    ensures { λ r. ⌜ r ≡ graphVerdict (now (nodes .entry)) ⌝ }
+{
+    if sharing::shares(nodes, count, words) {
+        return Graph::HasShared;
+    }
+    Graph::HasDepth(depth)
+}
+
+// The whole search.
+fn explore(nodes: &[u8], count: usize, words: &mut [u16]) -> Search
+    requires { ⌜ Searchable (now nodes) count (now words) ⌝ }
+    ensures { λ r. ⌜ Searched (now (nodes .entry)) (now (words .exit)) r ⌝ }
 {
     start(words, count);
     let mut sp = 1;
     while 0 < sp {
         match take_step(nodes, count, words, sp) {
-            Step::Looped => return Graph::HasLoop,
+            Step::Looped => return Search::Looping,
             Step::Path(next) => sp = next,
         }
     }
     let depth = words[count - 1] as usize;
-    Graph::HasDepth(depth)
+    Search::Done(depth)
 }
 
 // No node is met but the root, which is the path.

@@ -8,7 +8,7 @@ use native.Mathlib.Omega.{arith}
 use lib.IntN.{ℤ}
 use lib.ListN.{length}
 use Rattle.refusal.specs.declared.Refusal.{Refusal}
-use Rattle.refusal.specs.declared.Refusal.the-variants.{NodeLoop, WorkWords}
+use Rattle.refusal.specs.declared.Refusal.the-variants.{NodeLoop, NodeShared, WorkWords}
 use Rattle.refusal.specs.Table.{numberOf}
 use Rattle.refusal.specs.declared.Check.{Check}
 use Rattle.refusal.specs.declared.Check.the-variants.{Pass, Refused}
@@ -27,11 +27,14 @@ use Rattle.wad.proofs.Answers.{entry-at, handed-whole}
 use Rattle.built.specs.Subsectors.{subsectorSize}
 use Rattle.wad.proofs.Numbers.{marker-atMost}
 use Rattle.bsp.specs.declared.Graph.{Graph}
-use Rattle.bsp.specs.declared.Graph.the-variants.{HasLoop, HasDepth}
+use Rattle.bsp.specs.declared.Graph.the-variants.{HasLoop, HasShared, HasDepth}
 use Rattle.bsp.specs.Heights.{graphVerdict}
-use Rattle.bsp.specs.Routes.{Loop}
-use Rattle.bsp.proofs.Verdict.{verdict-holds}
-use Rattle.bsp.proofs.Descends.{descent-holds}
+use Rattle.bsp.specs.Routes.{Loop, Shared}
+use Rattle.bsp.specs.Reach.{OneMore}
+use Rattle.bsp.proofs.Nodes.{nodes-in-range}
+use Rattle.bsp.proofs.Verdict.{verdict-holds, depth-verdict}
+use Rattle.bsp.proofs.Reach.{one-more}
+use Rattle.bsp.proofs.Descends.{Passed, descent-holds}
 use Rattle.blockmap.specs.Blockmap.{blockmapCheck}
 use Rattle.level.specs.declared.Verdict.{Verdict}
 use Rattle.level.specs.declared.Verdict.the-variants.{Accepted, Refused as NotAccepted}
@@ -89,25 +92,38 @@ frame wad wad′ name words words′ same short =
 
 -- ---- demand 3
 
-graph-loop : (g : Graph) (m : ℕ) → graphAnswer g m ≡ NotAccepted NodeLoop → g ≡ HasLoop
-graph-loop HasLoop m e = refl
-graph-loop (HasDepth d) m e = let z : _≡_ {A = ℕ} 0 1 = cc in absurd (omega arith)
-
-graph-deep : (g : Graph) (m : ℕ) {d m′ : ℕ} → graphAnswer g m ≡ Accepted d m′ → (g ≡ HasDepth d) × (m ≡ m′)
-graph-deep HasLoop m e = let z : _≡_ {A = ℕ} 0 1 = cc in absurd (omega arith)
-graph-deep (HasDepth d) m e = ((cc), (cc))
-
 -- the number of a refused map
 abbrev numberIn : Verdict → ℕ
 numberIn (Accepted depth marker) = 0
 numberIn (NotAccepted r) = numberOf r
 
-not-31 : (r : Refusal) → numberOf r ≤ 30 → NotAccepted r ≡ NotAccepted NodeLoop → ⊥
-not-31 r h e = let low : 31 ≤ 30 = rw (ap numberIn e) at h in omega arith
+graph-loop : (g : Graph) (m : ℕ) → graphAnswer g m ≡ NotAccepted NodeLoop → g ≡ HasLoop
+graph-loop HasLoop m e = refl
+graph-loop HasShared m e = let z : _≡_ {A = ℕ} 31 32 = ap numberIn (sym e) in absurd (omega arith)
+graph-loop (HasDepth d) m e = let z : _≡_ {A = ℕ} 0 1 = cc in absurd (omega arith)
 
-judged-loop : (c : Check) (g : Graph) (m : ℕ) → AtMost 30 c → judged c g m ≡ NotAccepted NodeLoop → (c ≡ Pass) × (g ≡ HasLoop)
-judged-loop Pass g m h e = (refl, graph-loop g m e)
-judged-loop (Refused r) g m h e = absurd (not-31 r (h r refl) e)
+graph-shared : (g : Graph) (m : ℕ) → graphAnswer g m ≡ NotAccepted NodeShared → g ≡ HasShared
+graph-shared HasLoop m e = let z : _≡_ {A = ℕ} 31 32 = ap numberIn e in absurd (omega arith)
+graph-shared HasShared m e = refl
+graph-shared (HasDepth d) m e = let z : _≡_ {A = ℕ} 0 1 = cc in absurd (omega arith)
+
+graph-deep : (g : Graph) (m : ℕ) {d m′ : ℕ} → graphAnswer g m ≡ Accepted d m′ → (g ≡ HasDepth d) × (m ≡ m′)
+graph-deep HasLoop m e = let z : _≡_ {A = ℕ} 0 1 = cc in absurd (omega arith)
+graph-deep HasShared m e = let z : _≡_ {A = ℕ} 0 1 = cc in absurd (omega arith)
+graph-deep (HasDepth d) m e = ((cc), (cc))
+
+-- a loop is no shared child
+loop-or-shared : {g : Graph} → g ≡ HasLoop → g ≡ HasShared → ⊥
+loop-or-shared e q = let z : _≡_ {A = ℕ} 0 1 = cc in omega arith
+
+-- a check gives no number above 30, so that one is the graph's
+not-above : (r s : Refusal) → numberOf r ≤ 30 → 30 < numberOf s → NotAccepted r ≡ NotAccepted s → ⊥
+not-above r s h k e = let same : numberOf r ≡ numberOf s = ap numberIn e in omega arith
+
+judged-graph : (c : Check) (g : Graph) (m : ℕ) (s : Refusal) → 30 < numberOf s → AtMost 30 c → judged c g m ≡ NotAccepted s
+    → (c ≡ Pass) × (graphAnswer g m ≡ NotAccepted s)
+judged-graph Pass g m s k h e = (refl, e)
+judged-graph (Refused r) g m s k h e = absurd (not-above r s (h r refl) k e)
 
 judged-deep : (c : Check) (g : Graph) (m : ℕ) {d m′ : ℕ} → judged c g m ≡ Accepted d m′ → (c ≡ Pass) × ((g ≡ HasDepth d) × (m ≡ m′))
 judged-deep Pass g m e = (refl, graph-deep g m e)
@@ -133,14 +149,42 @@ module _ (wad name words : List ℕ) where
   known : (d m : ℕ) → verdict wad name words ≡ Accepted d m → Known d m
   known d m q = known-by (markerAnswer wad name) refl q
 
-  looping-by : (a : Marker) → markerAnswer wad name ≡ a → verdictBy wad words a ≡ NotAccepted NodeLoop
-      → (m : ℕ) × (Below31 wad name words m × Loop (nodesAt wad m))
-  looping-by (NoMarker r) e q = let h = marker-atMost wad name r e in absurd (not-31 r (omega arith) q)
-  looping-by (Entry m) e q =
+  -- a map that is refused with a number above 30 passes every check below it, and is refused for its graph
+  graph-by : (a : Marker) (s : Refusal) → 30 < numberOf s → markerAnswer wad name ≡ a → verdictBy wad words a ≡ NotAccepted s
+      → (m : ℕ) × (Below31 wad name words m × (graphAnswer (graphVerdict (nodesAt wad m)) m ≡ NotAccepted s))
+  graph-by (NoMarker r) s k e q = let h = marker-atMost wad name r e in absurd (not-above r s (omega arith) k q)
+  graph-by (Entry m) s k e q =
       let dir = directoryOf wad in
       let below = map-atMost dir (entryCount (headOf wad)) m (mapLumps wad dir m) (length words) in
-      let p = judged-loop (checkAt wad m (length words)) (graphVerdict (nodesAt wad m)) m below q in
-      (m, (record { marks = e; passes = p .0 }, verdict-holds (nodesAt wad m) .loop .0 (p .1)))
+      let p = judged-graph (checkAt wad m (length words)) (graphVerdict (nodesAt wad m)) m s k below q in
+      (m, (record { marks = e; passes = p .0 }, p .1))
+
+  loop-only : verdict wad name words ≡ NotAccepted NodeLoop → (m : ℕ) × (Below31 wad name words m × Loop (nodesAt wad m))
+  loop-only q =
+      let (m, (b, e)) = graph-by (markerAnswer wad name) NodeLoop (omega arith) refl q in
+      (m, (b, verdict-holds (nodesAt wad m) .loop .0 (graph-loop (graphVerdict (nodesAt wad m)) m e)))
+
+  shared-only : verdict wad name words ≡ NotAccepted NodeShared
+      → (m : ℕ) × (Below31 wad name words m × ((Loop (nodesAt wad m) → ⊥) × Shared (nodesAt wad m)))
+  shared-only q =
+      let (m, (b, e)) = graph-by (markerAnswer wad name) NodeShared (omega arith) refl q in
+      let holds = verdict-holds (nodesAt wad m) in
+      let is = graph-shared (graphVerdict (nodesAt wad m)) m e in
+      let none : Loop (nodesAt wad m) → ⊥ = λ (l : Loop (nodesAt wad m)). loop-or-shared (holds .loop .1 l) is in
+      (m, (b, (none, holds .shared none .0 is)))
+
+  -- what the descent and the count of subsectors rely on
+  known-passed : (d m : ℕ) → Known d m → Passed (nodesAt wad m) (subsectorsAt wad m)
+  known-passed d m k =
+      let dir = directoryOf wad in
+      let lumps = mapLumps wad dir m in
+      let rest = andThen-pass (runCheck dir (entryCount (headOf wad)) m) (lumpsCheck lumps (length words)) (k .below .passes) .1 in
+      passed lumps (length words) rest
+
+  one-more-of : (d m : ℕ) → Known d m → OneMore (nodesAt wad m)
+  one-more-of d m k =
+      let (off, alone, is) = depth-verdict (nodesAt wad m) (k .deep) in
+      one-more (nodesAt wad m) off alone (nodes-in-range (nodesAt wad m) (subsectorsAt wad m) (known-passed d m k .inRange))
 
   -- the ten entries after the marker are there, so that none of them is refused
   handed-over : (d m : ℕ) → Known d m → HandedOver wad m
@@ -173,16 +217,21 @@ module _ (wad name words : List ℕ) where
                   holds .loop .0 (graph-loop (graphVerdict (nodesAt wad m)) m (sym (graphs m b) ∙ e)),
               λ (l : Loop (nodesAt wad m)). graphs m b ∙ ap (λ (g : Graph). graphAnswer g m) (holds .loop .1 l),
             );
-        loopOnly = looping-by (markerAnswer wad name) refl;
-        noLoop = λ (m : ℕ) (b : Below31 wad name words m) (none : Loop (nodesAt wad m) → ⊥).
-            let d = verdict-holds (nodesAt wad m) .noLoop none in
+        loopOnly = loop-only;
+        shared = λ (m : ℕ) (b : Below31 wad name words m) (none : Loop (nodesAt wad m) → ⊥).
+            let holds = verdict-holds (nodesAt wad m) .shared none in (
+              λ (e : verdict wad name words ≡ NotAccepted NodeShared).
+                  holds .0 (graph-shared (graphVerdict (nodesAt wad m)) m (sym (graphs m b) ∙ e)),
+              λ (l : Shared (nodesAt wad m)). graphs m b ∙ ap (λ (g : Graph). graphAnswer g m) (holds .1 l),
+            );
+        sharedOnly = shared-only;
+        neither = λ (m : ℕ) (b : Below31 wad name words m) (none : Loop (nodesAt wad m) → ⊥) (alone : Shared (nodesAt wad m) → ⊥).
+            let d = verdict-holds (nodesAt wad m) .neither none alone in
             (d .0, graphs m b ∙ ap (λ (g : Graph). graphAnswer g m) (d .1));
         exact = λ (d m : ℕ) (e : verdict wad name words ≡ Accepted d m). verdict-holds (nodesAt wad m) .deep d (known d m e .deep);
+        oneMore = λ (d m : ℕ) (e : verdict wad name words ≡ Accepted d m). one-more-of d m (known d m e);
         handed = λ (d m : ℕ) (e : verdict wad name words ≡ Accepted d m). handed-over d m (known d m e);
         descends = λ (d m : ℕ) (e : verdict wad name words ≡ Accepted d m) (x y : ℤ).
             let k = known d m e in
-            let dir = directoryOf wad in
-            let lumps = mapLumps wad dir m in
-            let rest = andThen-pass (runCheck dir (entryCount (headOf wad)) m) (lumpsCheck lumps (length words)) (k .below .passes) .1 in
-            descent-holds (nodesAt wad m) (subsectorsAt wad m) (passed lumps (length words) rest) d (k .deep) x y;
+            descent-holds (nodesAt wad m) (subsectorsAt wad m) (known-passed d m k) d (k .deep) x y;
       }

@@ -8,7 +8,7 @@ use lib.Dec.{leb}
 use lib.IntN.{ℤ}
 use lib.ListN.{length}
 use Rattle.refusal.specs.declared.Check.the-variants.{Pass}
-use Rattle.refusal.specs.declared.Refusal.the-variants.{NodeLoop}
+use Rattle.refusal.specs.declared.Refusal.the-variants.{NodeLoop, NodeShared}
 use Rattle.wad.specs.declared.lumps.Entry.the-variants.{At}
 use Rattle.wad.specs.declared.map.Marker.the-variants.{Entry}
 use Rattle.wad.specs.Header.{headOf, entryCount}
@@ -18,7 +18,8 @@ use Rattle.wad.specs.Map.{markerAnswer}
 use Rattle.built.specs.Subsectors.{subsectorSize}
 use Rattle.table.specs.Lumps.{SSECTORS, NODES}
 use Rattle.bsp.specs.Nodes.{nodesOf}
-use Rattle.bsp.specs.Routes.{Loop, Depth}
+use Rattle.bsp.specs.Routes.{Loop, Shared, Depth}
+use Rattle.bsp.specs.Reach.{OneMore}
 use Rattle.bsp.specs.Promises.{Descends}
 use Rattle.level.specs.declared.Verdict.the-variants.{Accepted, Refused}
 use Rattle.level.specs.Lumps.{mapLumps}
@@ -79,10 +80,18 @@ pub record Demand3 (wad name words : List ℕ) : Type 0 where
   -- and no other map is refused for a loop
   pub loopOnly : verdict wad name words ≡ Refused NodeLoop
       → (marker : ℕ) × (Below31 wad name words marker × Loop (nodesAt wad marker))
+  -- otherwise it is refused for a shared node or subsector exactly if two different lists of choices lead to one
+  pub shared : (marker : ℕ) → Below31 wad name words marker → (Loop (nodesAt wad marker) → ⊥)
+      → verdict wad name words ≡ Refused NodeShared ↔ Shared (nodesAt wad marker)
+  -- and no other map is refused for one
+  pub sharedOnly : verdict wad name words ≡ Refused NodeShared
+      → (marker : ℕ) × (Below31 wad name words marker × ((Loop (nodesAt wad marker) → ⊥) × Shared (nodesAt wad marker)))
   -- and otherwise it is accepted, with its exact depth
-  pub noLoop : (marker : ℕ) → Below31 wad name words marker → (Loop (nodesAt wad marker) → ⊥)
-      → (depth : ℕ) × (verdict wad name words ≡ Accepted depth marker)
+  pub neither : (marker : ℕ) → Below31 wad name words marker → (Loop (nodesAt wad marker) → ⊥)
+      → (Shared (nodesAt wad marker) → ⊥) → (depth : ℕ) × (verdict wad name words ≡ Accepted depth marker)
   pub exact : (depth marker : ℕ) → verdict wad name words ≡ Accepted depth marker → Depth (nodesAt wad marker) depth
+  -- an accepted map reaches one subsector more than nodes, each by one list of choices
+  pub oneMore : (depth marker : ℕ) → verdict wad name words ≡ Accepted depth marker → OneMore (nodesAt wad marker)
   -- the nodes and the subsectors of an accepted map are what its entries hand over
   pub handed : (depth marker : ℕ) → verdict wad name words ≡ Accepted depth marker → HandedOver wad marker
   -- on every accepted map every point's descent is not refused, and is its plain walk, with a count of at most the depth

@@ -7,7 +7,7 @@ use lib.Dec.{leb}
 use lib.ListN.{length}
 use Rattle.refusal.specs.declared.Check.{Check}
 use Rattle.refusal.specs.declared.Check.the-variants.{Pass, Refused}
-use Rattle.refusal.specs.declared.Refusal.the-variants.{WorkWords, NodeLoop}
+use Rattle.refusal.specs.declared.Refusal.the-variants.{WorkWords, NodeLoop, NodeShared}
 use Rattle.refusal.specs.Checks.{unless, _andThen_}
 use Rattle.wad.specs.declared.map.Marker.{Marker}
 use Rattle.wad.specs.declared.map.Marker.the-variants.{Entry, Refused as NoMarker}
@@ -15,7 +15,7 @@ use Rattle.wad.specs.Header.{headOf, entryCount}
 use Rattle.wad.specs.Entries.{directoryOf}
 use Rattle.wad.specs.Map.{markerAnswer}
 use Rattle.bsp.specs.declared.Graph.{Graph}
-use Rattle.bsp.specs.declared.Graph.the-variants.{HasLoop, HasDepth}
+use Rattle.bsp.specs.declared.Graph.the-variants.{HasLoop, HasShared, HasDepth}
 use Rattle.bsp.specs.Nodes.{nodesOf}
 use Rattle.bsp.specs.Heights.{graphVerdict}
 use Rattle.graph.specs.Judging.{cleared}
@@ -44,9 +44,10 @@ lumpsCheck lumps lent =
 abbrev pub mapCheck : List ℕ → ℕ → ℕ → List (List ℕ) → ℕ → Check
 mapCheck dir count marker lumps lent = runCheck dir count marker andThen lumpsCheck lumps lent
 
--- 31, or accepted
+-- 31, 32, or accepted
 abbrev pub graphAnswer : Graph → ℕ → Verdict
 graphAnswer HasLoop marker = NotAccepted NodeLoop
+graphAnswer HasShared marker = NotAccepted NodeShared
 graphAnswer (HasDepth depth) marker = Accepted depth marker
 
 -- the verdict by all checks below 31, and where they pass by the node graph

@@ -28,7 +28,7 @@ pub enum Verdict {
 }
 
 // The map of the asked name, judged. The words are lent for the node graph: four for each node. A refusal below 31 leaves
-// them as found; 31 and acceptance leave the first four for each node zero and the others as found.
+// them as found; 31, 32 and acceptance leave the first four for each node zero and the others as found.
 pub fn judge_map(wad: &[u8], name: &[u8], words: &mut [u16]) -> Verdict
     ensures { λ r. ⌜ Answered (now (wad .entry)) (now (name .entry)) (now (words .entry)) r (now (words .exit)) ⌝ }
 {
@@ -65,13 +65,14 @@ fn judge_below(wad: &[u8], dir: &[u8], count: usize, marker: usize, words: usize
     lumps::check_lumps(wad, dir, marker, words)
 }
 
-// 31, or accepted.
+// 31, 32, or accepted.
 fn judge_graph(nodes: &[u8], marker: usize, words: &mut [u16]) -> Verdict
     requires { ⌜ Judgeable (now nodes) (nodesOf (now nodes)) (now words) ⌝ }
     ensures { λ r. ⌜ AnsweredBy (now (nodes .entry)) marker (now (words .entry)) r (now (words .exit)) ⌝ }
 {
     match graph::judge(nodes, nodes.len() / Node::SIZE, words) {
         Graph::HasLoop => Verdict::Refused(Refusal::NodeLoop),
+        Graph::HasShared => Verdict::Refused(Refusal::NodeShared),
         Graph::HasDepth(depth) => Verdict::Accepted { depth, marker },
     }
 }

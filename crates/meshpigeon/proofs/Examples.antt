@@ -3,7 +3,7 @@ use mathlib.Core.Path.{refl}
 use borrow.Author.Tests.{lt-ltb, le-ltb}
 use Rattle.refusal.specs.Checks.{each}
 use Rattle.wad.specs.Map.{findMarker}
-use Rattle.bsp.specs.Heights.{stands, height, graphVerdict}
+use Rattle.bsp.specs.Heights.{stands, height, wordsFrom, graphVerdict}
 use Rattle.bsp.specs.Walks.{descentFrom, descent}
 use Rattle.blockmap.specs.Blockmap.{listEnds, numbersFrom}
 use Rattle.picture.specs.Judging.{postsCheck}
@@ -11,7 +11,7 @@ use Rattle.canvas.specs.Pixels.{overPosts, listOf}
 use Rattle.meshpigeon.specs.Examples.{Examples}
 
 pub examples : Examples
-unfolding each findMarker stands height graphVerdict descentFrom descent listEnds numbersFrom postsCheck overPosts listOf
+unfolding each findMarker stands height wordsFrom graphVerdict descentFrom descent listEnds numbersFrom postsCheck overPosts listOf
 examples =
     record {
       a = (refl, (refl, refl));
@@ -27,6 +27,8 @@ examples =
       f-depth = refl;
       f-descent = λ x y. refl;
       g = refl;
+      g-refused = λ a b c d. refl;
+      g-different = refl;
       g-accepted = λ a b c d. refl;
       h = refl;
       h-refused = λ a b c d. refl;

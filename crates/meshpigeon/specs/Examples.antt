@@ -1,5 +1,5 @@
 -- The examples of 01, "Examples", (a) to (l), of the definitions. The proof is proofs/Examples.antt. Assumes nothing.
-use Prim.Native.Nat.{ℕ, _+_, _/_, _%_, _≤_}
+use Prim.Native.Nat.{ℕ, zero, suc, _+_, _*_, _/_, _%_, _≤_}
 use mathlib.Core.Bool.{true, false}
 use mathlib.Core.List.{List, [], _∷_, _++_}
 use mathlib.Core.Path.{_≡_}
@@ -49,23 +49,30 @@ entry place offset size = u32Bytes offset ++ u32Bytes size ++ lumpName place
 abbrev map01 : List ℕ
 map01 = 77 ∷ 65 ∷ 80 ∷ 48 ∷ 49 ∷ 0 ∷ 0 ∷ 0 ∷ []
 
--- the smallest map with these nodes, whole: one linedef, sidedef, vertex, seg, subsector and sector, and one empty cell
-abbrev mapOf : List ℕ → List ℕ
-mapOf nodes =
-    let size = length nodes in
-    (80 ∷ 87 ∷ 65 ∷ 68 ∷ []) ++ u32Bytes 11 ++ u32Bytes (117 + size)
+-- so many subsectors, all of the first seg alone
+abbrev ssectors : ℕ → List ℕ
+ssectors zero = []
+ssectors (suc n) = u16Bytes 1 ++ u16Bytes 0 ++ ssectors n
+
+-- the smallest map with so many subsectors and these nodes, whole: one linedef, sidedef, vertex, seg and sector, and one empty
+-- cell. NODES begins at byte `at`, and ends at byte `end`
+abbrev mapOf : ℕ → List ℕ → List ℕ
+mapOf subsectors nodes =
+    let at = 72 + 4 * subsectors in
+    let end = at + length nodes in
+    (80 ∷ 87 ∷ 65 ∷ 68 ∷ []) ++ u32Bytes 11 ++ u32Bytes (end + 41)
     ++ replicate 12 0 ++ u16Bytes 65535
     ++ replicate 30 0 ++ replicate 4 0 ++ replicate 12 0
-    ++ u16Bytes 1 ++ u16Bytes 0
+    ++ ssectors subsectors
     ++ nodes ++ replicate 26 0 ++ replicate 1 0
     ++ u16Bytes 0 ++ u16Bytes 0 ++ u16Bytes 1 ++ u16Bytes 1 ++ u16Bytes 5 ++ u16Bytes 0 ++ u16Bytes 65535
     ++ u32Bytes 0 ++ u32Bytes 0 ++ map01 ++ entry THINGS 0 0 ++ entry LINEDEFS 12 14 ++ entry SIDEDEFS 26 30
-    ++ entry VERTEXES 56 4 ++ entry SEGS 60 12 ++ entry SSECTORS 72 4 ++ entry NODES 76 size
-    ++ entry SECTORS (76 + size) 26 ++ entry REJECT (102 + size) 1 ++ entry BLOCKMAP (103 + size) 14
+    ++ entry VERTEXES 56 4 ++ entry SEGS 60 12 ++ entry SSECTORS 72 (4 * subsectors) ++ entry NODES at (length nodes)
+    ++ entry SECTORS end 26 ++ entry REJECT (end + 26) 1 ++ entry BLOCKMAP (end + 27) 14
 
 -- what the map check answers a caller on that map
-abbrev judged : List ℕ → List ℕ → MapAnswer
-judged nodes words = mapOut (verdict (mapOf nodes) map01 words)
+abbrev judged : ℕ → List ℕ → List ℕ → MapAnswer
+judged subsectors nodes words = mapOut (verdict (mapOf subsectors nodes) map01 words)
 
 abbrev acceptedAt : ℕ → MapAnswer
 acceptedAt depth = record { status = record { number = 0; place = 0; «record» = 0 }; depth = depth; marker = 0 }
@@ -73,18 +80,21 @@ acceptedAt depth = record { status = record { number = 0; place = 0; «record» 
 abbrev refusedAs : ℕ → ℕ → MapAnswer
 refusedAs number place = record { status = record { number = number; place = place; «record» = 0 }; depth = 0; marker = 0 }
 
--- the nodes of (g), (h), (i) and (j)
+-- the nodes of (g), with its two children the same and different, (h), (i) and (j)
+abbrev twoAlike : List ℕ
+twoAlike = node 0x8000 0x8000
+
 abbrev oneNode : List ℕ
-oneNode = node 0x8000 0x8000
+oneNode = node 0x8000 0x8001
 
 abbrev ownLeft : List ℕ
 ownLeft = node 0x8000 0
 
 abbrev twoNodes : List ℕ
-twoNodes = node 0 0x8000 ++ node 0x8000 0x8000
+twoNodes = node 0 0x8000 ++ node 0x8000 0x8001
 
 abbrev threeNodes : List ℕ
-threeNodes = node 1 0x8000 ++ node 0x8000 0x8000 ++ node 0 0x8000
+threeNodes = node 1 0x8002 ++ node 0x8000 0x8001 ++ node 0 0x8003
 
 -- a BLOCKMAP of two cells, whose lists are `0 65535` at word 6 and `0 330 331 333 65535` at word 8
 abbrev blockmap : List ℕ
@@ -118,18 +128,21 @@ pub record Examples : Type 0 where
   -- (f) no nodes, one subsector: depth 0, answer 0, count 0
   pub f-depth : graphVerdict [] ≡ Graph.HasDepth 0
   pub f-descent : (x y : ℤ) → descent [] 1 x y ≡ Found 0 0
-  -- (g) one node, both children subsector 0: depth 1, and a whole map with that node is accepted, whatever the words hold
-  pub g : graphVerdict oneNode ≡ Graph.HasDepth 1
-  pub g-accepted : (a b c d : ℕ) → judged oneNode (a ∷ b ∷ c ∷ d ∷ []) ≡ acceptedAt 1
+  -- (g), by W-202: one node, both children subsector 0: a whole map with it is refused 32 at place 7, whatever the words hold
+  pub g : graphVerdict twoAlike ≡ Graph.HasShared
+  pub g-refused : (a b c d : ℕ) → judged 1 twoAlike (a ∷ b ∷ c ∷ d ∷ []) ≡ refusedAs 32 7
+  -- with subsectors 0 and 1 it has depth 1, and is accepted
+  pub g-different : graphVerdict oneNode ≡ Graph.HasDepth 1
+  pub g-accepted : (a b c d : ℕ) → judged 2 oneNode (a ∷ b ∷ c ∷ d ∷ []) ≡ acceptedAt 1
   -- (h) one node whose left child is itself: a whole map with it is refused 31 at place 7
   pub h : graphVerdict ownLeft ≡ Graph.HasLoop
-  pub h-refused : (a b c d : ℕ) → judged ownLeft (a ∷ b ∷ c ∷ d ∷ []) ≡ refusedAs 31 7
-  -- (i) two nodes, node 0 its own child, the root's children both subsectors: accepted, depth 1
+  pub h-refused : (a b c d : ℕ) → judged 1 ownLeft (a ∷ b ∷ c ∷ d ∷ []) ≡ refusedAs 31 7
+  -- (i) two nodes, node 0 its own child, the root's children different subsectors: accepted, depth 1
   pub i : graphVerdict twoNodes ≡ Graph.HasDepth 1
-  pub i-accepted : judged twoNodes (replicate 8 7) ≡ acceptedAt 1
-  -- (j) three nodes, root 2 has node 0, node 0 has node 1, all else subsectors: accepted, depth 3
+  pub i-accepted : judged 2 twoNodes (replicate 8 7) ≡ acceptedAt 1
+  -- (j) three nodes, root 2 has node 0, node 0 has node 1, all else different subsectors: accepted, depth 3
   pub j : graphVerdict threeNodes ≡ Graph.HasDepth 3
-  pub j-accepted : judged threeNodes (replicate 12 7) ≡ acceptedAt 3
+  pub j-accepted : judged 4 threeNodes (replicate 12 7) ≡ acceptedAt 3
   -- (k) the lists are good, and name no linedef and three
   pub k-none : linedefsNamed blockmap 6 ≡ []
   pub k-three : linedefsNamed blockmap 8 ≡ 330 ∷ 331 ∷ 333 ∷ []

@@ -9,7 +9,7 @@ use Rattle.refusal.specs.declared.Refusal.the-variants.{MapName, MapMiss
 use Rattle.refusal.specs.declared.Refusal.the-variants.{RecordSize, RecordCount, RejectLength}
 use Rattle.refusal.specs.declared.Refusal.the-variants.{LinedefReference, SidedefReference, SegReference}
 use Rattle.refusal.specs.declared.Refusal.the-variants.{SubsectorReference, NodeReference, Blockmap}
-use Rattle.refusal.specs.declared.Refusal.the-variants.{WorkWords, NodeLoop}
+use Rattle.refusal.specs.declared.Refusal.the-variants.{WorkWords, NodeLoop, NodeShared}
 use Rattle.refusal.specs.declared.Refusal.the-variants.{DescentNodes, DescentSubsectors, DescentChild, DescentLoop}
 use Rattle.refusal.specs.declared.Refusal.the-variants.{PictureLength, PictureSize, PictureOffsets}
 use Rattle.refusal.specs.declared.Refusal.the-variants.{PostBounds, PostRows, PixelBuffer, RecordBounds}
@@ -42,6 +42,7 @@ rowOf (NodeReference node) = row 27 7 node
 rowOf (Blockmap cell) = row 28 10 cell
 rowOf WorkWords = row 30 7 0
 rowOf NodeLoop = row 31 7 0
+rowOf NodeShared = row 32 7 0
 rowOf DescentNodes = row 40 0 0
 rowOf DescentSubsectors = row 41 0 0
 rowOf (DescentChild node) = row 42 0 node

@@ -46,6 +46,8 @@ pub enum Refusal {
     WorkWords,
     // 31: a loop of nodes
     NodeLoop,
+    // 32: a node or subsector that two ways lead to
+    NodeShared,
     // 40: descent, the size of NODES
     DescentNodes,
     // 41: descent, the count of subsectors
@@ -106,6 +108,7 @@ pub fn row_of(r: Refusal) -> Row
         Refusal::Blockmap(cell) => Row(28, 10, cell),
         Refusal::WorkWords => Row(30, 7, 0),
         Refusal::NodeLoop => Row(31, 7, 0),
+        Refusal::NodeShared => Row(32, 7, 0),
         Refusal::DescentNodes => Row(40, 0, 0),
         Refusal::DescentSubsectors => Row(41, 0, 0),
         Refusal::DescentChild(node) => Row(42, 0, node),

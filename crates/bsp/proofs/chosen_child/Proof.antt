@@ -14,7 +14,7 @@ returns c =
     let e = c .before .before .before in
     let x = toZ-ofZ w16 (e .args .x) (e .fits .x) in
     let y = toZ-ofZ w16 (e .args .y) (e .fits .y) in
-    c .child-of .ensures
+    c .child-of .ensures .0
     ∙ ap (childOf (now (e .args .nodes)) (e .args .node))
     (c .before .side-at .ensures ∙ (λ i. sideAt (now (e .args .nodes)) (x i) (y i) (e .args .node)))
 

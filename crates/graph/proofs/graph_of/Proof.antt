@@ -1,94 +1,31 @@
--- `graph::graph_of` meets its contract. The loop's invariant is the search's state; the measure is what falls with
--- each step. Assumes nothing.
-use Prim.Native.Nat.{ℕ, _-_}
-use mathlib.Core.List.{List}
-use mathlib.Core.Path.{_≡_, refl, sym, _∙_, subst, subst⁻¹}
-use native.Mathlib.Omega.{arith}
+-- `graph::graph_of` meets its contract: a loop is the verdict, and otherwise what the search knows at its end decides.
+-- Assumes nothing.
+use mathlib.Core.Path.{sym, subst}
 use borrow.Author.Needs.{needs}
 use denote.Ref.{now}
-use lib.ListN.{length}
-use Rattle.graph.specs.declared.Step.{Step}
-use Rattle.graph.specs.declared.Step.the-variants.{Path}
-use Rattle.graph.specs.Inner.Searching.{Searchable, State, effort, Stepped}
-use Rattle.graph.proofs.Words.{state-start, state-done, searchable-long}
+use Rattle.graph.specs.declared.Search.{Search}
+use Rattle.graph.specs.Inner.Searching.{Searched}
+use Rattle.graph.proofs.Words.{searchable-long}
 use Rattle.graph.proofs.graph_of.Statement.{statement}
 use Rattle.graph.proofs.graph_of.Tie as tie
 
-abbrev Inv-loop : tie.InvT-loop
-Inv-loop nodes count words₀ sp₀ words sp =
-    Searchable nodes count words × State nodes count words sp × (length words ≡ length words₀)
+-- what the search answers
+abbrev Answer : tie.After-explore → Search → Type 0
+Answer c = Searched (now (c .before .before .before .before .args .nodes)) (c .explore .last .1 .1 .0)
 
-abbrev μ-loop : tie.MeasureT-loop
-μ-loop nodes count words₀ sp₀ words sp = effort words count sp
-
-loop-holds : tie.Need-loop-holds Inv-loop μ-loop
-loop-holds c =
-    let e = c .before .before .before .before .before .before in
-    let words = c .before .before .start .last .0 in (
-      searchable-long words (c .before .before .start .kept .0) (e .pre),
-      subst⁻¹ (λ (w : List ℕ). State (now (e .args .nodes)) (e .args .count) w 1) (c .before .before .start .ensures)
-          (state-start _ _ _ (e .pre)),
-      refl,
+shared-or-deep-requires : tie.Need-shared-or-deep-requires
+shared-or-deep-requires c κs =
+    let t = c .before .before .before .before .before .before in (
+      searchable-long _ (t .explore .kept .1 .1 .0) (t .before .before .before .before .pre),
+      subst (Answer t) (c .before .before .depth .given .1) (t .explore .ensures),
     )
 
--- what a step answers, from the state at the loop's head
-abbrev Answer : tie.After-take-step Inv-loop μ-loop → Step → Type 0
-Answer c =
-    Stepped (now (c .before .before .before .before .before .before .before .before .before .before .args .nodes))
-    (c .before .before .before .before .before .before .before .before .before .before .args .count)
-    (c .before .before .before .loop .words) (c .before .before .before .loop .sp) (c .take-step .last .1 .1 .0)
-
-went : (c : tie.After-known-told Inv-loop μ-loop)
-    → Answer (c .before .before .before .before .before) (Path (c .before .next .given .0 .0))
-went c =
-    subst (Answer (c .before .before .before .before .before)) (c .before .next .given .1)
-    (c .before .before .before .before .before .take-step .ensures)
-
-returns : tie.Need-returns Inv-loop μ-loop
+returns : tie.Need-returns
 returns c =
-    let t = c .before .before .before .before in
-    sym (subst (Answer t) (c .enum-told .given .1) (t .take-step .ensures))
-
-loop-less : tie.Need-loop-less Inv-loop μ-loop
-loop-less c = went c .1
-
-loop-again : tie.Need-loop-again Inv-loop μ-loop
-loop-again c =
-    let t = c .before .before .before .before .before in
-    let inv = t .before .before .before .loop .inv in
-    let same = t .take-step .kept .1 .1 .0 in
-    (searchable-long _ same (inv .0), went c .0, same ∙ inv .2)
-
-cast-depth : tie.Need-cast-depth Inv-loop μ-loop
-cast-depth c =
-    let count = c .before .before .before .before .before .before .before .before .before .args .count in
-    omega (arith, c .slice-known4 .given (count - 1))
-
-returns-2 : tie.Need-returns-2 Inv-loop μ-loop
-returns-2 c =
-    let inv = c .before .before .loop .inv in
-    let none : c .before .before .loop .sp ≡ 0 = omega arith in
-    let s = subst (State _ _ (c .before .before .loop .words)) none (inv .1) in
-    sym (state-done _ _ _ (inv .0) s)
+    let t = c .before .before .before .before in sym (subst (Answer t) (c .enum-told .given .1) (t .explore .ensures))
 
 pub graph-of-spec : {M : Type 1} → statement M
 graph-of-spec =
     tie.close
-    (tie.spec
-    Inv-loop
-    μ-loop
-    (λ c κs. search needs)
-    loop-holds
-    (λ c κs. search needs)
-    (λ c. search needs)
-    (λ c. search needs)
-    returns
-    (λ c. search needs)
-    loop-less
-    loop-again
-    (λ c. search needs)
-    (λ c. search needs)
-    (λ c. search needs)
-    cast-depth
-    (λ c. search needs)
-    returns-2)
+    (tie.spec (λ c κs. search needs) (λ c. search needs) (λ c. search needs) shared-or-deep-requires
+    (λ c. search needs) returns (λ c. search needs) (λ c. search needs))

@@ -5,10 +5,10 @@ use Rattle.graph.proofs.look_below.Statement.{statement}
 use Rattle.graph.proofs.look_below.Tie as tie
 
 look-at-requires : tie.Need-look-at-requires
-look-at-requires c κs = rw (c .child-of .ensures) (c .before .before .before .pre .marked Right)
+look-at-requires c κs = rw (c .child-of .ensures .0) (c .before .before .before .pre .marked Right)
 
 look-at-requires-2 : tie.Need-look-at-requires-2
-look-at-requires-2 c κs = rw (c .child-of2 .ensures) (c .before .before .before .before .before .pre .marked Left)
+look-at-requires-2 c κs = rw (c .child-of2 .ensures .0) (c .before .before .before .before .before .pre .marked Left)
 
 returns : tie.Need-returns
 returns c = cc

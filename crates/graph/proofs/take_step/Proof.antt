@@ -85,8 +85,8 @@ slice-write-words c =
 returns-3 : tie.Need-returns-3
 returns-3 c =
     let e = c .before .before .before .before .before .before .before .before in
-    let (tall, low) = said-height (c .before) in
-    state-finish _ _ _ (e .pre .0) _ (e .pre .1) (e .pre .2) _ tall low
+    let (tall, low, children) = said-height (c .before) in
+    state-finish _ _ _ (e .pre .0) _ (e .pre .1) (e .pre .2) _ tall low children
 
 pub take-step-spec : {M : Type 1} → statement M
 take-step-spec =

@@ -9,8 +9,11 @@ use Rattle.bsp.specs.declared.Choice.{Choice}
 use Rattle.bsp.specs.declared.Graph.{Graph}
 use Rattle.graph.specs.declared.Step.{Step}
 use Rattle.graph.specs.declared.Step.the-variants.{Looped, Path}
+use Rattle.graph.specs.declared.Search.{Search}
+use Rattle.graph.specs.declared.Search.the-variants.{Looping, Done}
 use Rattle.built.specs.Nodes.{nodeSize}
-use Rattle.bsp.specs.Nodes.{childOf}
+use Rattle.bsp.specs.Nodes.{nodesOf, subsectorBit, childOf, root}
+use Rattle.bsp.specs.Routes.{Reached}
 use Rattle.bsp.specs.Inner.{NodesInRange}
 use Rattle.bsp.specs.Heights.{stands, height, graphVerdict}
 use Rattle.graph.specs.Inner.Looks.{pathMark, markOf, pathOf}
@@ -37,6 +40,11 @@ pub record Searching (nodes : List ℕ) (count : ℕ) (mark path : ℕ → ℕ) 
   pub linked : (j : ℕ) → j + 1 < sp → (c : Choice) × (path (j + 1) ≡ childOf nodes (path j) c)
   -- a node marked as on the path is there
   pub onPath : (i : ℕ) → i < count → mark i ≡ pathMark → (j : ℕ) × (j < sp) × (path j ≡ i)
+  -- a node that was met is reached
+  pub known : (i : ℕ) → i < count → (mark i ≡ 0 → ⊥) → Reached nodes i
+  -- and where it is done its children were met
+  pub closed : (i : ℕ) → i < count → (mark i ≡ 0 → ⊥) → (mark i ≡ pathMark → ⊥) → (c : Choice)
+      → childOf nodes i c < subsectorBit → mark (childOf nodes i c) ≡ 0 → ⊥
   -- any other mark is the node's height, and leaves room for those above it
   pub tall : (i : ℕ) → i < count → (mark i ≡ 0 → ⊥) → (mark i ≡ pathMark → ⊥) → Tall nodes i (mark i)
   pub low : (i : ℕ) → i < count → (mark i ≡ 0 → ⊥) → (mark i ≡ pathMark → ⊥) → mark i + (unmet mark count + sp) ≤ count
@@ -62,3 +70,15 @@ abbrev pub Stepped : List ℕ → ℕ → List ℕ → ℕ → List ℕ → Step
 Stepped nodes count before sp after Looped = graphVerdict nodes ≡ Graph.HasLoop
 Stepped nodes count before sp after (Path next) =
     State nodes count after next × (effort after count next < effort before count sp)
+
+-- what the search knows at its end: there is no loop, the depth, and that the marked nodes are the reached ones
+pub record Explored (nodes : List ℕ) (mark : ℕ → ℕ) (depth : ℕ) : Type 0 where
+  pub straight : stands nodes (nodesOf nodes) (root (nodesOf nodes)) ≡ false
+  pub high : height nodes (nodesOf nodes) (root (nodesOf nodes)) ≡ depth
+  pub known : (i : ℕ) → i < nodesOf nodes → (mark i ≡ 0 → ⊥) → Reached nodes i
+  pub every : (i : ℕ) → Reached nodes i → i < subsectorBit → (i < nodesOf nodes) × (mark i ≡ 0 → ⊥)
+
+-- what the search answers, with the words that it leaves
+abbrev pub Searched : List ℕ → List ℕ → Search → Type 0
+Searched nodes after Looping = graphVerdict nodes ≡ Graph.HasLoop
+Searched nodes after (Done depth) = Explored nodes (markOf after) depth

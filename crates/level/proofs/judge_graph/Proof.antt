@@ -17,6 +17,15 @@ returns c =
 
 returns-2 : tie.Need-returns-2
 returns-2 c =
+    let e = c .before .before .before .before .before .before .before .before in
+    let g = c .before .before .before .before .judge .ensures in
+    record {
+      verdicts = ap (λ (a : Graph). graphAnswer a (e .args .marker)) (sym (c .enum-told2 .given .1) ∙ g .verdict);
+      leaves = g .words;
+    }
+
+returns-3 : tie.Need-returns-3
+returns-3 c =
     let e = c .before .before .before .before .before .before .before .before .before in
     let g = c .before .before .before .before .before .judge .ensures in
     record {
@@ -28,4 +37,4 @@ pub judge-graph-spec : {M : Type 1} → statement M
 judge-graph-spec =
     tie.close
     (tie.spec (λ c κs. search needs) (λ c. search needs) (λ c. search needs) (λ c. search needs)
-    returns (λ c. search needs) returns-2)
+    (λ c. search needs) returns (λ c. search needs) returns-2 (λ c. search needs) returns-3)

@@ -1,0 +1,25 @@
+-- How many nodes and subsectors a map reaches (W-202): counted by lists that hold each of them once. Assumes nothing.
+use Prim.Native.Nat.{ℕ, _+_, _≤_, _<_}
+use mathlib.Core.Bool.{true, false}
+use mathlib.Core.List.{List}
+use mathlib.Core.Path.{_≡_}
+use lib.ListN.{length}
+use Rattle.bsp.specs.Nodes.{nodesOf, subsectorBit}
+use Rattle.bsp.specs.Routes.{Reached}
+use Rattle.bsp.specs.Heights.{member, repeats}
+
+-- the list holds every number with the property, nothing else, and each once
+pub record HoldsOnce (P : ℕ → Type 0) (xs : List ℕ) : Type 0 where
+  pub every : (v : ℕ) → P v → member v xs ≡ true
+  pub only : (v : ℕ) → member v xs ≡ true → P v
+  pub once : repeats xs ≡ false
+
+-- the reached nodes are counted, and the reached subsectors are one more
+pub record OneMore (nodes : List ℕ) : Type 0 where
+  pub nodeWords : List ℕ
+  pub subsectorWords : List ℕ
+  pub reachedNodes : HoldsOnce (λ v. Reached nodes v × (v < subsectorBit)) nodeWords
+  pub reachedSubsectors : HoldsOnce (λ v. Reached nodes v × (subsectorBit ≤ v)) subsectorWords
+  pub oneMore : length subsectorWords ≡ length nodeWords + 1
+  -- so that no more subsectors are drawn than there are nodes, and one
+  pub few : length nodeWords ≤ nodesOf nodes

@@ -1,0 +1,4 @@
+-- The children of marked nodes. Assumes nothing.
+
+pub mod Children
+pub mod Inner

@@ -1,0 +1,64 @@
+// Whether two of a graph's marked nodes, or the two choices at one, lead to the same child (W-202). One look at each child.
+use bsp::Choice;
+ghost use mathlib.Core.Path.{_≡_};
+ghost use Prim.Native.Nat.{_+_, _*_, _<_, _≤_};
+ghost use lib.Dec.{eqb};
+ghost use lib.ListN.{length, getD, set};
+ghost use Rattle.bsp.specs.Heights.{repeats};
+ghost use Rattle.built.specs.Nodes.{nodeSize};
+ghost use Rattle.sharing.specs.Children.{childWords};
+ghost use Rattle.sharing.specs.Inner.{Seen, Met};
+
+// As many words as 16 bits can say.
+const WORDS: usize = 65536;
+
+// Whether some child of the marked nodes is met twice. A node is marked where its word of `marks` is not 0.
+pub fn shares(nodes: &[u8], count: usize, marks: &[u16]) -> bool
+    requires { ⌜ (nodeSize * count ≤ length (now nodes)) × (count ≤ length (now marks)) ⌝ }
+    ensures { λ r. ⌜ r ≡ repeats (childWords (now (nodes .entry)) (now (marks .entry)) count) ⌝ }
+{
+    let mut seen = [0u8; WORDS];
+    meets_twice(nodes, count, marks, &mut seen)
+}
+
+fn meets_twice(nodes: &[u8], count: usize, marks: &[u16], seen: &mut [u8]) -> bool
+    requires { ⌜ (nodeSize * count ≤ length (now nodes)) × (count ≤ length (now marks)) ⌝ }
+    requires { ⌜ Seen (now nodes) (now marks) 0 (now seen) ⌝ }
+    ensures { λ r. ⌜ r ≡ repeats (childWords (now (nodes .entry)) (now (marks .entry)) count) ⌝ }
+{
+    for i in 0..count {
+        if meets_again(nodes, marks, seen, i) {
+            return true;
+        }
+    }
+    false
+}
+
+// Whether a child of the node, if that is marked, was seen before. Both are from now on.
+fn meets_again(nodes: &[u8], marks: &[u16], seen: &mut [u8], node: usize) -> bool
+    requires { ⌜ (nodeSize * node + nodeSize ≤ length (now nodes)) × (node < length (now marks)) ⌝ }
+    requires { ⌜ Seen (now nodes) (now marks) node (now seen) ⌝ }
+    ensures { λ r. ⌜ Met (now (nodes .entry)) (now (marks .entry)) (node + 1) (now (seen .exit)) r ⌝ }
+{
+    if marks[node] == 0 {
+        return false;
+    }
+    if visit(seen, bsp::child_of(nodes, node, Choice::Right)) {
+        return true;
+    }
+    if visit(seen, bsp::child_of(nodes, node, Choice::Left)) {
+        return true;
+    }
+    false
+}
+
+// Whether the word was seen before. It is from now on.
+fn visit(seen: &mut [u8], word: usize) -> bool
+    requires { ⌜ word < length (now seen) ⌝ }
+    ensures { λ r. ⌜ r ≡ eqb (getD (now (seen .entry)) word 0) 1 ⌝ }
+    ensures { λ _. ⌜ now (seen .exit) ≡ set (now (seen .entry)) word 1 ⌝ }
+{
+    let before = seen[word] == 1;
+    seen[word] = 1;
+    before
+}
