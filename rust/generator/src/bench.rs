@@ -1,5 +1,5 @@
 //! The large inputs of a benchmark, most of them at any size so that growth can be measured.
-//! Every map among them is good and called [`MAP_NAME`](crate::MAP_NAME).
+//! Every map among them is called [`MAP_NAME`](crate::MAP_NAME), and good, but for those with a shared child.
 
 use crate::blockmap::LIST_END;
 use crate::map::encode;
@@ -50,7 +50,7 @@ pub fn largest_map_of(quarters: usize) -> Vec<u8> {
         vertices: most,
         segs: most,
         subsectors: fewer,
-        nodes: fewer,
+        nodes: fewer - 1,
         sectors: 2_000 * quarters,
         columns: 128,
         rows: 128,
@@ -97,10 +97,41 @@ pub fn directory_of(count: usize) -> Vec<u8> {
     plan.wad()
 }
 
-/// A file with a map whose nodes are a chain of `nodes`: its depth is `nodes`.
+/// A file with a map whose nodes are a chain of `nodes`, up to 32,766: its depth is `nodes`.
 pub fn chain(nodes: usize) -> Vec<u8> {
-    let sizes = Sizes { nodes, subsectors: (nodes + 1).min(32_767), ..Sizes::LEAST };
-    Plan::wad_of(MapSpec::new(sizes, Shape::Chain, Layout::Shared, &mut Rng::new(4)).0)
+    Plan::wad_of(small_map(Shape::Chain, nodes))
+}
+
+/// A file with a map whose nodes are a balanced tree of `nodes`, up to 32,766.
+pub fn balanced(nodes: usize) -> Vec<u8> {
+    Plan::wad_of(small_map(Shape::Balanced, nodes))
+}
+
+/// A file with a map of `nodes` nodes, up to 32,767, each with both children the next: 2 to the power `nodes` ways down. It is
+/// refused 32.
+pub fn doublings(nodes: usize) -> Vec<u8> {
+    Plan::wad_of(small_map(Shape::Ladder, nodes))
+}
+
+/// A file with a map whose nodes are a chain of `nodes`, up to 32,766, in which the first node and the root, which is the last
+/// one, both name the highest subsector. It is refused 32 for that alone.
+pub fn shared_subsector(nodes: usize) -> Vec<u8> {
+    let mut map = small_map(Shape::Chain, nodes);
+    let highest = SUBSECTOR_BIT | (map.subsectors.len() - 1) as u16;
+    for (at, node) in map.nodes.iter_mut().enumerate() {
+        (node.right, node.left) = match at {
+            0 => (SUBSECTOR_BIT, highest),
+            _ => (at as u16 - 1, SUBSECTOR_BIT | at as u16),
+        };
+    }
+    map.nodes[nodes - 1].left = highest;
+    Plan::wad_of(map)
+}
+
+/// A map with these nodes, as many subsectors as their tree needs, if a map may have so many, and no more than it must of the rest.
+fn small_map(shape: Shape, nodes: usize) -> MapSpec {
+    let sizes = Sizes { nodes, subsectors: 32_767.min(nodes + 1), ..Sizes::LEAST };
+    MapSpec::new(sizes, shape, Layout::Shared, &mut Rng::new(4)).0
 }
 
 /// 32,000 cells whose lists all run to the end of a 16 MiB file.
@@ -149,8 +180,7 @@ pub fn picture(width: u16, height: u16) -> Vec<u8> {
     picture.encode()
 }
 
-/// A NODES lump that halves the plane in turn, `levels` times, 1 to 15, over 2 to the power
-/// `levels` subsectors, and 32,767 at most: at 15 levels two areas share the last one.
+/// A NODES lump that halves the plane in turn, `levels` times, 1 to 14, over 2 to the power `levels` subsectors.
 pub fn halving_nodes(levels: u32) -> Vec<u8> {
     let count = (1usize << levels) - 1;
     let mut nodes = vec![Node::default(); count];
@@ -164,7 +194,7 @@ fn halve(nodes: &mut [Node], heap: usize, [x, y, width, height]: [i32; 4]) {
     let last = nodes.len() - 1;
     let child = |side: usize| match 2 * heap + 1 + side {
         node if node <= last => (last - node) as u16,
-        leaf => SUBSECTOR_BIT | (leaf - last - 1).min(32_766) as u16,
+        end => SUBSECTOR_BIT | (end - last - 1) as u16,
     };
     let upright = width >= height;
     let node = &mut nodes[last - heap];

@@ -1,6 +1,8 @@
 //! Minimal damages of a file: each brings one refusal about. Here the file, the directory and
-//! the run of lumps (1 to 22); the records' damages are in `damage_records`.
+//! the run of lumps (1 to 22); the records' damages are in `damage_records`, the graph's in
+//! `damage_graph`.
 
+use crate::damage_graph::GRAPH_DAMAGES;
 use crate::damage_records::RECORD_DAMAGES;
 use crate::{EntryPlan, MapSpec, Plan, Rng, LUMP_NAMES};
 use reader::Refusal;
@@ -19,7 +21,7 @@ pub struct Damage {
 /// All damages, numbers rising. Within a number, a later one may be applied after an earlier
 /// one without mending it.
 pub fn damages() -> Vec<Damage> {
-    [FILE_DAMAGES, RUN_DAMAGES, RECORD_DAMAGES].concat()
+    [FILE_DAMAGES, RUN_DAMAGES, RECORD_DAMAGES, GRAPH_DAMAGES].concat()
 }
 
 /// Shorthand of the tables.

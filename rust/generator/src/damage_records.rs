@@ -1,4 +1,4 @@
-//! Minimal damages inside a map's lumps (23 to 31).
+//! Minimal damages inside a map's lumps (23 to 30); the damages of the node graph are in `damage_graph`.
 
 use crate::blockmap::LIST_END;
 use crate::damage::{damage, Damage};
@@ -135,21 +135,6 @@ pub(crate) const RECORD_DAMAGES: &[Damage] = &[
         let all = -4 * plan.map.nodes.len() as isize;
         plan.spare_words = rng.pick(&[-1, -1, -2, all]);
         Refusal::new(30, 7, 0)
-    }),
-    damage(31, "root that is its own child", |plan, rng| {
-        let root = plan.map.nodes.len() - 1;
-        let node = &mut plan.map.nodes[root];
-        *rng.either(&mut node.right, &mut node.left) = root as u16;
-        Refusal::new(31, 7, 0)
-    }),
-    damage(31, "loop through another node", |plan, rng| {
-        let root = plan.map.nodes.len() - 1;
-        let other = rng.below(root);
-        let node = &mut plan.map.nodes[root];
-        *rng.either(&mut node.right, &mut node.left) = other as u16;
-        let node = &mut plan.map.nodes[other];
-        *rng.either(&mut node.right, &mut node.left) = root as u16;
-        Refusal::new(31, 7, 0)
     }),
 ];
 

@@ -69,7 +69,7 @@ fn along((x, y): (i16, i16), (dx, dy): (i16, i16)) -> (i16, i16) {
 fn good_graph(rng: &mut Rng) -> Case {
     let (count, subsectors) = (rng.between(0, 12), rng.between(1, 9));
     let subsectors = if count == 0 { 1 } else { subsectors };
-    let nodes = graph(rng.pick(&Shape::LOOPLESS), count, subsectors, rng);
+    let nodes = graph(rng.pick(&Shape::loopless()), count, subsectors, rng);
     let point = (rng.i16(), rng.i16());
     ask("descent in a good graph", &nodes, subsectors, point, Expected::Accepted)
 }

@@ -7,8 +7,9 @@
 //!   [`all_picture_damages`] does so for pictures;
 //! - [`limits`] lists both sides of every limit, each case built when asked for;
 //! - [`MapSpec`], [`Plan`], [`BlockmapSpec`] and [`PictureSpec`] build inputs by hand;
-//! - [`ordinary_map`], [`largest_map`], [`directory_of`], [`chain`], [`hostile_blockmap`],
-//!   [`hostile_picture`], [`picture`] and [`halving_nodes`] are the inputs of a benchmark;
+//! - [`ordinary_map`], [`largest_map`], [`directory_of`], [`chain`], [`balanced`], [`doublings`],
+//!   [`shared_subsector`], [`hostile_blockmap`], [`hostile_picture`], [`picture`] and
+//!   [`halving_nodes`] are the inputs of a benchmark;
 //! - [`shrink`] makes a failing case smaller.
 //!
 //! ```
@@ -28,12 +29,14 @@ mod bench;
 mod blockmap;
 mod case;
 mod damage;
+mod damage_graph;
 mod damage_records;
 mod descent;
 mod family;
 mod flip;
 mod graph;
 mod limit;
+mod limit_graph;
 mod limit_lump;
 mod limit_map;
 mod limit_run;
@@ -51,8 +54,8 @@ mod shrink;
 mod valid;
 
 pub use bench::{
-    chain, directory_of, halving_nodes, hostile_blockmap, hostile_blockmap_of, hostile_picture, hostile_picture_of, largest_map,
-    largest_map_of, map_of, ordinary_map, picture, MOST_BYTES,
+    balanced, chain, directory_of, doublings, halving_nodes, hostile_blockmap, hostile_blockmap_of, hostile_picture,
+    hostile_picture_of, largest_map, largest_map_of, map_of, ordinary_map, picture, shared_subsector, MOST_BYTES,
 };
 pub use blockmap::{BlockmapSpec, Layout};
 pub use case::{Case, Expected, Question};

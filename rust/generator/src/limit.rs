@@ -1,5 +1,6 @@
 //! Both sides of every limit: the file, the directory, its entries and names.
 
+use crate::limit_graph::graph_limits;
 use crate::limit_lump::lump_limits;
 use crate::limit_map::map_limits;
 use crate::limit_run::run_limits;
@@ -18,6 +19,7 @@ pub fn limits() -> Vec<Build> {
     all.extend(name_limits());
     all.extend(run_limits());
     all.extend(map_limits());
+    all.extend(graph_limits());
     all.extend(lump_limits());
     all
 }

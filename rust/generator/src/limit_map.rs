@@ -1,15 +1,14 @@
-//! Both sides of the limits inside a map: counts, references, REJECT and work words.
+//! Both sides of the limits inside a map: counts, references and REJECT. The graph and its work words are in `limit_graph`.
 
 use crate::damage::clear;
 use crate::limit::Build;
 use crate::MAP_NAME;
-use crate::{map_case, verdict, Case, Expected, Layout, MapSpec, Plan, Rng, Shape, Sizes};
+use crate::{map_case, Expected, MapSpec, Plan, Rng, Sizes};
 use reader::{Linedef, Node, Refusal, Sector, Seg, Subsector, NO_SIDEDEF, SUBSECTOR_BIT, TWO_SIDED};
 
 /// All of them.
 pub(crate) fn map_limits() -> Vec<Build> {
     let mut all = count_limits();
-    all.extend(graph_limits());
     all.extend(reject_limits());
     all.extend(linedef_limits());
     all.extend(seg_limits());
@@ -35,66 +34,40 @@ pub(crate) fn edited(
 
 /// Counts at both ends of the table's ranges.
 fn count_limits() -> Vec<Build> {
-    let least = Sizes { nodes: 1, ..Sizes::LEAST };
+    let least = Sizes::tree(1);
     let mut all = Vec::new();
-    for (place, (most, set)) in (1..).zip(SETTERS) {
-        for count in [1, most, most + 1] {
+    for (place, set) in (1..).zip(SETTERS) {
+        for (count, refusal) in [(1, None), (65_535, None), (65_536, Some(Refusal::new(21, place, 0)))] {
             let mut sizes = least;
             set(&mut sizes, count);
-            let refusal = (count > most).then_some(Refusal::new(21, place, 0));
             all.push(edited("count", sizes, |_| (), refusal));
         }
+    }
+    for (subsectors, refusal) in [(2, None), (32_767, None), (32_768, Some(Refusal::new(21, 6, 0)))] {
+        all.push(edited("count of subsectors", Sizes { subsectors, ..least }, |_| (), refusal));
+    }
+    for (nodes, refusal) in [(32_766, None), (32_768, Some(Refusal::new(21, 7, 0)))] {
+        all.push(edited("count of nodes", Sizes { nodes, subsectors: 32_767, ..least }, |_| (), refusal));
     }
     for (count, number, place) in [(65_535, 22, 9), (65_536, 21, 8)] {
         let edit = move |map: &mut MapSpec| map.sectors.resize(count, Sector::default());
         all.push(edited("count of sectors", least, edit, Some(Refusal::new(number, place, 0))));
     }
     for place in 1..=8 {
-        let refusal = (place != 1 && place != 7).then_some(Refusal::new(21, place, 0));
+        let refusal = (place != 1).then_some(Refusal::new(21, place, 0));
         all.push(edited("count of 0", least, move |map| clear(map, place), refusal));
     }
     all
 }
 
-/// The largest count of a kind, and how to set it.
-type Setter = (usize, fn(&mut Sizes, usize));
-
-/// By place, from 1 on. SECTORS is left out: no file holds the REJECT of 65,535 sectors.
-const SETTERS: [Setter; 7] = [
-    (65_535, |sizes, count| sizes.things = count),
-    (65_535, |sizes, count| sizes.linedefs = count),
-    (65_535, |sizes, count| sizes.sidedefs = count),
-    (65_535, |sizes, count| sizes.vertices = count),
-    (65_535, |sizes, count| sizes.segs = count),
-    (32_767, |sizes, count| sizes.subsectors = count),
-    (32_767, |sizes, count| sizes.nodes = count),
+/// How to set the count of a kind, by place from 1 on. SECTORS is left out: no file holds the REJECT of 65,535 sectors.
+const SETTERS: [fn(&mut Sizes, usize); 5] = [
+    |sizes, count| sizes.things = count,
+    |sizes, count| sizes.linedefs = count,
+    |sizes, count| sizes.sidedefs = count,
+    |sizes, count| sizes.vertices = count,
+    |sizes, count| sizes.segs = count,
 ];
-
-/// Shapes at small and at the largest counts, with work words just enough and one too few.
-fn graph_limits() -> Vec<Build> {
-    let mut all: Vec<Build> = Vec::new();
-    for shape in Shape::LOOPLESS.into_iter().chain([Shape::Ring]) {
-        for nodes in [1, 2, 3, 32_766, 32_767] {
-            for spare in [-1, 0, 1] {
-                all.push(Box::new(move || graph_case(shape, nodes, spare)));
-            }
-        }
-    }
-    all.push(edited("no node, one subsector", Sizes::LEAST, |_| (), None));
-    let two = Sizes { subsectors: 2, ..Sizes::LEAST };
-    all.push(edited("no node, two subsectors", two, |_| (), Some(Refusal::new(21, 7, 0))));
-    all
-}
-
-fn graph_case(shape: Shape, nodes: usize, spare: isize) -> Case {
-    let sizes = Sizes { nodes, subsectors: 3, ..Sizes::LEAST };
-    let (map, truth) = MapSpec::new(sizes, shape, Layout::Empty, &mut Rng::new(nodes as u64));
-    let mut plan = Plan::new(map, MAP_NAME);
-    (plan.spare_words, plan.fill) = (spare, 0xA5A5);
-    let few = Expected::Refused(Refusal::new(30, 7, 0));
-    let expected = if spare < 0 { few } else { verdict(truth, 0) };
-    map_case(format!("{shape:?} of {nodes} nodes, {spare} spare words"), &plan, expected)
-}
 
 /// REJECT a byte short, right, and a byte long.
 fn reject_limits() -> Vec<Build> {
@@ -186,7 +159,7 @@ fn subsector_limits() -> Vec<Build> {
     all
 }
 
-/// Children of node 0, which no route reaches.
+/// Children of node 0, which no route reaches, so that it may share its children with the root.
 fn child_limits() -> Vec<Build> {
     let mut all: Vec<Build> = Vec::new();
     for count in [2u16, 300, 32_767] {
@@ -214,7 +187,7 @@ fn child_limits() -> Vec<Build> {
 
 fn unreached_child(map: &mut MapSpec, child: u16, right: bool) {
     let (first, root) = (0, map.nodes.len() - 1);
-    let end = Node { right: SUBSECTOR_BIT, left: SUBSECTOR_BIT, ..Node::default() };
-    (map.nodes[first], map.nodes[root]) = (end, end);
+    map.nodes[first] = Node { right: SUBSECTOR_BIT, left: SUBSECTOR_BIT, ..Node::default() };
+    map.nodes[root] = Node { right: SUBSECTOR_BIT, left: SUBSECTOR_BIT | 1, ..Node::default() };
     *if right { &mut map.nodes[first].right } else { &mut map.nodes[first].left } = child;
 }

@@ -18,8 +18,7 @@ pub(crate) fn run_limits() -> Vec<Build> {
 /// A small good file with one edit of its plan.
 fn planned(label: &'static str, edit: impl Fn(&mut Plan) + 'static, verdict: Result<usize, Refusal>) -> Build {
     Box::new(move || {
-        let sizes = Sizes { nodes: 1, ..Sizes::LEAST };
-        let mut plan = Plan::new(MapSpec::plain(sizes, &mut Rng::new(14)), MAP_NAME);
+        let mut plan = Plan::new(MapSpec::plain(Sizes::tree(1), &mut Rng::new(14)), MAP_NAME);
         edit(&mut plan);
         let expected = match verdict {
             Ok(marker) => Expected::Map(Accepted { depth: 1, marker }),
@@ -104,7 +103,7 @@ fn missing() -> Vec<Build> {
     all
 }
 
-/// 20 before 21 in a lump, but lump by lump. THINGS and NODES may be empty.
+/// 20 before 21 in a lump, but lump by lump. THINGS may be empty; NODES may not, as there are two subsectors.
 fn sizes_in_turn() -> Vec<Build> {
     let mut all = Vec::new();
     for place in 1..=8 {
@@ -120,7 +119,7 @@ fn sizes_in_turn() -> Vec<Build> {
                 clear(&mut plan.map, place);
                 plan.entry_at(other).padding = vec![0];
             };
-            let empty_is_first = place < other && ![1, 7].contains(&place);
+            let empty_is_first = place < other && place != 1;
             let verdict = if empty_is_first { refused(21, place) } else { refused(20, other) };
             all.push(planned("empty lump and part of a record", both, verdict));
         }

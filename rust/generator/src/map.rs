@@ -52,34 +52,42 @@ impl Sizes {
         rows: 1,
     };
 
+    /// The least, but so many nodes, and a subsector for each place where their tree ends: a tree of R nodes has R + 1.
+    pub const fn tree(nodes: usize) -> Self {
+        Self { nodes, subsectors: nodes + 1, ..Self::LEAST }
+    }
+
     /// A few of everything; at least two of all but things, so that any damage finds its place.
     pub fn few(rng: &mut Rng) -> Self {
+        let nodes = rng.between(2, 9);
         Self {
             things: rng.between(0, 3),
             linedefs: rng.between(2, 8),
             sidedefs: rng.between(2, 6),
             vertices: rng.between(2, 8),
             segs: rng.between(2, 8),
-            subsectors: rng.between(2, 6),
-            nodes: rng.between(2, 9),
+            subsectors: rng.between(nodes + 1, nodes + 4),
+            nodes,
             sectors: rng.between(2, 6),
             columns: rng.between(1, 4) as u16,
             rows: rng.between(1, 4) as u16,
         }
     }
 
-    /// Counts near the least ones, or a few, or some dozens.
+    /// Counts near the least ones, or a few, or some dozens. Now and then the subsectors are too few for a tree of all nodes.
     pub fn any(rng: &mut Rng) -> Self {
-        match rng.below(4) {
-            0 => Self { nodes: rng.below(3), things: rng.below(2), ..Self::LEAST },
-            1 => Self { nodes: rng.between(10, 60), subsectors: rng.between(1, 60), ..Self::few(rng) },
-            _ => Self { nodes: rng.between(1, 9), ..Self::few(rng) },
-        }
+        let nodes = match rng.below(4) {
+            0 => return Self { things: rng.below(2), ..Self::tree(rng.below(3)) },
+            1 => rng.between(10, 60),
+            _ => rng.between(1, 9),
+        };
+        let subsectors = if rng.once_in(8) { rng.between(1, nodes) } else { rng.between(nodes + 1, nodes + 4) };
+        Self { nodes, subsectors, ..Self::few(rng) }
     }
 }
 
 impl MapSpec {
-    /// A good map but for its graph, which has the loops of its shape. Linedef 0 has one side;
+    /// A good map but for its graph, which has the loops and shared children of its shape. Linedef 0 has one side;
     /// linedef 1, where there is one, has two.
     pub fn new(sizes: Sizes, shape: Shape, layout: Layout, rng: &mut Rng) -> (Self, Truth) {
         let linedefs: Vec<Linedef> = (0..sizes.linedefs).map(|index| linedef(index, &sizes, rng)).collect();
@@ -100,7 +108,7 @@ impl MapSpec {
         (map, truth)
     }
 
-    /// A good map of the given sizes, with a balanced tree and one shared list.
+    /// A good map of the given sizes, which must have more subsectors than nodes: a balanced tree and one shared list.
     pub fn plain(sizes: Sizes, rng: &mut Rng) -> Self {
         Self::new(sizes, Shape::Balanced, Layout::Shared, rng).0
     }

@@ -1,4 +1,4 @@
-//! Good maps, and maps whose only possible fault is a loop.
+//! Good maps, and maps whose only possible fault is their graph.
 
 use crate::{Case, Expected, Layout, MapSpec, Plan, Question, Rng, Shape, Sizes, Truth};
 use reader::{Accepted, Refusal};
@@ -9,7 +9,7 @@ pub(crate) const GOOD_NAMES: [&[u8; 8]; 7] =
 
 /// A good file, in which every kind of damage finds its place.
 pub fn sound_plan(rng: &mut Rng) -> Plan {
-    let shape = rng.pick(&Shape::LOOPLESS);
+    let shape = rng.pick(&Shape::TREES);
     let (map, _) = MapSpec::new(Sizes::few(rng), shape, rng.pick(&Layout::ALL), rng);
     let mut plan = Plan::new(map, *rng.pick(&GOOD_NAMES));
     plan.surround(rng);
@@ -21,13 +21,11 @@ pub fn any_plan(rng: &mut Rng) -> (Plan, Expected) {
     let shape = match rng.below(12) {
         0 => Shape::Ring,
         1 => Shape::Any,
-        _ => rng.pick(&Shape::LOOPLESS),
+        2 => Shape::Tangle,
+        3 | 4 => rng.pick(&Shape::SHARING),
+        _ => rng.pick(&Shape::TREES),
     };
-    let mut sizes = Sizes::any(rng);
-    if sizes.nodes == 0 {
-        sizes.subsectors = 1;
-    }
-    let (map, truth) = MapSpec::new(sizes, shape, rng.pick(&Layout::ALL), rng);
+    let (map, truth) = MapSpec::new(Sizes::any(rng), shape, rng.pick(&Layout::ALL), rng);
     let mut plan = Plan::new(map, *rng.pick(&GOOD_NAMES));
     if !rng.once_in(4) {
         plan.surround(rng);
@@ -40,7 +38,7 @@ pub fn any_plan(rng: &mut Rng) -> (Plan, Expected) {
 pub fn verdict(truth: Truth, marker: usize) -> Expected {
     match truth {
         Truth::Depth(depth) => Expected::Map(Accepted { depth, marker }),
-        Truth::Loopless => Expected::Accepted,
+        Truth::Shared => Expected::Refused(Refusal::new(32, 7, 0)),
         Truth::Loop => Expected::Refused(Refusal::new(31, 7, 0)),
         Truth::Unknown => Expected::Unknown,
     }

@@ -4,7 +4,7 @@ mod common;
 
 use common::check;
 use generator::*;
-use reader::{descend, directory, judge_map, judge_picture, Accepted, Found};
+use reader::{descend, directory, judge_map, judge_picture, Accepted, Found, Refusal};
 
 #[test]
 fn both_sides_of_every_limit() {
@@ -13,21 +13,33 @@ fn both_sides_of_every_limit() {
     }
 }
 
-fn judged(wad: &[u8]) -> Accepted {
+fn verdict_on(wad: &[u8]) -> Result<Accepted, Refusal> {
     let mut words = vec![1; 4 * 32_767];
-    judge_map(wad, &MAP_NAME, &mut words).expect("a good map")
+    judge_map(wad, &MAP_NAME, &mut words)
+}
+
+fn judged(wad: &[u8]) -> Accepted {
+    verdict_on(wad).expect("a good map")
 }
 
 #[test]
 fn large_inputs_are_good() {
     assert_eq!(judged(&ordinary_map()).depth, 8);
     assert_eq!(judged(&map_of(4)).depth, 10);
-    assert_eq!(judged(&chain(32_767)).depth, 32_767);
+    assert_eq!(judged(&chain(32_766)).depth, 32_766);
+    assert_eq!(judged(&balanced(32_766)).depth, 15);
     assert_eq!(judged(&directory_of(4_096)).marker, 0);
     assert_eq!(directory(&directory_of(4_096)).unwrap().count, 4_096);
     let largest = largest_map();
     assert!((MOST_BYTES - 1..=MOST_BYTES).contains(&largest.len()));
     assert_eq!(judged(&largest).depth, 15);
+}
+
+#[test]
+fn shared_inputs_are_refused_for_that_alone() {
+    for wad in [doublings(30), doublings(32_767), shared_subsector(30), shared_subsector(32_766)] {
+        assert_eq!(verdict_on(&wad), Err(Refusal::new(32, 7, 0)));
+    }
 }
 
 #[test]

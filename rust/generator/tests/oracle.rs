@@ -3,6 +3,7 @@
 
 use generator::*;
 use reader::{judge_map, judge_picture, paint_picture, Accepted, Node, Refusal, SUBSECTOR_BIT};
+use std::collections::BTreeSet;
 
 /// The child word reached from `word` by the choices, one bit each; `None` where a choice would
 /// have to be made at a subsector.
@@ -24,11 +25,16 @@ fn reached(nodes: &[Node], count: usize) -> Vec<u16> {
 }
 
 /// 01's words: a loop when some list of N choices is still on a node; otherwise the largest
-/// number of choices of a route.
+/// number of choices of a route. W-202's: no word may be reached by two different lists.
 fn verdict_of(nodes: &[Node]) -> Result<Accepted, Refusal> {
     let is_node = |word: &u16| word & SUBSECTOR_BIT == 0;
     if reached(nodes, nodes.len()).iter().any(is_node) {
         return Err(Refusal::new(31, 7, 0));
+    }
+    let mut met: Vec<u16> = (0..=nodes.len()).flat_map(|count| reached(nodes, count)).collect();
+    met.sort_unstable();
+    if met.windows(2).any(|pair| pair[0] == pair[1]) {
+        return Err(Refusal::new(32, 7, 0));
     }
     let ends = |count: &usize| reached(nodes, *count).iter().any(|word| !is_node(word));
     let depth = (0..=nodes.len()).rev().find(ends).expect("a route");
@@ -40,34 +46,53 @@ fn judge(map: MapSpec) -> Result<Accepted, Refusal> {
     judge_map(&Plan::wad_of(map), &MAP_NAME, &mut words)
 }
 
-fn judge_nodes(nodes: Vec<Node>) {
-    let mut map = MapSpec::plain(Sizes::LEAST, &mut Rng::new(1));
+/// Judges nodes over one subsector more than they are. An accepted map reaches one subsector more than nodes.
+fn judge_nodes(nodes: Vec<Node>) -> Result<Accepted, Refusal> {
+    let mut map = MapSpec::plain(Sizes::tree(nodes.len()), &mut Rng::new(1));
     map.nodes = nodes.clone();
-    assert_eq!(judge(map), verdict_of(&nodes), "{nodes:?}");
+    let verdict = judge(map);
+    assert_eq!(verdict, verdict_of(&nodes), "{nodes:?}");
+    if verdict.is_ok() {
+        let met: Vec<u16> = (0..=nodes.len()).flat_map(|count| reached(&nodes, count)).collect();
+        let subsectors = met.iter().filter(|word| **word & SUBSECTOR_BIT != 0).count();
+        assert_eq!(subsectors, met.len() - subsectors + 1);
+    }
+    verdict
 }
+
+/// How many of all graphs of 0 to 3 nodes over one subsector more are accepted, by the count of reached nodes: ways to place the
+/// reached nodes below the root, times lists of different subsectors, times words for both children of each unreached node.
+const TREES: [usize; 4] = [1, 2, 2 * 6 + 6 * 5_usize.pow(2), 10 * 24 + 4 * 24 * 7_usize.pow(2) + 12 * 7_usize.pow(4)];
 
 #[test]
 fn all_graphs_of_up_to_three_nodes() {
     for count in 1..=3 {
-        let words: Vec<u16> = (0..count as u16).chain([SUBSECTOR_BIT]).collect();
+        let words: Vec<u16> = (0..count as u16).chain((0..=count as u16).map(|number| SUBSECTOR_BIT | number)).collect();
+        let mut accepted = 0;
         for number in 0..words.len().pow(2 * count) {
             let word = |at: u32| words[number / words.len().pow(at) % words.len()];
             let node = |at: u32| Node { right: word(2 * at), left: word(2 * at + 1), ..Node::default() };
-            judge_nodes((0..count).map(node).collect());
+            accepted += usize::from(judge_nodes((0..count).map(node).collect()).is_ok());
         }
+        assert_eq!(accepted, TREES[count as usize], "{count} nodes");
     }
 }
 
 #[test]
 fn any_graphs_of_up_to_nine_nodes() {
-    let mut rng = Rng::new(5);
+    let (mut rng, mut met) = (Rng::new(5), BTreeSet::new());
     for _ in 0..4_000 {
-        let shape = rng.pick(&[Shape::Any, Shape::Any, Shape::Shuffled, Shape::Islands, Shape::Ring]);
+        let shape = match rng.below(4) {
+            0 => Shape::Any,
+            1 => Shape::Ring,
+            _ => rng.pick(&Shape::loopless()),
+        };
         let count = rng.between(4, 9);
-        let (children, _) = shape.children(count, 1, &mut rng);
+        let (children, _) = shape.children(count, count + 1, &mut rng);
         let node = |&[right, left]: &[u16; 2]| Node { right, left, ..Node::default() };
-        judge_nodes(children.iter().map(node).collect());
+        met.insert(judge_nodes(children.iter().map(node).collect()).map_or_else(|refusal| refusal.number, |_| 0));
     }
+    assert_eq!(met, [0, 31, 32].into());
 }
 
 /// Whether the list at word `offset` is good, read from its start to its end.

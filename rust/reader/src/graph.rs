@@ -1,49 +1,55 @@
-//! The node graph: loop and depth by topological order.
+//! The node graph: loop, shared children and depth, all by topological order.
 
-use crate::{Node, SUBSECTOR_BIT};
+use crate::{Node, Refusal, SUBSECTOR_BIT};
 
-/// The two node children of each node; subsectors are left out.
+/// How many child words there are.
+const WORDS: usize = 1 << 16;
+
+/// The two child words of each node.
 struct Graph {
-    children: Vec<[Option<usize>; 2]>,
+    children: Vec<[u16; 2]>,
 }
 
-/// The depth of the graph below the last node, or `None` where it has a loop.
+/// The depth of the graph below the last node: refusals 31 and 32. Children must be in range.
 ///
 /// A loop in 01's sense (some list of N choices is still on a node) is a cycle that the root
-/// reaches: N choices pass N + 1 nodes, so one of them twice. Nodes are taken away as soon as
-/// all routes into them are taken away (Kahn); a cycle is what can never be taken. Children must
-/// be in range.
-pub(crate) fn depth(nodes: &[u8]) -> Option<usize> {
-    let graph = Graph::new(nodes);
-    let Some(root) = graph.children.len().checked_sub(1) else { return Some(0) };
-    let (mut parents, reached) = graph.parents_below(root);
-    let mut passed = vec![0; graph.children.len()];
-    passed[root] = 1;
-    let mut free = if parents[root] == 0 { vec![root] } else { vec![] };
-    let (mut taken, mut depth) = (0, 0);
-    while let Some(node) = free.pop() {
-        taken += 1;
-        depth = depth.max(passed[node]);
-        for child in graph.node_children(node) {
-            passed[child] = passed[child].max(passed[node] + 1);
-            parents[child] -= 1;
-            if parents[child] == 0 {
-                free.push(child);
-            }
-        }
+/// reaches: N choices pass N + 1 nodes, so one of them twice. Where there is none, the lists of
+/// choices that lead to a node or subsector can be counted, and W-202 allows one.
+pub(crate) fn judge(nodes: &[u8]) -> Result<usize, Refusal> {
+    let children = Node::all(nodes).map(|node| [node.right, node.left]);
+    let graph = Graph { children: children.collect() };
+    let Some(root) = graph.children.len().checked_sub(1) else { return Ok(0) };
+    let order = graph.order_below(root).ok_or(Refusal::new(31, 7, 0))?;
+    if graph.is_shared(&order) {
+        return Err(Refusal::new(32, 7, 0));
     }
-    (taken == reached).then_some(depth)
+    Ok(graph.depth(&order))
 }
 
 impl Graph {
-    fn new(nodes: &[u8]) -> Self {
-        let child = |word: u16| (word & SUBSECTOR_BIT == 0).then_some(usize::from(word));
-        let children = Node::all(nodes).map(|node| [child(node.right), child(node.left)]);
-        Self { children: children.collect() }
+    /// The nodes among a node's children.
+    fn node_children(&self, node: usize) -> impl Iterator<Item = usize> {
+        self.children[node].into_iter().filter(|word| word & SUBSECTOR_BIT == 0).map(usize::from)
     }
 
-    fn node_children(&self, node: usize) -> impl Iterator<Item = usize> {
-        self.children[node].into_iter().flatten()
+    /// The nodes that the root reaches, each behind all its parents; `None` where there is a loop.
+    ///
+    /// Nodes are taken as soon as all reached places that name them are taken (Kahn); a cycle is
+    /// what can never be taken.
+    fn order_below(&self, root: usize) -> Option<Vec<usize>> {
+        let (mut parents, reached) = self.parents_below(root);
+        let mut order = Vec::with_capacity(reached);
+        let mut free = if parents[root] == 0 { vec![root] } else { vec![] };
+        while let Some(node) = free.pop() {
+            order.push(node);
+            for child in self.node_children(node) {
+                parents[child] -= 1;
+                if parents[child] == 0 {
+                    free.push(child);
+                }
+            }
+        }
+        (order.len() == reached).then_some(order)
     }
 
     /// For each node, how many times reached nodes name it as a child; and how many are reached.
@@ -62,5 +68,29 @@ impl Graph {
             }
         }
         (parents, reached)
+    }
+
+    /// Whether two lists of choices lead to one word. One list, the empty one, leads to the root;
+    /// and as many as lead to a node lead on to each of its children. More than two count as two.
+    fn is_shared(&self, order: &[usize]) -> bool {
+        let mut lists = vec![0_u8; WORDS];
+        lists[order[0]] = 1;
+        for &node in order {
+            for child in self.children[node].map(usize::from) {
+                lists[child] = 2.min(lists[child] + lists[node]);
+            }
+        }
+        lists.contains(&2)
+    }
+
+    /// The largest number of nodes on a route.
+    fn depth(&self, order: &[usize]) -> usize {
+        let mut passed = vec![1; self.children.len()];
+        for &node in order {
+            for child in self.node_children(node) {
+                passed[child] = passed[child].max(passed[node] + 1);
+            }
+        }
+        order.iter().map(|&node| passed[node]).max().unwrap_or(0)
     }
 }

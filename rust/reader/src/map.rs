@@ -56,10 +56,10 @@ impl<'a> Lumps<'a> {
     }
 }
 
-/// Judges the last map called `name`: refusals 1 to 6 and 10 to 31.
+/// Judges the last map called `name`: refusals 1 to 6 and 10 to 32.
 ///
-/// `words` must be at least four for each node. A refusal below 31 leaves them as found; 31 and
-/// acceptance leave the first four for each node zero and the later ones as found.
+/// `words` must be at least four for each node. A refusal below 31 leaves them as found; 31, 32
+/// and acceptance leave the first four for each node zero and the later ones as found.
 pub fn judge_map(wad: &[u8], name: &[u8], words: &mut [u16]) -> Result<Accepted, Refusal> {
     let (directory, marker) = find_marker(wad, name)?;
     let lumps = run_of(wad, directory, marker)?;
@@ -74,7 +74,7 @@ pub fn judge_map(wad: &[u8], name: &[u8], words: &mut [u16]) -> Result<Accepted,
         return Err(Refusal::new(30, 7, 0));
     }
     words[..wanted].fill(0);
-    let depth = graph::depth(lumps.at(7)).ok_or(Refusal::new(31, 7, 0))?;
+    let depth = graph::judge(lumps.at(7))?;
     Ok(Accepted { depth, marker })
 }
 

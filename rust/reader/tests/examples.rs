@@ -1,4 +1,4 @@
-//! The examples (a) to (l) of paper 01.
+//! The examples (a) to (l) of paper 01, as W-202 has them, and that request's own.
 
 use reader::*;
 
@@ -19,7 +19,8 @@ fn node(right: u16, left: u16) -> Vec<u8> {
     bytes
 }
 
-/// A file with one map: everything is there once, but for nodes, linedefs and the blockmap.
+/// A file with one map: everything is there once, but for linedefs, nodes, the blockmap, and a
+/// subsector more than there are nodes, if a map may have so many.
 fn wad(linedefs: usize, nodes: &[u8], blockmap: &[u8]) -> Vec<u8> {
     let linedef = words(&[0, 0, 0, 0, 0, 0, NO_SIDEDEF]);
     let lumps = [
@@ -28,7 +29,7 @@ fn wad(linedefs: usize, nodes: &[u8], blockmap: &[u8]) -> Vec<u8> {
         vec![0; 30],
         vec![0; 4],
         vec![0; 12],
-        words(&[1, 0]),
+        words(&[1, 0]).repeat(32_767.min(nodes.len() / Node::SIZE + 1)),
         nodes.to_vec(),
         vec![0; 26],
         vec![0],
@@ -54,7 +55,7 @@ fn judge(linedefs: usize, nodes: &[u8], list: &[u16]) -> Result<Accepted, Refusa
     let mut lent = vec![7; 4 * nodes.len() / Node::SIZE + 1];
     let verdict = judge_map(&wad(linedefs, nodes, &one_cell(list)), NAME, &mut lent);
     let (last, first) = lent.split_last().unwrap();
-    let zeroed = verdict.is_ok() || verdict.unwrap_err().number == 31;
+    let zeroed = verdict.is_ok() || verdict.unwrap_err().number >= 31;
     assert!(*last == 7 && first.iter().all(|&word| word == if zeroed { 0 } else { 7 }));
     verdict
 }
@@ -62,6 +63,8 @@ fn judge(linedefs: usize, nodes: &[u8], list: &[u16]) -> Result<Accepted, Refusa
 fn judge_nodes(nodes: &[u8]) -> Result<Accepted, Refusal> {
     judge(1, nodes, &[0, 65535])
 }
+
+const SHARED: Result<Accepted, Refusal> = Err(Refusal::new(32, 7, 0));
 
 fn accepted(depth: usize) -> Result<Accepted, Refusal> {
     Ok(Accepted { depth, marker: 0 })
@@ -115,7 +118,8 @@ fn f_no_nodes() {
 
 #[test]
 fn g_one_node() {
-    assert_eq!(judge_nodes(&node(0x8000, 0x8000)), accepted(1));
+    assert_eq!(judge_nodes(&node(0x8000, 0x8000)), SHARED);
+    assert_eq!(judge_nodes(&node(0x8000, 0x8001)), accepted(1));
 }
 
 #[test]
@@ -128,13 +132,36 @@ fn h_its_own_child() {
 
 #[test]
 fn i_a_loop_that_no_route_reaches() {
-    assert_eq!(judge_nodes(&[node(0, 0x8000), node(0x8000, 0x8000)].concat()), accepted(1));
+    assert_eq!(judge_nodes(&[node(0, 0x8000), node(0x8000, 0x8001)].concat()), accepted(1));
+    assert_eq!(judge_nodes(&[node(0, 0x8000), node(0x8000, 0x8000)].concat()), SHARED);
 }
 
 #[test]
 fn j_children_above_their_parents() {
-    let nodes = [node(1, 0x8000), node(0x8000, 0x8000), node(0x8000, 0)].concat();
+    let nodes = [node(1, 0x8000), node(0x8001, 0x8002), node(0x8003, 0)].concat();
     assert_eq!(judge_nodes(&nodes), accepted(3));
+    let nodes = [node(1, 0x8000), node(0x8001, 0x8000), node(0x8003, 0)].concat();
+    assert_eq!(judge_nodes(&nodes), SHARED);
+}
+
+/// So many nodes, each with both children the one before it; the first has these two.
+fn doublings(count: u16, first: Vec<u8>) -> Vec<u8> {
+    let more = (1..count).map(|at| node(at - 1, at - 1));
+    [first].into_iter().chain(more).flatten().collect()
+}
+
+#[test]
+fn doublings_are_shared() {
+    for count in [2, 3, 30, 32_766, 32_767] {
+        assert_eq!(judge_nodes(&doublings(count, node(0x8000, 0x8001))), SHARED);
+        assert_eq!(judge_nodes(&doublings(count, node(0x8000, 0))), Err(Refusal::new(31, 7, 0)));
+    }
+}
+
+#[test]
+fn unreached_nodes_may_share() {
+    let nodes = [node(0x8000, 0x8000), node(0, 0), node(0x8000, 0x8001)].concat();
+    assert_eq!(judge_nodes(&nodes), accepted(1));
 }
 
 #[test]

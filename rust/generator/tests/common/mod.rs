@@ -56,7 +56,7 @@ fn ask_map(wad: &[u8], name: &[u8], lent: &[u16]) -> Result<Answer, Refusal> {
     let verdict = judge_map(wad, name, &mut words);
     let zeroed = match verdict {
         Ok(accepted) => 4 * lump(wad, accepted.marker + 7).len() / Node::SIZE,
-        Err(Refusal { number: 31, .. }) => 4 * lump(wad, find_map(wad, name)? + 7).len() / Node::SIZE,
+        Err(Refusal { number: 31 | 32, .. }) => 4 * lump(wad, find_map(wad, name)? + 7).len() / Node::SIZE,
         Err(_) => 0,
     };
     assert!(words[..zeroed].iter().all(|&word| word == 0));
