@@ -3,8 +3,10 @@
 use meshpigeon::Refusal;
 use std::collections::HashSet;
 
-const NUMBERS: [u32; 33] =
-    [1, 2, 3, 4, 5, 6, 7, 10, 11, 12, 13, 20, 21, 22, 23, 24, 25, 26, 27, 28, 30, 31, 40, 41, 42, 43, 50, 51, 52, 53, 54, 55, 60];
+const NUMBERS: [u32; 34] = [
+    1, 2, 3, 4, 5, 6, 7, 10, 11, 12, 13, 20, 21, 22, 23, 24, 25, 26, 27, 28, 30, 31, 32, 40, 41, 42, 43, 50, 51, 52, 53, 54, 55,
+    60,
+];
 
 #[test]
 fn every_number_says_what_is_wrong() {
@@ -17,6 +19,7 @@ fn every_number_says_what_is_wrong() {
 fn the_lump_is_named_where_a_place_is() {
     let lump = |number, place| Refusal { number, place, record: 0 }.lump();
     assert_eq!(lump(31, 7), Some("NODES"));
+    assert_eq!(lump(32, 7), Some("NODES"));
     assert_eq!(lump(12, 0), Some("the marker"));
     assert_eq!(lump(22, 9), Some("REJECT"));
     assert_eq!(lump(5, 0), None);
@@ -33,6 +36,7 @@ fn the_record_has_a_size_where_the_lump_has_records() {
 fn the_whereabouts_are_lump_and_record() {
     let whereabouts = |number, place, record| Refusal { number, place, record }.whereabouts();
     assert_eq!(whereabouts(31, 7, 0).as_deref(), Some("NODES"));
+    assert_eq!(whereabouts(32, 7, 0).as_deref(), Some("NODES"));
     assert_eq!(whereabouts(23, 2, 17).as_deref(), Some("LINEDEFS 17"));
     assert_eq!(whereabouts(5, 0, 3).as_deref(), Some("entry 3"));
     assert_eq!(whereabouts(53, 0, 4).as_deref(), Some("column 4"));

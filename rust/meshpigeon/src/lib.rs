@@ -87,8 +87,8 @@ pub fn judge_map(wad: &[u8], name: &[u8]) -> Result<Accepted, Refusal> {
     judge_map_with(wad, name, &mut vec![0; MOST_WORDS])
 }
 
-/// Judges one map over lent work words, four for each node. A refusal below 31 leaves them as found; 31 and acceptance leave the
-/// first four for each node zero and the others as found.
+/// Judges one map over lent work words, four for each node. A refusal below 31 leaves them as found; 31, 32 and acceptance leave
+/// the first four for each node zero and the others as found.
 pub fn judge_map_with(wad: &[u8], name: &[u8], words: &mut [u16]) -> Result<Accepted, Refusal> {
     raw::judge_map(wad, name, words).map(|answer| Accepted { depth: answer.depth, marker: answer.marker })
 }

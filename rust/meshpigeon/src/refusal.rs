@@ -27,7 +27,7 @@ impl Refusal {
     /// The name of the lump concerned, for the numbers that name a place.
     pub fn lump(&self) -> Option<&'static str> {
         match self.number {
-            12 | 20..=28 | 30 | 31 => LUMPS.get(self.place).copied(),
+            12 | 20..=28 | 30..=32 => LUMPS.get(self.place).copied(),
             _ => None,
         }
     }
@@ -187,6 +187,11 @@ impl fmt::Display for Refusal {
             31 => write!(
                 out,
                 "the nodes turn back on themselves: some way down from the root never ends, and every way must end at a subsector"
+            ),
+            32 => write!(
+                out,
+                "two ways down lead to the same node or subsector: the box would draw it more than once, and each must be reached by \
+                 one way only"
             ),
             40..=43 => self.say_of_descent(out),
             50..=55 => self.say_of_picture(out),

@@ -38,12 +38,14 @@ fn an_accepted_map_has_depth_and_marker() {
 #[test]
 fn a_refusal_has_place_lump_and_record_where_they_mean_something() {
     let folder = Folder::with("loop.wad", &changed(|map| map.nodes[1].right = 2))
+        .and("shared.wad", &changed(|map| map.nodes[2].right = 0))
         .and("seg.wad", &changed(|map| map.segs[0].linedef = 99))
         .and("name.wad", &lumps(&[(b"GOOD\0\0\0\0", vec![]), (b"bad\0\0\0\0\0", vec![])]))
         .and("none.wad", &lumps(&[]));
-    let said = folder.run(&["judge", "--json", "loop.wad", "seg.wad", "name.wad", "none.wad"]);
+    let said = folder.run(&["judge", "--json", "loop.wad", "shared.wad", "seg.wad", "name.wad", "none.wad"]);
     let expected = vec![
         vec![text("loop.wad"), text("MAP01"), Number(31), Number(7), text("NODES"), Null, Null, Null, Null],
+        vec![text("shared.wad"), text("MAP01"), Number(32), Number(7), text("NODES"), Null, Null, Null, Null],
         vec![text("seg.wad"), text("MAP01"), Number(25), Number(5), text("SEGS"), Number(0), Null, Null, Null],
         vec![text("name.wad"), Null, Number(6), Null, Null, Number(1), Null, Null, Null],
         vec![text("none.wad"), Null, Null, Null, Null, Null, Null, Null, Null],

@@ -30,6 +30,17 @@ fn a_loop_is_refused_with_its_number_and_lump() {
 }
 
 #[test]
+fn a_shared_child_is_refused_with_its_number_and_lump() {
+    let folder = Folder::with("shared.wad", &changed(|map| map.nodes[1].right = map.nodes[0].right));
+    let said = folder.run(&["judge", "shared.wad"]);
+    assert!(
+        said.out.starts_with("shared.wad:MAP01: refused 32 at NODES: two ways down lead to the same node or subsector"),
+        "{said:?}"
+    );
+    assert_eq!((said.status, said.out.lines().count(), said.err.as_str()), (1, 1, ""));
+}
+
+#[test]
 fn a_reference_is_refused_with_its_record() {
     let folder = Folder::with("a.wad", &changed(|map| map.sidedefs[7].sector = 4));
     let said = folder.run(&["judge", "a.wad"]);
