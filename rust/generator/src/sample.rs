@@ -1,6 +1,8 @@
-//! The small files of samples/: one good map, one whose nodes turn back, one with a bad reference, and one picture.
+//! The small files of samples/: one good map, one whose nodes turn back, one whose nodes are shared, one with a bad reference, and
+//! one picture.
 
 use crate::{rooms, Content, EntryPlan, PictureSpec, Plan, Post, MAP_NAME};
+use reader::{Node, SUBSECTOR_BIT};
 
 /// A file's name and its bytes.
 pub type Sample = (&'static str, Vec<u8>);
@@ -31,6 +33,7 @@ pub fn samples() -> Vec<Sample> {
     vec![
         ("accepted.wad", accepted()),
         ("loop.wad", turning_back()),
+        ("shared.wad", shared()),
         ("reference.wad", bad_reference()),
         ("picture.wad", picture()),
     ]
@@ -45,6 +48,15 @@ fn accepted() -> Vec<u8> {
 fn turning_back() -> Vec<u8> {
     let mut map = rooms();
     map.nodes[1].right = 2;
+    Plan::wad_of(map)
+}
+
+/// Thirty nodes, each with both children the next: 2 to the 30th times the first room to draw.
+fn shared() -> Vec<u8> {
+    let mut map = rooms();
+    let root = map.nodes[2];
+    let child = |at: u16| at.checked_sub(1).unwrap_or(SUBSECTOR_BIT);
+    map.nodes = (0..30).map(|at| Node { right: child(at), left: child(at), ..root }).collect();
     Plan::wad_of(map)
 }
 

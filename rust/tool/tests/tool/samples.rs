@@ -9,13 +9,14 @@ fn folder() -> Folder {
 
 #[test]
 fn each_sample_is_what_its_name_says() {
-    let said = folder().run(&["judge", "accepted.wad", "loop.wad", "picture.wad", "reference.wad"]);
+    let said = folder().run(&["judge", "accepted.wad", "loop.wad", "picture.wad", "reference.wad", "shared.wad"]);
     let lines: Vec<&str> = said.out.lines().collect();
     assert_eq!(lines[0], format!("accepted.wad:MAP01: {GOOD}"));
     assert!(lines[1].starts_with("loop.wad:MAP01: refused 31 at NODES: "), "{said:?}");
     assert_eq!(lines[2], "picture.wad: no map");
     assert!(lines[3].starts_with("reference.wad:MAP01: refused 23 at LINEDEFS 5: "), "{said:?}");
-    assert_eq!(lines[4..], ["4 files: 1 map accepted, 2 maps refused, 1 file without a map"]);
+    assert!(lines[4].starts_with("shared.wad:MAP01: refused 32 at NODES: "), "{said:?}");
+    assert_eq!(lines[5..], ["5 files: 1 map accepted, 3 maps refused, 1 file without a map"]);
     assert_eq!((said.status, said.err.as_str()), (1, ""));
 }
 
