@@ -228,6 +228,27 @@ static void maps(void)
     EXPECT(words[4 * NODES] == 0xA5A5);
 }
 
+/* What both children of node 0 are, of a map whose root has node 0 and subsector 3; the words end as they do for acceptance. */
+static void graph_is_refused(uint16_t child, uint32_t number)
+{
+    uint16_t words[4 * NODES + 1];
+    memset(words, 0xA5, sizeof words);
+    build_wad();
+    const uint8_t children[] = {W(child), W(child)};
+    memcpy(wad + lump_offset(BEFORE + 7) + 24, children, sizeof children);
+    meshpigeon_map_answer j = meshpigeon_judge_map(wad, wad_len, map_name, 8, words, 4 * NODES + 1);
+    EXPECT(status_is(j.status, number, 7, 0) && j.depth == 0 && j.marker == 0);
+    for (size_t i = 0; i < 4 * NODES; i++)
+        EXPECT(words[i] == 0);
+    EXPECT(words[4 * NODES] == 0xA5A5);
+}
+
+static void graphs(void)
+{
+    graph_is_refused(1, 31);
+    graph_is_refused(0x8000, 32);
+}
+
 static void points(void)
 {
     meshpigeon_descent_answer r = meshpigeon_descend(nodes, sizeof nodes, 4, -5, 30);
@@ -473,6 +494,7 @@ int main(void)
     entries();
     markers();
     maps();
+    graphs();
     points();
     pictures();
     paintings();
