@@ -38,6 +38,17 @@ fn reader_map(wad: &[u8]) -> usize {
     reader::judge_map(wad, &given::MAP_NAME, &mut words).expect("a good map").depth
 }
 
+/// The refusal of a map with a shared child.
+fn library_shared(wad: &[u8]) -> usize {
+    let mut words = vec![0; meshpigeon::MOST_WORDS];
+    meshpigeon::judge_map_with(wad, &given::MAP_NAME, &mut words).expect_err("a shared child").number as usize
+}
+
+fn reader_shared(wad: &[u8]) -> usize {
+    let mut words = vec![0; meshpigeon::MOST_WORDS];
+    reader::judge_map(wad, &given::MAP_NAME, &mut words).expect_err("a shared child").number as usize
+}
+
 fn library_directory(wad: &[u8]) -> usize {
     meshpigeon::directory(wad).expect("a good directory").count
 }
@@ -80,10 +91,34 @@ fn inputs() -> Vec<Input> {
             reader: reader_directory,
         },
         Input {
-            name: "chain of 32,767 nodes",
-            sized: |n| given::chain(32_767 * n / 4),
+            name: "chain of 32,766 nodes",
+            sized: |n| given::chain(32_766 * n / 4),
             library: library_map,
             reader: reader_map,
+        },
+        Input {
+            name: "balanced tree of 32,766 nodes",
+            sized: |n| given::balanced(32_766 * n / 4),
+            library: library_map,
+            reader: reader_map,
+        },
+        Input {
+            name: "thirty doublings (32)",
+            sized: |n| given::doublings(30 * n / 4),
+            library: library_shared,
+            reader: reader_shared,
+        },
+        Input {
+            name: "32,767 doublings (32)",
+            sized: |n| given::doublings(32_767 * n / 4),
+            library: library_shared,
+            reader: reader_shared,
+        },
+        Input {
+            name: "highest subsector shared (32)",
+            sized: |n| given::shared_subsector(32_766 * n / 4),
+            library: library_shared,
+            reader: reader_shared,
         },
         Input {
             name: "picture of 320 × 200",
