@@ -1,9 +1,9 @@
 //! An independent reader of Doom map files.
 //!
-//! Written from paper 01 ("Specification of the build and its rules") and document 004 (field
-//! layouts) alone, in plain safe Rust, to be held against the proved library. Every function
-//! answers the papers' refusal number, place and record; where the papers leave an order open,
-//! the list "Readings taken" of the design decides.
+//! Written from paper 01 ("Specification of the build and its rules"), request W-202 and document
+//! 004 (field layouts) alone, in plain safe Rust, to be held against the proved library. Every
+//! function answers the papers' refusal number, place and record; where the papers leave an order
+//! open, the list "Readings taken" of the design decides.
 //!
 //! It allocates freely and favours the obvious way over the fast one, but no input costs more
 //! than a small multiple of its bytes, pictures with shared empty posts excepted.
