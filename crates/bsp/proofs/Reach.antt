@@ -1,25 +1,25 @@
 -- Where no word is shared, the words that choices lead to hold each reached node and subsector once: a tree has one end more
 -- than inner nodes. Assumes nothing.
 use Prim.Native.Nat.{ℕ, zero, suc, _+_, _≤_, _<_, zero-le, suc-le-suc}
-use mathlib.Core.Bool.{Bool, true, false, not, _||_, cond}
+use mathlib.Core.Bool.{Bool, true, false, not, cond}
 use mathlib.Core.List.{List, [], _∷_, _++_}
-use mathlib.Core.Logic.{_⊎_, inl, inr, ⊎-elim}
+use mathlib.Core.Logic.{⊎-elim}
 use mathlib.Core.Path.{_≡_, refl, sym, ap, _∙_}
 use native.Mathlib.Nat.{le-trans}
 use native.Mathlib.Omega.{arith}
-use borrow.Author.Tests.{ltb-true, ltb-false, lt-ltb, le-ltb, eqb-true, eqb-false, eq-eqb, ne-eqb, not-true, not-false}
+use borrow.Author.Tests.{ltb-true, ltb-false, lt-ltb, le-ltb, eqb-true, eqb-false, ne-eqb, not-true}
 use lib.Dec.{eqb}
 use lib.ListN.{length, length-append}
 use Rattle.bsp.specs.declared.Choice.{Choice}
 use Rattle.bsp.specs.declared.Choice.the-variants.{Right, Left}
 use Rattle.bsp.specs.Nodes.{nodesOf, subsectorBit, isNode, childOf, root}
-use Rattle.bsp.specs.Routes.{Follow, Leads, Reached}
+use Rattle.bsp.specs.Routes.{Follow, Reached}
 use Rattle.bsp.specs.Heights.{stands, wordsFrom, member, repeats}
 use Rattle.bsp.specs.Reach.{HoldsOnce, OneMore}
 use Rattle.bsp.specs.Inner.{NodesInRange}
 use Rattle.bsp.proofs.Heights.{node-or-end, stands-none, stands-child}
 use Rattle.bsp.proofs.Nodes.{root-node}
-use Rattle.bsp.proofs.Repeats.{or-neither, member-head, member-tail, member-cons, repeats-head}
+use Rattle.bsp.proofs.Repeats.{or-neither, member-head, member-tail, member-cons}
 use Rattle.bsp.proofs.Shared.{words-node, words-end, follow-member, member-follow}
 
 -- ---- the members of a list that pass a test

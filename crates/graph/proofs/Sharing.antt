@@ -1,9 +1,9 @@
 -- At the end of the search the marked nodes are the reached ones: a child is met twice among theirs exactly if it is shared.
 -- Assumes nothing.
 use Prim.Native.Nat.{ℕ, _<_}
-use mathlib.Core.Bool.{Bool, true, false}
+use mathlib.Core.Bool.{true, false}
 use mathlib.Core.List.{List}
-use mathlib.Core.Path.{_≡_, sym, ap, _∙_}
+use mathlib.Core.Path.{_≡_, ap, _∙_}
 use native.Mathlib.Omega.{arith}
 use Rattle.bsp.specs.declared.Graph.{Graph}
 use Rattle.bsp.specs.Nodes.{nodesOf, subsectorBit}
@@ -11,9 +11,9 @@ use Rattle.bsp.specs.Routes.{Reached, Shared}
 use Rattle.bsp.specs.Heights.{repeats, graphVerdict}
 use Rattle.bsp.proofs.Nodes.{nodesOf-whole}
 use Rattle.bsp.proofs.Verdict.{verdict-shared, verdict-depth}
-use Rattle.bsp.proofs.Places.{TwoPlaces, places-shared, shared-places}
+use Rattle.bsp.proofs.Places.{places-shared, shared-places}
 use Rattle.sharing.specs.Children.{childWords}
-use Rattle.sharing.proofs.Places.{Marked, Twice, repeats-twice, twice-repeats}
+use Rattle.sharing.proofs.Places.{Marked, repeats-twice, twice-repeats}
 use Rattle.graph.specs.Inner.Looks.{markOf}
 use Rattle.graph.specs.Inner.Searching.{Searchable, Explored}
 

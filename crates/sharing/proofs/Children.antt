@@ -3,11 +3,11 @@ use Prim.Native.Nat.{ℕ, zero, suc, _+_, _≤_, _<_}
 use mathlib.Core.Bool.{Bool, true, false, _||_}
 use mathlib.Core.List.{List, [], _∷_}
 use mathlib.Core.Logic.{⊎-elim}
-use mathlib.Core.Path.{_≡_, refl, sym, ap, _∙_}
+use mathlib.Core.Path.{_≡_, refl, sym, _∙_}
 use native.Mathlib.Nat.{eq-or-lt-of-le, le-of-suc-le-suc}
 use native.Mathlib.Numerals.{add-one}
 use native.Mathlib.Omega.{arith}
-use borrow.Author.Tests.{eqb-true, eqb-false, eq-eqb, ne-eqb}
+use borrow.Author.Tests.{eqb-true, eqb-false, ne-eqb}
 use lib.Dec.{eqb}
 use lib.ListN.{length, getD, set, replicate, length-set, length-replicate, getD-replicate}
 use lib.Seq.{getD-set-same, getD-set-other}
@@ -16,7 +16,7 @@ use Rattle.bsp.specs.Nodes.{childOf}
 use Rattle.bsp.specs.Heights.{member, repeats}
 use Rattle.bsp.proofs.Repeats.{repeats-head, repeats-tail}
 use Rattle.sharing.specs.Children.{childWords}
-use Rattle.sharing.specs.Inner.{Seen, Met}
+use Rattle.sharing.specs.Inner.{Seen}
 
 -- `seen` says which words are in the list
 abbrev Noted : List ℕ → List ℕ → Type 0

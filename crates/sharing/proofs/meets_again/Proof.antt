@@ -1,11 +1,7 @@
 -- `sharing::meets_again` meets its contract: a mark of 0 adds no child, and otherwise the right one comes before the left.
 -- Assumes nothing.
-use mathlib.Core.Bool.{true, false}
-use mathlib.Core.Path.{_≡_, refl, sym, _∙_}
+use mathlib.Core.Path.{refl, sym, _∙_}
 use borrow.Author.Needs.{needs}
-use denote.Ref.{now}
-use lib.Dec.{eqb}
-use lib.ListN.{getD, set}
 use Rattle.sharing.proofs.Children.{seen-skip, met-right, met-left, seen-both}
 use Rattle.sharing.proofs.meets_again.Statement.{statement}
 use Rattle.sharing.proofs.meets_again.Tie as tie
