@@ -1,16 +1,19 @@
 -- Signed numbers of 16 bits, their differences and the products of these, at 64 bits: each fits, and a value that is passed
 -- on is the value. Assumes nothing.
-use Prim.Native.Nat.{_^_, _≤_, _<_}
-use mathlib.Core.Path.{_≡_, _∙_}
+use Prim.Native.Nat.{suc, _-_, _^_, _≤_, _<_}
+use mathlib.Core.Bool.{Bool}
+use mathlib.Core.Path.{_≡_, refl, _∙_}
 use native.Mathlib.Nat.{le-trans, lt-of-le-of-lt}
 use native.Mathlib.Omega.{arith}
-use lib.Dec.{lit<}
-use lib.IntN.{ℤ, natAbs, _-ℤ_, _*ℤ_}
-use lib.Signed.{mag}
+use borrow.Author.Tests.{ne-eqb}
+use lib.Dec.{eqb, lit<}
+use lib.IntN.{ℤ, pos, negsuc, natAbs, _-ℤ_, _*ℤ_}
+use lib.Signed.{mag, leZ}
 use mir.Syntax.{Width, w16, w64}
 use mir.Val.{toZ, ofZ, hbits, SFits}
 use mir.ValLaws.{toZ-ofZ}
 use Rattle.endian.proofs.Magnitude.{mag-natAbs, natAbs-mag, natAbs-sub, mag-mul}
+use Rattle.bsp.specs.Side.{isZero}
 
 -- a call's result that is read again
 pub read-again : (w : Width) {z v : ℤ} → mag z < 2 ^ hbits w → z ≡ v → toZ w (ofZ w z) ≡ v
@@ -40,3 +43,12 @@ module _ (a b : ℤ) (fa : SFits w16 a) (fb : SFits w16 b) where
   pub product-again : (d : ℤ) → SFits w16 d → {z : ℤ} → mag z < 2 ^ hbits w64
       → z ≡ (toZ w16 (ofZ w16 a) -ℤ toZ w16 (ofZ w16 b)) *ℤ toZ w16 (ofZ w16 d) → toZ w64 (ofZ w64 z) ≡ (a -ℤ b) *ℤ d
   product-again d fd ok e = read-again w64 ok (rw (toZ-ofZ w16 a fa, toZ-ofZ w16 b fb, toZ-ofZ w16 d fd) at e)
+
+  -- a test of values passed on
+  pub leZ-again : {t : Bool} → leZ (toZ w16 (ofZ w16 a)) (toZ w16 (ofZ w16 b)) ≡ t → leZ a b ≡ t
+  leZ-again e = rw (toZ-ofZ w16 a fa, toZ-ofZ w16 b fb) at e
+
+-- the test of the bits is that of the number
+pub isZero-ofZ : (z : ℤ) → SFits w16 z → eqb (ofZ w16 z) 0 ≡ isZero z
+isZero-ofZ (pos n) h = refl
+isZero-ofZ (negsuc n) h = let small : n < 32768 = h .sfits in ne-eqb (65536 - suc n) 0 (λ e. omega arith)
