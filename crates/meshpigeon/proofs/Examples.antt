@@ -1,8 +1,13 @@
 -- The examples of 01 compute. Assumes nothing.
-use mathlib.Core.Path.{refl}
+use mathlib.Core.Bool.{Bool, true, false, cond}
+use mathlib.Core.Path.{_≡_, refl}
 use borrow.Author.Tests.{lt-ltb, le-ltb}
+use lib.IntN.{pos}
+use lib.Signed.{leZ}
 use Rattle.refusal.specs.Checks.{each}
 use Rattle.wad.specs.Map.{findMarker}
+use Rattle.bsp.specs.declared.Choice.the-variants.{Right}
+use Rattle.bsp.specs.Side.{leftIf, sideAt}
 use Rattle.bsp.specs.Heights.{stands, height, wordsFrom, graphVerdict}
 use Rattle.bsp.specs.Walks.{descentFrom, descent}
 use Rattle.blockmap.specs.Blockmap.{listEnds, numbersFrom}
@@ -10,8 +15,13 @@ use Rattle.picture.specs.Judging.{postsCheck}
 use Rattle.canvas.specs.Pixels.{overPosts, listOf}
 use Rattle.meshpigeon.specs.Examples.{Examples}
 
+-- neither answer of an upright line without direction is left
+right : (t : Bool) → leftIf (cond t false false) ≡ Right
+right true = refl
+right false = refl
+
 pub examples : Examples
-unfolding each findMarker stands height wordsFrom graphVerdict descentFrom descent listEnds numbersFrom postsCheck overPosts listOf
+unfolding each findMarker stands height wordsFrom graphVerdict sideAt descentFrom descent listEnds numbersFrom postsCheck overPosts listOf
 examples =
     record {
       a = (refl, (refl, refl));
@@ -42,4 +52,11 @@ examples =
       l-accepted = refl;
       l-colour = refl;
       l-cover = refl;
+      up = λ y. refl;
+      down = λ y. refl;
+      east = λ x. refl;
+      west = λ x. refl;
+      none = λ x y px py. right (leZ x px);
+      unmet = λ x y. rw (right (leZ x (pos 0)));
+      met = λ x y. rw (right (leZ x (pos 0)));
     }

@@ -1,4 +1,4 @@
--- The examples of 01, "Examples", (a) to (l), of the definitions. The proof is proofs/Examples.antt. Assumes nothing.
+-- The examples of 01, "Examples", (a) to (l), and of W-214, of the definitions. The proof is proofs/Examples.antt. Assumes nothing.
 use Prim.Native.Nat.{ℕ, zero, suc, _+_, _*_, _/_, _%_, _≤_}
 use mathlib.Core.Bool.{true, false}
 use mathlib.Core.List.{List, [], _∷_, _++_}
@@ -7,10 +7,12 @@ use lib.IntN.{ℤ, pos, negsuc, _-ℤ_, _*ℤ_}
 use lib.ListN.{length, replicate}
 use Rattle.endian.specs.Unsigned.{u16Bytes}
 use Rattle.refusal.specs.declared.Check.the-variants.{Pass}
+use Rattle.refusal.specs.declared.Refusal.the-variants.{DescentLoop}
 use Rattle.name.specs.Names.{nameOk, sameName}
 use Rattle.table.specs.Lumps.{lumpName, THINGS, LINEDEFS, SIDEDEFS, VERTEXES, SEGS, SSECTORS, NODES, SECTORS, REJECT, BLOCKMAP}
+use Rattle.bsp.specs.declared.Choice.{Choice}
 use Rattle.bsp.specs.declared.Choice.the-variants.{Right, Left}
-use Rattle.bsp.specs.declared.Descent.the-variants.{Found}
+use Rattle.bsp.specs.declared.Descent.the-variants.{Found, Refused as NotFound}
 use Rattle.bsp.specs.declared.Graph.{Graph}
 use Rattle.bsp.specs.Nodes.{subsectorBit, isNode, childOk}
 use Rattle.bsp.specs.Heights.{graphVerdict}
@@ -109,6 +111,20 @@ picture =
     0x01 ∷ 0x00 ∷ 0x03 ∷ 0x00 ∷ 0x00 ∷ 0x00 ∷ 0x00 ∷ 0x00 ∷ 0x0C ∷ 0x00 ∷ 0x00 ∷ 0x00
     ∷ 0x01 ∷ 0x01 ∷ 0x00 ∷ 0x07 ∷ 0x00 ∷ 0xFF ∷ []
 
+-- W-214: the sides of (-1, y), (0, y) and (1, y) by a line from (0, 0) in the direction (0, dy)
+abbrev byUpright : ℤ → ℤ → List Choice
+byUpright y dy =
+    side (negsuc 0) y (pos 0) (pos 0) (pos 0) dy
+    ∷ side (pos 0) y (pos 0) (pos 0) (pos 0) dy
+    ∷ side (pos 1) y (pos 0) (pos 0) (pos 0) dy ∷ []
+
+-- the sides of (x, -1), (x, 0) and (x, 1) by a line from (0, 0) in the direction (dx, 0)
+abbrev byLevel : ℤ → ℤ → List Choice
+byLevel x dx =
+    side x (negsuc 0) (pos 0) (pos 0) dx (pos 0)
+    ∷ side x (pos 0) (pos 0) (pos 0) dx (pos 0)
+    ∷ side x (pos 1) (pos 0) (pos 0) dx (pos 0) ∷ []
+
 pub record Examples : Type 0 where
   -- (a) REJECT for 1, 3 and 10 sectors
   pub a : (rejectSize 1 ≡ 1) × ((rejectSize 3 ≡ 2) × (rejectSize 10 ≡ 13))
@@ -151,3 +167,13 @@ pub record Examples : Type 0 where
   pub l-accepted : paintCheck picture 3 3 ≡ Pass
   pub l-colour : planeOf byColour picture ≡ 0 ∷ 7 ∷ 0 ∷ []
   pub l-cover : planeOf byCover picture ≡ 0 ∷ 1 ∷ 0 ∷ []
+  -- W-214: lines up, down, to the east and to the west; points on either side of each and on it, wherever along it
+  pub up : (y : ℤ) → byUpright y (pos 64) ≡ Left ∷ Left ∷ Right ∷ []
+  pub down : (y : ℤ) → byUpright y (negsuc 63) ≡ Right ∷ Right ∷ Left ∷ []
+  pub east : (x : ℤ) → byLevel x (pos 64) ≡ Right ∷ Right ∷ Left ∷ []
+  pub west : (x : ℤ) → byLevel x (negsuc 63) ≡ Left ∷ Left ∷ Right ∷ []
+  -- by a line of no direction every point goes right
+  pub none : (x y px py : ℤ) → side x y px py (pos 0) (pos 0) ≡ Right
+  -- so that (h)'s node, its own left child by such a line, loops and no point takes it, and its own right child is met by all
+  pub unmet : (x y : ℤ) → descent ownLeft 1 x y ≡ Found 0 1
+  pub met : (x y : ℤ) → descent (node 0 0x8000) 1 x y ≡ NotFound DescentLoop
