@@ -5,17 +5,19 @@ use crate::map::encode;
 use crate::record::any_node;
 use crate::{Case, Expected, Question, Rng, Shape};
 use reader::{Found, Node, Refusal, SUBSECTOR_BIT};
+use std::cmp::Ordering;
 
 /// A descent of any kind, good or bad.
 pub fn descent_case(rng: &mut Rng) -> Case {
-    match rng.below(9) {
+    match rng.below(10) {
         0 => staircase(rng),
-        1 => on_the_line(rng),
-        2 => bad_sizes(rng),
-        3 => bad_child(rng),
-        4 => round_and_round(rng),
-        5 => any_children(rng),
-        6 => flipped(rng),
+        1 => on_the_slant(rng),
+        2 => by_a_straight_line(rng),
+        3 => bad_sizes(rng),
+        4 => bad_child(rng),
+        5 => round_and_round(rng),
+        6 => any_children(rng),
+        7 => flipped(rng),
         _ => good_graph(rng),
     }
 }
@@ -46,16 +48,77 @@ fn staircase(rng: &mut Rng) -> Case {
     ask("descent down a staircase", &nodes, count + 1, (x, y), Expected::Found(found))
 }
 
-/// A point on the line of one node, or a node of no direction: always left.
-fn on_the_line(rng: &mut Rng) -> Case {
-    let (x, y, dx, dy) = (rng.i16(), rng.i16(), rng.i16(), rng.i16());
-    let (right, left) = (SUBSECTOR_BIT | 1, SUBSECTOR_BIT);
-    let still = rng.once_in(2);
-    let (dx, dy) = if still { (0, 0) } else { (dx, dy) };
-    let point = if still { (rng.i16(), rng.i16()) } else { along((x, y), (dx, dy)) };
-    let node = Node { dx, dy, right, left, x, y, ..any_node(rng) };
-    let found = Found { subsector: 0, count: 1 };
-    ask("point on the line", &[node], 2, point, Expected::Found(found))
+/// A point on the slanting line of one node: always left.
+fn on_the_slant(rng: &mut Rng) -> Case {
+    let (x, y) = (rng.i16(), rng.i16());
+    let (dx, dy) = (slope(rng), slope(rng));
+    let node = Node { x, y, dx, dy, ..leaf(rng) };
+    ask("point on a slanting line", &[node], 2, along((x, y), (dx, dy)), goes(Side::Left))
+}
+
+/// A part of a slanting direction: anything but 0.
+fn slope(rng: &mut Rng) -> i16 {
+    match rng.i16() {
+        0 => 1,
+        any => any,
+    }
+}
+
+/// A node whose children are subsectors: 1 to the right, 0 to the left.
+fn leaf(rng: &mut Rng) -> Node {
+    Node { right: SUBSECTOR_BIT | 1, left: SUBSECTOR_BIT, ..any_node(rng) }
+}
+
+/// The answer of a descent over one leaf that goes to that side.
+fn goes(side: Side) -> Expected {
+    Expected::Found(Found { subsector: side as usize, count: 1 })
+}
+
+/// The side that a point goes to, with the subsector that a leaf has there.
+#[derive(Clone, Copy)]
+enum Side {
+    Left = 0,
+    Right = 1,
+}
+
+/// A straight direction: its name, its dx and dy, and the sides of points that lie below, at and above the line's start in the
+/// coordinate across it.
+struct Straight(&'static str, [i16; 3], [i16; 3], [Side; 3]);
+
+const NONE: [i16; 3] = [0; 3];
+const MORE: [i16; 3] = [1, 64, i16::MAX];
+const LESS: [i16; 3] = [-1, -64, i16::MIN];
+
+const STRAIGHT: [Straight; 5] = [
+    Straight("point by a line up", NONE, MORE, [Side::Left, Side::Left, Side::Right]),
+    Straight("point by a line down", NONE, LESS, [Side::Right, Side::Right, Side::Left]),
+    Straight("point by a line to the east", MORE, NONE, [Side::Right, Side::Right, Side::Left]),
+    Straight("point by a line to the west", LESS, NONE, [Side::Left, Side::Left, Side::Right]),
+    Straight("point by a line of no direction", NONE, NONE, [Side::Right; 3]),
+];
+
+/// A point beside a straight line, on it or at its start. A node of no direction is its own left child, which no point takes.
+fn by_a_straight_line(rng: &mut Rng) -> Case {
+    let Straight(label, dxs, dys, [below, at, above]) = &STRAIGHT[rng.below(STRAIGHT.len())];
+    let (x, y, dx, dy) = (rng.i16(), rng.i16(), rng.pick(dxs), rng.pick(dys));
+    let point = (near(x, rng), near(y, rng));
+    let across = if dx == 0 { point.0.cmp(&x) } else { point.1.cmp(&y) };
+    let side = match across {
+        Ordering::Less => below,
+        Ordering::Equal => at,
+        Ordering::Greater => above,
+    };
+    let mut node = Node { x, y, dx, dy, ..leaf(rng) };
+    if (dx, dy) == (0, 0) {
+        node.left = 0;
+    }
+    ask(label, &[node], 2, point, goes(*side))
+}
+
+/// That coordinate, one beside it, or any, often at the ends of 16 bits.
+fn near(at: i16, rng: &mut Rng) -> i16 {
+    let any = rng.i16();
+    rng.pick(&[at, at, at.saturating_sub(1), at.saturating_add(1), i16::MIN, i16::MAX, any])
 }
 
 /// The end of the line where that is a point, otherwise its start.

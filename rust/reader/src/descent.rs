@@ -44,13 +44,25 @@ pub fn descend(nodes: &[u8], subsectors: usize, x: i16, y: i16) -> Result<Found,
     Err(Refusal::plain(43))
 }
 
-/// The right child exactly if (x - px) × dy > (y - py) × dx, over whole numbers.
+/// The child that the point takes. An upright line is one without dx, a level line any other without dy.
 fn chosen_child(node: &Node, x: i16, y: i16) -> u16 {
+    let goes_left = match (node.dx, node.dy) {
+        (0, dy) if x <= node.x => dy > 0,
+        (0, dy) => dy < 0,
+        (dx, 0) if y <= node.y => dx < 0,
+        (dx, 0) => dx > 0,
+        _ => !is_right_of_slant(node, x, y),
+    };
+    if goes_left {
+        node.left
+    } else {
+        node.right
+    }
+}
+
+/// (x - px) × dy > (y - py) × dx, over whole numbers.
+fn is_right_of_slant(node: &Node, x: i16, y: i16) -> bool {
     let across = (i64::from(x) - i64::from(node.x)) * i64::from(node.dy);
     let along = (i64::from(y) - i64::from(node.y)) * i64::from(node.dx);
-    if across > along {
-        node.right
-    } else {
-        node.left
-    }
+    across > along
 }

@@ -1,4 +1,4 @@
-//! The examples (a) to (l) of paper 01, as W-202 has them, and that request's own.
+//! The examples (a) to (l) of paper 01, as W-202 has them, that request's own, and the sides of W-214.
 
 use reader::*;
 
@@ -96,6 +96,34 @@ fn c_sides_of_a_line() {
 }
 
 #[test]
+fn w_214_straight_lines() {
+    let about = [-1, 0, 1];
+    let upright = |dy| about.map(|x| side(0, 7, 0, dy, (x, 7)));
+    assert_eq!([upright(64), upright(-64)], [[0, 0, 1], [1, 1, 0]]);
+    let level = |dx| about.map(|y| side(7, 0, dx, 0, (7, y)));
+    assert_eq!([level(64), level(-64)], [[1, 1, 0], [0, 0, 1]]);
+}
+
+#[test]
+fn w_214_straight_lines_at_the_ends_of_16_bits() {
+    let (least, most) = (i16::MIN, i16::MAX);
+    assert_eq!([least, most].map(|x| side(least, 0, 0, most, (x, most))), [0, 1]);
+    assert_eq!([least, most].map(|x| side(most, 0, 0, least, (x, least))), [1, 1]);
+    assert_eq!([least, most].map(|y| side(0, least, most, 0, (most, y))), [1, 0]);
+    assert_eq!([least, most].map(|y| side(0, most, least, 0, (least, y))), [0, 0]);
+}
+
+#[test]
+fn w_214_no_direction_is_right() {
+    for point in [(0, 0), (-1, 5), (1, -5), (i16::MIN, i16::MAX), (i16::MAX, i16::MIN)] {
+        assert_eq!(side(0, 0, 0, 0, point), 1);
+        let own = |right, left| descend(&node(right, left), 1, point.0, point.1);
+        assert_eq!(own(0x8000, 0), Ok(Found { subsector: 0, count: 1 }));
+        assert_eq!(own(0, 0x8000), Err(Refusal::plain(43)));
+    }
+}
+
+#[test]
 fn d_products_that_need_more_than_32_bits() {
     let least = i16::MIN;
     assert_eq!(side(least, least, least, least, (i16::MAX, i16::MAX)), 0);
@@ -127,7 +155,6 @@ fn h_its_own_child() {
     let refused = Err(Refusal::new(31, 7, 0));
     assert_eq!(judge_nodes(&node(0x8000, 0)), refused);
     assert_eq!(judge_nodes(&node(0, 0x8000)), refused);
-    assert_eq!(descend(&node(0x8000, 0), 1, 0, 0), Err(Refusal::plain(43)));
 }
 
 #[test]
