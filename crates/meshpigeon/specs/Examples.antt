@@ -73,8 +73,8 @@ mapOf subsectors nodes =
     ++ entry SECTORS end 26 ++ entry REJECT (end + 26) 1 ++ entry BLOCKMAP (end + 27) 14
 
 -- what the map check answers a caller on that map
-abbrev judged : ℕ → List ℕ → List ℕ → MapAnswer
-judged subsectors nodes words = mapOut (verdict (mapOf subsectors nodes) map01 words)
+abbrev mapJudged : ℕ → List ℕ → List ℕ → MapAnswer
+mapJudged subsectors nodes words = mapOut (verdict (mapOf subsectors nodes) map01 words)
 
 abbrev acceptedAt : ℕ → MapAnswer
 acceptedAt depth = record { status = record { number = 0; place = 0; «record» = 0 }; depth = depth; marker = 0 }
@@ -146,19 +146,19 @@ pub record Examples : Type 0 where
   pub f-descent : (x y : ℤ) → descent [] 1 x y ≡ Found 0 0
   -- (g), by W-202: one node, both children subsector 0: a whole map with it is refused 32 at place 7, whatever the words hold
   pub g : graphVerdict twoAlike ≡ Graph.HasShared
-  pub g-refused : (a b c d : ℕ) → judged 1 twoAlike (a ∷ b ∷ c ∷ d ∷ []) ≡ refusedAs 32 7
+  pub g-refused : (a b c d : ℕ) → mapJudged 1 twoAlike (a ∷ b ∷ c ∷ d ∷ []) ≡ refusedAs 32 7
   -- with subsectors 0 and 1 it has depth 1, and is accepted
   pub g-different : graphVerdict oneNode ≡ Graph.HasDepth 1
-  pub g-accepted : (a b c d : ℕ) → judged 2 oneNode (a ∷ b ∷ c ∷ d ∷ []) ≡ acceptedAt 1
+  pub g-accepted : (a b c d : ℕ) → mapJudged 2 oneNode (a ∷ b ∷ c ∷ d ∷ []) ≡ acceptedAt 1
   -- (h) one node whose left child is itself: a whole map with it is refused 31 at place 7
   pub h : graphVerdict ownLeft ≡ Graph.HasLoop
-  pub h-refused : (a b c d : ℕ) → judged 1 ownLeft (a ∷ b ∷ c ∷ d ∷ []) ≡ refusedAs 31 7
+  pub h-refused : (a b c d : ℕ) → mapJudged 1 ownLeft (a ∷ b ∷ c ∷ d ∷ []) ≡ refusedAs 31 7
   -- (i) two nodes, node 0 its own child, the root's children different subsectors: accepted, depth 1
   pub i : graphVerdict twoNodes ≡ Graph.HasDepth 1
-  pub i-accepted : judged 2 twoNodes (replicate 8 7) ≡ acceptedAt 1
+  pub i-accepted : mapJudged 2 twoNodes (replicate 8 7) ≡ acceptedAt 1
   -- (j) three nodes, root 2 has node 0, node 0 has node 1, all else different subsectors: accepted, depth 3
   pub j : graphVerdict threeNodes ≡ Graph.HasDepth 3
-  pub j-accepted : judged 4 threeNodes (replicate 12 7) ≡ acceptedAt 3
+  pub j-accepted : mapJudged 4 threeNodes (replicate 12 7) ≡ acceptedAt 3
   -- (k) the lists are good, and name no linedef and three
   pub k-none : linedefsNamed blockmap 6 ≡ []
   pub k-three : linedefsNamed blockmap 8 ≡ 330 ∷ 331 ∷ 333 ∷ []

@@ -50,31 +50,31 @@ abbrev pub BLOCKMAP : ℕ
 BLOCKMAP = 10
 
 -- a row: name and record size
-abbrev row : List ℕ → ℕ → LumpRow
-row name size = record { name = name; size = size }
+abbrev lump : List ℕ → ℕ → LumpRow
+lump name size = record { name = name; size = size }
 
 -- the ten lumps from place 1 on; size 0 where there are no records
 abbrev pub lumps : List LumpRow
 lumps =
-    row (84 ∷ 72 ∷ 73 ∷ 78 ∷ 71 ∷ 83 ∷ 0 ∷ 0 ∷ []) thingSize  -- THINGS
-    ∷ row (76 ∷ 73 ∷ 78 ∷ 69 ∷ 68 ∷ 69 ∷ 70 ∷ 83 ∷ []) linedefSize  -- LINEDEFS
-    ∷ row (83 ∷ 73 ∷ 68 ∷ 69 ∷ 68 ∷ 69 ∷ 70 ∷ 83 ∷ []) sidedefSize  -- SIDEDEFS
-    ∷ row (86 ∷ 69 ∷ 82 ∷ 84 ∷ 69 ∷ 88 ∷ 69 ∷ 83 ∷ []) vertexSize  -- VERTEXES
-    ∷ row (83 ∷ 69 ∷ 71 ∷ 83 ∷ 0 ∷ 0 ∷ 0 ∷ 0 ∷ []) segSize  -- SEGS
-    ∷ row (83 ∷ 83 ∷ 69 ∷ 67 ∷ 84 ∷ 79 ∷ 82 ∷ 83 ∷ []) subsectorSize  -- SSECTORS
-    ∷ row (78 ∷ 79 ∷ 68 ∷ 69 ∷ 83 ∷ 0 ∷ 0 ∷ 0 ∷ []) nodeSize  -- NODES
-    ∷ row (83 ∷ 69 ∷ 67 ∷ 84 ∷ 79 ∷ 82 ∷ 83 ∷ 0 ∷ []) sectorSize  -- SECTORS
-    ∷ row (82 ∷ 69 ∷ 74 ∷ 69 ∷ 67 ∷ 84 ∷ 0 ∷ 0 ∷ []) 0  -- REJECT
-    ∷ row (66 ∷ 76 ∷ 79 ∷ 67 ∷ 75 ∷ 77 ∷ 65 ∷ 80 ∷ []) 0  -- BLOCKMAP
+    lump (84 ∷ 72 ∷ 73 ∷ 78 ∷ 71 ∷ 83 ∷ 0 ∷ 0 ∷ []) thingSize  -- THINGS
+    ∷ lump (76 ∷ 73 ∷ 78 ∷ 69 ∷ 68 ∷ 69 ∷ 70 ∷ 83 ∷ []) linedefSize  -- LINEDEFS
+    ∷ lump (83 ∷ 73 ∷ 68 ∷ 69 ∷ 68 ∷ 69 ∷ 70 ∷ 83 ∷ []) sidedefSize  -- SIDEDEFS
+    ∷ lump (86 ∷ 69 ∷ 82 ∷ 84 ∷ 69 ∷ 88 ∷ 69 ∷ 83 ∷ []) vertexSize  -- VERTEXES
+    ∷ lump (83 ∷ 69 ∷ 71 ∷ 83 ∷ 0 ∷ 0 ∷ 0 ∷ 0 ∷ []) segSize  -- SEGS
+    ∷ lump (83 ∷ 83 ∷ 69 ∷ 67 ∷ 84 ∷ 79 ∷ 82 ∷ 83 ∷ []) subsectorSize  -- SSECTORS
+    ∷ lump (78 ∷ 79 ∷ 68 ∷ 69 ∷ 83 ∷ 0 ∷ 0 ∷ 0 ∷ []) nodeSize  -- NODES
+    ∷ lump (83 ∷ 69 ∷ 67 ∷ 84 ∷ 79 ∷ 82 ∷ 83 ∷ 0 ∷ []) sectorSize  -- SECTORS
+    ∷ lump (82 ∷ 69 ∷ 74 ∷ 69 ∷ 67 ∷ 84 ∷ 0 ∷ 0 ∷ []) 0  -- REJECT
+    ∷ lump (66 ∷ 76 ∷ 79 ∷ 67 ∷ 75 ∷ 77 ∷ 65 ∷ 80 ∷ []) 0  -- BLOCKMAP
     ∷ []
 
 -- the name of the lump at `place`, eight bytes
 abbrev pub lumpName : ℕ → List ℕ
-lumpName place = getD lumps (place - 1) (row [] 0) .name
+lumpName place = getD lumps (place - 1) (lump [] 0) .name
 
 -- the size of its records
 abbrev pub recordSize : ℕ → ℕ
-recordSize place = getD lumps (place - 1) (row [] 0) .size
+recordSize place = getD lumps (place - 1) (lump [] 0) .size
 
 -- a row: least and most
 abbrev count : ℕ → ℕ → CountRow
