@@ -2,8 +2,6 @@
 use crate::print;
 use crate::records;
 use crate::script;
-use meshpigeon::files;
-use meshpigeon::maps;
 use meshpigeon::pictures;
 
 // Which question a word names: its place among these.
@@ -16,10 +14,10 @@ pub(crate) fn number_of(word: &[u8]) -> usize {
 }
 
 pub(crate) fn put(asked: usize, store: &[u8], r: &[usize; 11]) {
-    let with = script::part(store, 0, r[script::WITH]);
-    let colour = script::part(store, 65536, r[script::COLOUR]);
-    let cover = script::part(store, 131072, r[script::COVER]);
-    let file = script::part(store, script::FILE_START, r[script::FILE]);
+    let with = script::part(store, 0, r[0]);
+    let colour = script::part(store, 65536, r[1]);
+    let cover = script::part(store, 131072, r[2]);
+    let file = script::part(store, script::FILE_START, r[3]);
     match asked {
         0 | 1 => {}
         2 => directory(file),
@@ -44,32 +42,29 @@ fn argument(with: &[u8], i: usize) -> u32 {
 }
 
 fn directory(file: &[u8]) {
-    let a = files::meshpigeon_directory(file);
+    let a = meshpigeon::files::meshpigeon_directory(file);
     print::answer(a.status, b" count, start", &[a.count, a.start]);
 }
 
 // Where an entry lies, after its bytes.
 fn entry(file: &[u8], with: &[u8]) {
     let number = argument(with, 0) as usize + 4294967296 * (argument(with, 4) as usize);
-    let a = files::meshpigeon_entry(file, number);
+    let a = meshpigeon::files::meshpigeon_entry(file, number);
     print::bytes(wad::part_if(file, a.offset, a.size));
     print::answer(a.status, b" offset, size", &[a.offset, a.size]);
 }
 
 fn marker(file: &[u8], name: &[u8]) {
-    let a = files::meshpigeon_find_map(file, name);
+    let a = meshpigeon::files::meshpigeon_find_map(file, name);
     print::answer(a.status, b" entry", &[a.marker]);
 }
 
 // Asked with the count of subsectors, then x and y.
 fn descend(nodes: &[u8], with: &[u8]) {
-    let count = argument(with, 0) as usize;
-    let a = maps::meshpigeon_descend(nodes, count, point(with, 4), point(with, 8));
+    let x = endian::signed16((argument(with, 4) % 65536) as u16);
+    let y = endian::signed16((argument(with, 8) % 65536) as u16);
+    let a = meshpigeon::maps::meshpigeon_descend(nodes, argument(with, 0) as usize, x, y);
     print::answer(a.status, b" subsector, count", &[a.subsector, a.count]);
-}
-
-fn point(with: &[u8], i: usize) -> i16 {
-    endian::signed16((argument(with, i) % 65536) as u16)
 }
 
 fn map(file: &[u8], name: &[u8], word: usize, count: usize) {
@@ -81,7 +76,7 @@ fn map(file: &[u8], name: &[u8], word: usize, count: usize) {
 }
 
 fn judge_map(file: &[u8], name: &[u8], words: &mut [u16]) {
-    let a = maps::meshpigeon_judge_map(file, name, words);
+    let a = meshpigeon::maps::meshpigeon_judge_map(file, name, words);
     print::answer(a.status, b" depth, marker", &[a.depth, a.marker]);
     print::text(b" words");
     print::words(words);
@@ -113,12 +108,10 @@ fn paint(lump: &[u8], colour: &mut [u8], cover: &mut [u8]) {
 
 fn answer(name: &[u8], a: pictures::PictureAnswer) {
     print::text(name);
-    let s = a.status;
     let p = a.picture;
-    print::answer(s, b" width, height, left, top", &[p.width, p.height]);
-    if s.number == 0 {
-        print::signed(&[p.left, p.top]);
-    }
+    print::answer(a.status, b" width, height", &[p.width, p.height]);
+    print::text(b" left, top");
+    print::signed(&[p.left, p.top]);
 }
 
 // With an index alone the record is read; with an index and a record's bytes that one is written.

@@ -11,16 +11,12 @@ const STORE: usize = 2200000;
 fn main() {
     let mut text = io::large_buffer();
     let n = io::read_full(0, &mut text);
-    run(&text[..n]);
+    let mut store = [0u8; STORE];
+    let mut r = [0usize; 11];
+    go_over(&text[..n], &mut store, &mut r);
     if n == 65536 {
         print::ill_formed();
     }
-}
-
-fn run(text: &[u8]) {
-    let mut store = [0u8; STORE];
-    let mut r = [0usize; 11];
-    go_over(text, &mut store, &mut r);
 }
 
 fn go_over(text: &[u8], store: &mut [u8; STORE], r: &mut [usize; 11]) {
@@ -36,7 +32,7 @@ fn go_over(text: &[u8], store: &mut [u8; STORE], r: &mut [usize; 11]) {
 fn statement(text: &[u8], store: &mut [u8], r: &mut [usize; 11]) {
     let at = r[script::NEXT];
     let from = script::find(text, at, b'"');
-    let to = script::after(script::find(text, script::after(from), b'"'));
+    let to = script::plus(script::find(text, script::plus(from, 1), b'"'), 1);
     let asked = ask::number_of(script::part(text, at, script::find(text, at, b' ')));
     print::text(script::part(text, at, to));
     if asked == 0 {

@@ -1,6 +1,4 @@
 // Answers as text on standard output.
-use meshpigeon::status::Status;
-
 pub(crate) fn text(s: &[u8]) {
     io::write_all(1, s);
 }
@@ -15,7 +13,7 @@ fn number(before: &[u8], n: usize) {
 }
 
 // What was answered, or the refusal.
-pub(crate) fn answer(s: Status, names: &[u8], answered: &[usize]) {
+pub(crate) fn answer(s: meshpigeon::status::Status, names: &[u8], answered: &[usize]) {
     if s.number == 0 {
         return numbers(names, answered);
     }

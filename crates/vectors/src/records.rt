@@ -30,9 +30,8 @@ fn thing(lump: &mut [u8], i: usize, new: &[u8]) -> Status {
         return records::meshpigeon_write_thing(lump, i, record::Thing::parse(new));
     }
     let a = records::meshpigeon_read_thing(lump, i);
-    let t = a.thing;
-    print::signed(&[t.x, t.y]);
-    print::words(&[t.angle, t.kind, t.flags]);
+    print::signed(&[a.thing.x, a.thing.y]);
+    print::words(&[a.thing.angle, a.thing.kind, a.thing.flags]);
     a.status
 }
 
@@ -51,15 +50,11 @@ fn sidedef(lump: &mut [u8], i: usize, new: &[u8]) -> Status {
         return records::meshpigeon_write_sidedef(lump, i, record::Sidedef::parse(new));
     }
     let a = records::meshpigeon_read_sidedef(lump, i);
-    let s = a.sidedef;
-    print::signed(&[s.x_offset, s.y_offset]);
-    let upper = s.upper;
-    print::bytes(&upper);
-    let lower = s.lower;
-    print::bytes(&lower);
-    let middle = s.middle;
-    print::bytes(&middle);
-    print::words(&[s.sector]);
+    print::signed(&[a.sidedef.x_offset, a.sidedef.y_offset]);
+    print::bytes(&a.sidedef.upper);
+    print::bytes(&a.sidedef.lower);
+    print::bytes(&a.sidedef.middle);
+    print::words(&[a.sidedef.sector]);
     a.status
 }
 
@@ -68,8 +63,7 @@ fn vertex(lump: &mut [u8], i: usize, new: &[u8]) -> Status {
         return records::meshpigeon_write_vertex(lump, i, record::Vertex::parse(new));
     }
     let a = records::meshpigeon_read_vertex(lump, i);
-    let v = a.vertex;
-    print::signed(&[v.x, v.y]);
+    print::signed(&[a.vertex.x, a.vertex.y]);
     a.status
 }
 
@@ -89,8 +83,7 @@ fn subsector(lump: &mut [u8], i: usize, new: &[u8]) -> Status {
         return records::meshpigeon_write_subsector(lump, i, built::Subsector::parse(new));
     }
     let a = records::meshpigeon_read_subsector(lump, i);
-    let s = a.subsector;
-    print::words(&[s.number, s.first]);
+    print::words(&[a.subsector.number, a.subsector.first]);
     a.status
 }
 
@@ -99,13 +92,10 @@ fn node(lump: &mut [u8], i: usize, new: &[u8]) -> Status {
         return records::meshpigeon_write_node(lump, i, built::Node::parse(new));
     }
     let a = records::meshpigeon_read_node(lump, i);
-    let n = a.node;
-    print::signed(&[n.x, n.y, n.dx, n.dy]);
-    let right_box = n.right_box;
-    print::signed(&right_box);
-    let left_box = n.left_box;
-    print::signed(&left_box);
-    print::words(&[n.right, n.left]);
+    print::signed(&[a.node.x, a.node.y, a.node.dx, a.node.dy]);
+    print::signed(&a.node.right_box);
+    print::signed(&a.node.left_box);
+    print::words(&[a.node.right, a.node.left]);
     a.status
 }
 
@@ -114,12 +104,9 @@ fn sector(lump: &mut [u8], i: usize, new: &[u8]) -> Status {
         return records::meshpigeon_write_sector(lump, i, record::Sector::parse(new));
     }
     let a = records::meshpigeon_read_sector(lump, i);
-    let s = a.sector;
-    print::signed(&[s.floor, s.ceiling]);
-    let floor_flat = s.floor_flat;
-    print::bytes(&floor_flat);
-    let ceiling_flat = s.ceiling_flat;
-    print::bytes(&ceiling_flat);
-    print::words(&[s.light, s.special, s.tag]);
+    print::signed(&[a.sector.floor, a.sector.ceiling]);
+    print::bytes(&a.sector.floor_flat);
+    print::bytes(&a.sector.ceiling_flat);
+    print::words(&[a.sector.light, a.sector.special, a.sector.tag]);
     a.status
 }

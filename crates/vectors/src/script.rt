@@ -1,16 +1,8 @@
 // The script: what its statements lend is written into one store of four parts, and the registers hold how far each goes.
 use crate::print;
 
-// The store's parts, each from a multiple of 65536 on: what is asked with, two planes, the file or lump. Register i is where
-// part i ends.
-pub(crate) const WITH: usize = 0;
-
-pub(crate) const COLOUR: usize = 1;
-
-pub(crate) const COVER: usize = 2;
-
-pub(crate) const FILE: usize = 3;
-
+// The store's parts, each from a multiple of 65536 on: 0 is what is asked with, 1 and 2 are the planes, 3 is the file or lump.
+// Register i is where part i ends.
 pub(crate) const FILE_START: usize = 196608;
 
 // The word that is lent, and how many of it.
@@ -35,8 +27,8 @@ pub(crate) fn byte(s: &[u8], at: usize) -> u8 {
     if at < s.len() { s[at] } else { b'\n' }
 }
 
-pub(crate) fn after(at: usize) -> usize {
-    std::num::wrapping_add_usize(at, 1)
+pub(crate) fn plus(m: usize, n: usize) -> usize {
+    std::num::wrapping_add_usize(m, n)
 }
 
 pub(crate) fn part(s: &[u8], from: usize, to: usize) -> &[u8] {
@@ -60,11 +52,11 @@ pub(crate) fn place_among(names: &[u8], word: &[u8]) -> usize {
     for i in 0..names.len() {
         if names[i] != b' ' {
             let same = byte(word, matched) == names[i];
-            matched = if same { after(matched) } else { names.len() };
+            matched = if same { plus(matched, 1) } else { names.len() };
         } else if matched == word.len() {
             return place;
         } else {
-            place = after(place);
+            place = plus(place, 1);
             matched = 0;
         }
     }
@@ -95,7 +87,7 @@ fn token(b: u8, text: &[u8], store: &mut [u8], r: &mut [usize; 11]) {
     r[NEXT] = find(text, at, b' ');
     let token = part(text, at, r[NEXT]);
     match b {
-        b' ' | b'\n' => r[NEXT] = after(at),
+        b' ' | b'\n' => r[NEXT] = plus(at, 1),
         b'#' => r[NEXT] = find(text, at, b'\n'),
         b'"' => write(part(token, 1, find(token, 1, b'"')), store, r),
         b'-' | b'0'..=b'9' => number(token, store, r),
@@ -105,7 +97,7 @@ fn token(b: u8, text: &[u8], store: &mut [u8], r: &mut [usize; 11]) {
 
 // A word says which part is written next, or what the next number is for.
 fn word(word: &[u8], r: &mut [usize; 11]) {
-    let place = place_among(b"with colour cover file words at cut again rise ", word);
+    let place = place_among(b"with colour cover file words at again rise ", word);
     if place < 4 {
         r[PART] = place;
         r[AT] = 65536 * place;
@@ -113,7 +105,7 @@ fn word(word: &[u8], r: &mut [usize; 11]) {
         return;
     }
     r[USE] = place;
-    if place == 9 {
+    if place == 8 {
         print::ill_formed();
     }
 }
@@ -122,9 +114,14 @@ fn word(word: &[u8], r: &mut [usize; 11]) {
 fn number(token: &[u8], store: &mut [u8], r: &mut [usize; 11]) {
     let star = find(token, 0, b'*');
     let last = std::num::wrapping_sub_usize(star, 1);
-    let width = width_of(byte(token, last));
+    let width = match byte(token, last) {
+        b'w' => 2,
+        b'd' => 4,
+        b'q' => 8,
+        _ => 1,
+    };
     let n = sum(part(token, 0, if width == 1 { star } else { last }));
-    let times = sum(part(token, after(star), token.len()));
+    let times = sum(part(token, plus(star, 1), token.len()));
     let purpose = r[USE];
     r[USE] = 0;
     match purpose {
@@ -132,19 +129,10 @@ fn number(token: &[u8], store: &mut [u8], r: &mut [usize; 11]) {
             r[WORD] = n;
             r[WORDS] = times;
         }
-        5 | 6 => go_to(n, purpose == 6, r),
-        7 => again(n, times, store, r),
-        8 => rise(n, times, store, r[AT]),
+        5 => go_to(n, r),
+        6 => again(n, times, store, r),
+        7 => rise(n, times, store, r[AT]),
         _ => write_number(n, width, times, store, r),
-    }
-}
-
-fn width_of(letter: u8) -> usize {
-    match letter {
-        b'w' => 2,
-        b'd' => 4,
-        b'q' => 8,
-        _ => 1,
     }
 }
 
@@ -155,14 +143,14 @@ fn sum(s: &[u8]) -> usize {
     let mut last: usize = 0;
     for i in from..s.len() {
         if s[i] == b'+' {
-            before = std::num::wrapping_add_usize(before, last);
+            before = plus(before, last);
             last = 0;
         } else {
             last = longer(last, s[i]);
         }
     }
-    let n = std::num::wrapping_add_usize(before, last);
-    if from == 1 { after(!n) } else { n }
+    let n = plus(before, last);
+    if from == 1 { plus(!n, 1) } else { n }
 }
 
 // A number with one more digit; 16 digits are enough.
@@ -173,26 +161,21 @@ fn longer(n: usize, digit: u8) -> usize {
     10 * (n % 1000000000000000) + (digit % 16) as usize
 }
 
-// Writing goes on at a place of the file, or the file ends there.
-fn go_to(n: usize, cut: bool, r: &mut [usize; 11]) {
-    let place = std::num::wrapping_add_usize(FILE_START, n);
-    if r[FILE] < place {
+// Writing goes on at a place of the file.
+fn go_to(n: usize, r: &mut [usize; 11]) {
+    r[PART] = 3;
+    r[AT] = plus(FILE_START, n);
+    if r[3] < r[AT] {
         print::ill_formed();
-    }
-    r[PART] = FILE;
-    r[AT] = place;
-    if cut {
-        r[FILE] = place;
     }
 }
 
 // What does not fit the width is ill-formed, but for a negative number's upper bits.
 fn write_number(n: usize, width: usize, times: usize, store: &mut [u8], r: &mut [usize; 11]) {
-    let rest = put(store, r[AT], width, n);
-    if (rest != 0) & (n < 9223372036854775808) {
+    if (put(store, r[AT], width, n) != 0) & (n < 9223372036854775808) {
         print::ill_formed();
     }
-    wrote(std::num::wrapping_add_usize(r[AT], width), r);
+    wrote(plus(r[AT], width), r);
     if 1 < times {
         again(width, times - 1, store, r);
     }
@@ -200,7 +183,7 @@ fn write_number(n: usize, width: usize, times: usize, store: &mut [u8], r: &mut 
 
 // The last n bytes, so many times more.
 fn again(n: usize, times: usize, store: &mut [u8], r: &mut [usize; 11]) {
-    let end = std::num::wrapping_add_usize(r[AT], (n % 4194304) * (times % 4194304));
+    let end = plus(r[AT], (n % 4194304) * (times % 4194304));
     if store.len() < end {
         return print::ill_formed();
     }
@@ -215,7 +198,7 @@ fn rise(n: usize, times: usize, store: &mut [u8], from: usize) {
     let mut at = from;
     for i in 0..times {
         put(store, at, 2, i);
-        at = std::num::wrapping_add_usize(at, n);
+        at = plus(at, n);
     }
 }
 
@@ -223,11 +206,7 @@ fn rise(n: usize, times: usize, store: &mut [u8], from: usize) {
 fn put(store: &mut [u8], at: usize, width: usize, bits: usize) -> usize {
     let mut rest = bits;
     for i in 0..width {
-        set(
-            store,
-            std::num::wrapping_add_usize(at, i),
-            (rest % 256) as u8,
-        );
+        set(store, plus(at, i), (rest % 256) as u8);
         rest = rest / 256;
     }
     rest
@@ -235,21 +214,20 @@ fn put(store: &mut [u8], at: usize, width: usize, bits: usize) -> usize {
 
 fn write(bytes: &[u8], store: &mut [u8], r: &mut [usize; 11]) {
     copy(store, r[AT], bytes);
-    wrote(std::num::wrapping_add_usize(r[AT], bytes.len()), r);
+    wrote(plus(r[AT], bytes.len()), r);
 }
 
 pub(crate) fn copy(store: &mut [u8], at: usize, bytes: &[u8]) {
     for i in 0..bytes.len() {
-        set(store, std::num::wrapping_add_usize(at, i), bytes[i]);
+        set(store, plus(at, i), bytes[i]);
     }
 }
 
 fn set(store: &mut [u8], at: usize, b: u8) {
-    if at < store.len() {
-        store[at] = b;
-    } else {
-        print::ill_formed();
+    if store.len() <= at {
+        return print::ill_formed();
     }
+    store[at] = b;
 }
 
 // Writing goes on there, and so does the part, unless it was longer already.
