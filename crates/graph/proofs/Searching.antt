@@ -282,7 +282,7 @@ module _ (nodes : List ℕ) (count : ℕ) (least : 1 ≤ count) (most : count �
         inRange = λ j h. (let z : j ≡ 0 = omega arith in rw (z, at) l);
         met = λ j h. (let z : j ≡ 0 = omega arith in rw (z, at, put) (λ e. omega arith));
         linked = λ j h. absurd (omega arith);
-        onPath = λ i h e. (0, omega arith, at ∙ sym (is-root i h e));
+        onPath = λ i h e. (0, omega arith, at ∙ sym (met-root i h (λ z. omega arith)));
         known = λ i h n. rw (met-root i h n) root-reached;
         closed = λ i h n m. absurd (n (other i h (λ q. m (ap mark q ∙ put))));
         tall = λ i h n m. absurd (n (other i h (λ q. m (ap mark q ∙ put))));
@@ -294,11 +294,4 @@ module _ (nodes : List ℕ) (count : ℕ) (least : 1 ≤ count) (most : count �
           ⊎-elim
           (λ (q : i ≡ count - 1). q)
           (λ (q : i ≡ count - 1 → ⊥). absurd (n (other i h q)))
-          (same-or-not i (count - 1))
-
-      is-root : (i : ℕ) → i < count → mark i ≡ 65535 → i ≡ count - 1
-      is-root i h e =
-          ⊎-elim
-          (λ (q : i ≡ count - 1). q)
-          (λ (q : i ≡ count - 1 → ⊥). let z = other i h q in absurd (omega arith))
           (same-or-not i (count - 1))
