@@ -182,11 +182,27 @@ pub fn picture(width: u16, height: u16) -> Vec<u8> {
 
 /// A NODES lump that halves the plane in turn, `levels` times, 1 to 14, over 2 to the power `levels` subsectors.
 pub fn halving_nodes(levels: u32) -> Vec<u8> {
+    encode(&halved(levels))
+}
+
+/// The same with every second line, by chance, a little slanting: a processor cannot foretell which kind of line comes next.
+pub fn mixed_nodes(levels: u32) -> Vec<u8> {
+    let mut rng = Rng::new(1);
+    let mut nodes = halved(levels);
+    for node in &mut nodes {
+        if rng.once_in(2) {
+            (node.dx, node.dy) = (node.dx.max(1), node.dy.max(1));
+        }
+    }
+    encode(&nodes)
+}
+
+fn halved(levels: u32) -> Vec<Node> {
     let count = (1usize << levels) - 1;
     let mut nodes = vec![Node::default(); count];
     let area = [i32::from(i16::MIN), i32::from(i16::MIN), 65_536, 65_536];
     halve(&mut nodes, 0, area);
-    encode(&nodes)
+    nodes
 }
 
 /// Node `heap` of the heap halves `[x, y, width, height]`; the heap is numbered from the last.

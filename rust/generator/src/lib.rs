@@ -8,8 +8,8 @@
 //! - [`limits`] lists both sides of every limit, each case built when asked for;
 //! - [`MapSpec`], [`Plan`], [`BlockmapSpec`] and [`PictureSpec`] build inputs by hand;
 //! - [`ordinary_map`], [`largest_map`], [`directory_of`], [`chain`], [`balanced`], [`doublings`],
-//!   [`shared_subsector`], [`hostile_blockmap`], [`hostile_picture`], [`picture`] and
-//!   [`halving_nodes`] are the inputs of a benchmark;
+//!   [`shared_subsector`], [`hostile_blockmap`], [`hostile_picture`], [`picture`],
+//!   [`halving_nodes`] and [`mixed_nodes`] are the inputs of a benchmark;
 //! - [`shrink`] makes a failing case smaller.
 //!
 //! ```
@@ -55,7 +55,7 @@ mod valid;
 
 pub use bench::{
     balanced, chain, directory_of, doublings, halving_nodes, hostile_blockmap, hostile_blockmap_of, hostile_picture,
-    hostile_picture_of, largest_map, largest_map_of, map_of, ordinary_map, picture, shared_subsector, MOST_BYTES,
+    hostile_picture_of, largest_map, largest_map_of, map_of, mixed_nodes, ordinary_map, picture, shared_subsector, MOST_BYTES,
 };
 pub use blockmap::{BlockmapSpec, Layout};
 pub use case::{Case, Expected, Question};

@@ -133,6 +133,12 @@ fn inputs() -> Vec<Input> {
             reader: reader_descents,
         },
         Input {
+            name: "the same, lines of mixed kinds",
+            sized: |n| given::mixed_nodes([0, 12, 13, 13, 14][n]),
+            library: library_descents,
+            reader: reader_descents,
+        },
+        Input {
             name: "hostile BLOCKMAP of 16 MiB",
             sized: |n| given::hostile_blockmap_of(given::MOST_BYTES * n / 4),
             library: library_map,
