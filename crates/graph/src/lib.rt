@@ -1,5 +1,6 @@
 // Loop, shared child or depth of a node graph, by a search from the root: always to a child not met yet, back where there is
-// none. Each node is put on the path once and taken off it once; then the children of the nodes met are looked at once more. specs/Inner/Looks.antt says what the work words hold.
+// none. Each node is put on the path once and taken off it once; then the children of the nodes met are looked at once more.
+// specs/Inner/Looks.antt says what the work words hold.
 use bsp::Choice;
 use bsp::Graph;
 ghost use mathlib.Core.Path.{_≡_};
@@ -38,8 +39,8 @@ pub enum Search {
     Done(usize),
 }
 
-// Loop, shared child or depth of a NODES lump whose children are in range. Whatever the words hold changes nothing; afterwards the first
-// four for each node are zero, and the others as found.
+// Loop, shared child or depth of a NODES lump whose children are in range. Whatever the words hold changes nothing; afterwards
+// the first four for each node are zero, and the others as found.
 pub fn judge(nodes: &[u8], count: usize, words: &mut [u16]) -> Graph
     requires { ⌜ Judgeable (now nodes) count (now words) ⌝ }
     ensures { λ r. ⌜ GraphJudged (now (nodes .entry)) count (now (words .entry)) (now (words .exit)) r ⌝ }

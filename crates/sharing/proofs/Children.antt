@@ -1,33 +1,29 @@
 -- Laws of the children of marked nodes: one node more, and what is noted of them. Assumes nothing.
-use Prim.Native.Nat.{ℕ, zero, suc, _+_, _≤_, _<_}
+use Prim.Native.Nat.{ℕ, zero, suc, _+_, _/_, _%_, _≤_, _<_}
 use mathlib.Core.Bool.{Bool, true, false, _||_}
 use mathlib.Core.List.{List, [], _∷_}
 use mathlib.Core.Logic.{⊎-elim}
-use mathlib.Core.Path.{_≡_, refl, sym, _∙_}
+use mathlib.Core.Path.{_≡_, refl, sym, ap, _∙_}
 use native.Mathlib.Nat.{eq-or-lt-of-le, le-of-suc-le-suc}
 use native.Mathlib.Numerals.{add-one}
 use native.Mathlib.Omega.{arith}
 use borrow.Author.Tests.{eqb-true, eqb-false, ne-eqb}
 use lib.Dec.{eqb}
-use lib.ListN.{length, getD, set, replicate, length-set, length-replicate, getD-replicate}
-use lib.Seq.{getD-set-same, getD-set-other}
+use lib.ListN.{length, getD, replicate, length-replicate, getD-replicate}
 use Rattle.bsp.specs.declared.Choice.the-variants.{Right, Left}
 use Rattle.bsp.specs.Nodes.{childOf}
 use Rattle.bsp.specs.Heights.{member, repeats}
 use Rattle.bsp.proofs.Repeats.{repeats-head, repeats-tail}
 use Rattle.sharing.specs.Children.{childWords}
-use Rattle.sharing.specs.Inner.{Seen}
+use Rattle.sharing.specs.Inner.{isNoted, withNote, Seen}
+use Rattle.sharing.proofs.Bits.{note-more, length-note, bit-zero}
 
 -- `seen` says which words are in the list
 abbrev Noted : List ℕ → List ℕ → Type 0
-Noted seen xs = (w : ℕ) → w < 65536 → eqb (getD seen w 0) 1 ≡ member w xs
+Noted seen xs = (w : ℕ) → w < 65536 → isNoted seen w ≡ member w xs
 
-noted-more : (seen xs : List ℕ) (v : ℕ) → v < length seen → Noted seen xs → Noted (set seen v 1) (v ∷ xs)
-noted-more seen xs v h noted w l = by (eqb w v) refl
-  where
-    by : (b : Bool) → eqb w v ≡ b → eqb (getD (set seen v 1) w 0) 1 ≡ (b || member w xs)
-    by true e = rw (eqb-true w v e, getD-set-same seen v 1 0 h)
-    by false e = rw (getD-set-other seen v w 1 0 (eqb-false w v e)) (noted w l)
+noted-more : (seen xs : List ℕ) (v : ℕ) → v / 8 < length seen → Noted seen xs → Noted (withNote seen v) (v ∷ xs)
+noted-more seen xs v h noted w l = note-more seen v w h ∙ ap (λ (b : Bool). eqb w v || b) (noted w l)
 
 module _ (nodes marks : List ℕ) where
   pub children-none : childWords nodes marks 0 ≡ []
@@ -61,11 +57,11 @@ module _ (nodes marks : List ℕ) where
 
   -- ---- what is seen
 
-  pub seen-none : Seen nodes marks 0 (replicate 65536 0)
+  pub seen-none : Seen nodes marks 0 (replicate 8192 0)
   seen-none =
       record {
-        places = length-replicate {A = ℕ} 65536 0;
-        noted = λ w h. rw (children-none, getD-replicate {A = ℕ} 65536 w 0 0 h);
+        places = length-replicate {A = ℕ} 8192 0;
+        noted = λ w h. rw (children-none, getD-replicate {A = ℕ} 8192 (w / 8) 0 0 (omega arith)) (bit-zero (w % 8));
         once = rw children-none;
       }
 
@@ -75,30 +71,30 @@ module _ (nodes marks : List ℕ) where
 
     module _ (some : getD marks n 0 ≡ 0 → ⊥) (right left : ℕ) (r : right ≡ childOf nodes n Right) (l : left ≡ childOf nodes n Left)
         (lowRight : right < 65536) where
-      pub met-right : eqb (getD seen right 0) 1 ≡ true → repeats (childWords nodes marks (n + 1)) ≡ true
+      pub met-right : isNoted seen right ≡ true → repeats (childWords nodes marks (n + 1)) ≡ true
       met-right e =
           let m : member right (childWords nodes marks n) ≡ true = sym (s .noted right lowRight) ∙ e in
           rw (children-more n some, ← r)
           (repeats-tail (childOf nodes n Left) (right ∷ childWords nodes marks n) (repeats-head right (childWords nodes marks n) m))
 
-      noted-right : Noted (set seen right 1) (right ∷ childWords nodes marks n)
-      noted-right = noted-more seen (childWords nodes marks n) right (rw (s .places) lowRight) (s .noted)
+      noted-right : Noted (withNote seen right) (right ∷ childWords nodes marks n)
+      noted-right = noted-more seen (childWords nodes marks n) right (rw (s .places) (omega arith)) (s .noted)
 
       module _ (lowLeft : left < 65536) where
-        pub met-left : eqb (getD (set seen right 1) left 0) 1 ≡ true → repeats (childWords nodes marks (n + 1)) ≡ true
+        pub met-left : isNoted (withNote seen right) left ≡ true → repeats (childWords nodes marks (n + 1)) ≡ true
         met-left e =
             let m : member left (right ∷ childWords nodes marks n) ≡ true = sym (noted-right left lowLeft) ∙ e in
             rw (children-more n some, ← r, ← l) (repeats-head left (right ∷ childWords nodes marks n) m)
 
-        pub seen-both : eqb (getD seen right 0) 1 ≡ false → eqb (getD (set seen right 1) left 0) 1 ≡ false
-            → Seen nodes marks (n + 1) (set (set seen right 1) left 1)
+        pub seen-both : isNoted seen right ≡ false → isNoted (withNote seen right) left ≡ false
+            → Seen nodes marks (n + 1) (withNote (withNote seen right) left)
         seen-both a b =
-            let long : length (set seen right 1) ≡ 65536 = length-set seen right 1 ∙ s .places in
-            let all = noted-more (set seen right 1) (right ∷ childWords nodes marks n) left (rw long lowLeft) noted-right in
+            let long : length (withNote seen right) ≡ 8192 = length-note seen right ∙ s .places in
+            let all = noted-more (withNote seen right) (right ∷ childWords nodes marks n) left (rw long (omega arith)) noted-right in
             let m : member right (childWords nodes marks n) ≡ false = sym (s .noted right lowRight) ∙ a in
             let k : member left (right ∷ childWords nodes marks n) ≡ false = sym (noted-right left lowLeft) ∙ b in
             record {
-              places = length-set (set seen right 1) left 1 ∙ long;
+              places = length-note (withNote seen right) left ∙ long;
               noted = rw (children-more n some, ← r, ← l) all;
               once = rw (children-more n some, ← r, ← l, k, m, s .once);
             }

@@ -1,23 +1,22 @@
 // Whether two of a graph's marked nodes, or the two choices at one, lead to the same child (W-202). One look at each child.
 use bsp::Choice;
 ghost use mathlib.Core.Path.{_≡_};
-ghost use Prim.Native.Nat.{_+_, _*_, _<_, _≤_};
-ghost use lib.Dec.{eqb};
-ghost use lib.ListN.{length, getD, set};
+ghost use Prim.Native.Nat.{_+_, _*_, _/_, _<_, _≤_};
+ghost use lib.ListN.{length};
 ghost use Rattle.bsp.specs.Heights.{repeats};
 ghost use Rattle.built.specs.Nodes.{nodeSize};
 ghost use Rattle.sharing.specs.Children.{childWords};
-ghost use Rattle.sharing.specs.Inner.{Seen, Met};
+ghost use Rattle.sharing.specs.Inner.{bitOf, withBit, isNoted, withNote, Seen, Met};
 
-// As many words as 16 bits can say.
-const WORDS: usize = 65536;
+// A bit for each of the words that 16 bits can say.
+const SEEN: usize = 8192;
 
 // Whether some child of the marked nodes is met twice. A node is marked where its word of `marks` is not 0.
 pub fn shares(nodes: &[u8], count: usize, marks: &[u16]) -> bool
     requires { ⌜ (nodeSize * count ≤ length (now nodes)) × (count ≤ length (now marks)) ⌝ }
     ensures { λ r. ⌜ r ≡ repeats (childWords (now (nodes .entry)) (now (marks .entry)) count) ⌝ }
 {
-    let mut seen = [0u8; WORDS];
+    let mut seen = [0u8; SEEN];
     meets_twice(nodes, count, marks, &mut seen)
 }
 
@@ -54,11 +53,27 @@ fn meets_again(nodes: &[u8], marks: &[u16], seen: &mut [u8], node: usize) -> boo
 
 // Whether the word was seen before. It is from now on.
 fn visit(seen: &mut [u8], word: usize) -> bool
-    requires { ⌜ word < length (now seen) ⌝ }
-    ensures { λ r. ⌜ r ≡ eqb (getD (now (seen .entry)) word 0) 1 ⌝ }
-    ensures { λ _. ⌜ now (seen .exit) ≡ set (now (seen .entry)) word 1 ⌝ }
+    requires { ⌜ word / 8 < length (now seen) ⌝ }
+    ensures { λ r. ⌜ r ≡ isNoted (now (seen .entry)) word ⌝ }
+    ensures { λ _. ⌜ now (seen .exit) ≡ withNote (now (seen .entry)) word ⌝ }
 {
-    let before = seen[word] == 1;
-    seen[word] = 1;
-    before
+    let place = word / 8;
+    let bit = (word % 8) as u8;
+    let byte = seen[place];
+    seen[place] = with_bit(byte, bit);
+    bit_of(byte, bit)
+}
+
+fn bit_of(byte: u8, i: u8) -> bool
+    requires { ⌜ i < 8 ⌝ }
+    ensures { λ r. ⌜ r ≡ bitOf byte i ⌝ }
+{
+    (byte >> i) % 2 == 1
+}
+
+fn with_bit(byte: u8, i: u8) -> u8
+    requires { ⌜ i < 8 ⌝ }
+    ensures { λ r. ⌜ r ≡ withBit byte i ⌝ }
+{
+    byte | (1 << i)
 }
