@@ -1,10 +1,12 @@
 -- Answers on a file's directory. Assumes nothing.
+use Prim.Native.Nat.{ℕ}
 use Rattle.wad.specs.declared.entries.Directory.{Directory}
 use Rattle.wad.specs.declared.entries.Directory.the-variants.{Listed, Refused as NotListed}
 use Rattle.wad.specs.declared.lumps.Entry.{Entry}
 use Rattle.wad.specs.declared.lumps.Entry.the-variants.{At, Refused as NotThere}
 use Rattle.wad.specs.declared.map.Marker.{Marker}
 use Rattle.wad.specs.declared.map.Marker.the-variants.{Entry as Marked, Refused as NoMarker}
+use Rattle.wad.specs.declared.map.MarkerSearch.{MarkerSearch}
 use Rattle.meshpigeon.specs.declared.files.DirectoryAnswer.{DirectoryAnswer}
 use Rattle.meshpigeon.specs.declared.files.EntryAnswer.{EntryAnswer}
 use Rattle.meshpigeon.specs.declared.files.MarkerAnswer.{MarkerAnswer}
@@ -20,7 +22,10 @@ abbrev pub entryOut : Entry → EntryAnswer
 entryOut (At offset size) = record { status = accepted; offset = offset; size = size }
 entryOut (NotThere r) = record { status = refused r; offset = 0; size = 0 }
 
--- a map's marker
-abbrev pub markerOut : Marker → MarkerAnswer
-markerOut (Marked marker) = record { status = accepted; marker = marker }
-markerOut (NoMarker r) = record { status = refused r; marker = 0 }
+-- a map's marker, and how many names were compared
+abbrev pub markerWith : ℕ → Marker → MarkerAnswer
+markerWith compared (Marked marker) = record { status = accepted; marker = marker; compared = compared }
+markerWith compared (NoMarker r) = record { status = refused r; marker = 0; compared = compared }
+
+abbrev pub markerOut : MarkerSearch → MarkerAnswer
+markerOut search = markerWith (search .compared) (search .marker)

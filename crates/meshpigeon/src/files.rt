@@ -2,7 +2,7 @@
 ghost use mathlib.Core.Path.{_≡_};
 ghost use Rattle.wad.specs.Entries.{directoryAnswer};
 ghost use Rattle.wad.specs.Lump.{entryAnswer};
-ghost use Rattle.wad.specs.Map.{markerAnswer};
+ghost use Rattle.wad.specs.Map.{searchAnswer};
 ghost use Rattle.meshpigeon.specs.Files.{directoryOut, entryOut, markerOut};
 use crate::status::Status;
 use crate::status::nothing_refused;
@@ -25,10 +25,12 @@ pub struct EntryAnswer {
     pub size: usize,
 }
 
+// The one answer of which a refusal fills a field: how many names were compared, with 11 too.
 #[repr(C)]
 pub struct MarkerAnswer {
     pub status: Status,
     pub marker: usize,
+    pub compared: usize,
 }
 
 // Header and directory, 1 to 6.
@@ -69,19 +71,24 @@ pub extern "C" fn meshpigeon_entry(wad: &[u8], number: usize) -> EntryAnswer
     }
 }
 
-// A map's marker by its name of eight bytes, 1 to 6, 10 and 11.
+// A map's marker by its name of eight bytes, and how many names were compared: 1 to 6, 10 and 11.
 #[no_mangle]
 pub extern "C" fn meshpigeon_find_map(wad: &[u8], name: &[u8]) -> MarkerAnswer
-    ensures { λ r. ⌜ r ≡ markerOut (markerAnswer (now (wad .entry)) (now (name .entry))) ⌝ }
+    ensures { λ r. ⌜ r ≡ markerOut (searchAnswer (now (wad .entry)) (now (name .entry))) ⌝ }
 {
-    match wad::find_map(wad, name) {
+    let search = wad::search_map(wad, name);
+    let marker = search.marker;
+    let compared = search.compared;
+    match marker {
         Marker::Entry(marker) => MarkerAnswer {
             status: nothing_refused(),
             marker,
+            compared,
         },
         Marker::Refused(r) => MarkerAnswer {
             status: refused(r),
             marker: 0,
+            compared,
         },
     }
 }

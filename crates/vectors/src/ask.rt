@@ -57,6 +57,7 @@ fn entry(file: &[u8], with: &[u8]) {
 fn marker(file: &[u8], name: &[u8]) {
     let a = meshpigeon::files::meshpigeon_find_map(file, name);
     print::answer(a.status, b" entry", &[a.marker]);
+    print::numbers(b" compared", &[a.compared]);
 }
 
 // Asked with the count of subsectors, then x and y.

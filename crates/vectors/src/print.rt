@@ -21,7 +21,7 @@ pub(crate) fn answer(s: meshpigeon::status::Status, names: &[u8], answered: &[us
     numbers(b" place, record", &[s.place, s.record]);
 }
 
-fn numbers(names: &[u8], s: &[usize]) {
+pub(crate) fn numbers(names: &[u8], s: &[usize]) {
     text(names);
     for i in 0..s.len() {
         number(b" ", s[i]);

@@ -19,12 +19,13 @@ use Rattle.refusal.proofs.Checks.{both, andThen-pass, unless-pass, each-pass}
 use Rattle.wad.specs.declared.lumps.Entry.{Entry}
 use Rattle.wad.specs.declared.lumps.Entry.the-variants.{At, Refused as NotThere}
 use Rattle.wad.specs.declared.map.Marker.{Marker}
-use Rattle.wad.specs.declared.map.Marker.the-variants.{Refused as NoMarker}
+use Rattle.wad.specs.declared.map.Marker.the-variants.{Entry as Marked, Refused as NoMarker}
+use Rattle.wad.specs.declared.map.MarkerSearch.{MarkerSearch}
 use Rattle.name.specs.Names.{mapNameOk, episodeName, numberedName}
 use Rattle.wad.specs.Header.{headOf, entryCount, fileHeaderCheck}
 use Rattle.wad.specs.Entries.{directoryOf, offsetAt, sizeAt, insideOk, entryCheck, fileCheck}
 use Rattle.wad.specs.Lump.{entrySize, entryOffset, placed, entryAnswer, partOf, HandedWhole}
-use Rattle.wad.specs.Map.{findMarker, found, markerAnswer}
+use Rattle.wad.specs.Map.{findMarker, counted, found, markerAnswer, searched, searchAnswer}
 use Rattle.wad.proofs.Slices.{length-part, partIf-inside}
 use Rattle.wad.proofs.Listing.{between-natural}
 
@@ -50,19 +51,33 @@ module _ (wad : List ℕ) (i : ℕ) where
       ∙ ap (λ (b : Bool). answered (unless b EntryNumber)) (lt-ltb i (entryCount (headOf wad)) h))
 
 module _ (wad name : List ℕ) where
-  abbrev pub sought : Check → Marker
-  sought k = found k (findMarker (directoryOf wad) name (entryCount (headOf wad)))
+  abbrev pub sought : Check → MarkerSearch
+  sought k = searched k (counted (entryCount (headOf wad)) (findMarker (directoryOf wad) name (entryCount (headOf wad))))
 
   abbrev pub named : Check
   named = unless (mapNameOk name) MapName
 
-  pub marker-refused : {r : Refusal} → fileCheck wad ≡ Refused r → NoMarker r ≡ markerAnswer wad name
-  marker-refused e = sym (ap (λ (k : Check). sought (k andThen named)) e)
+  pub search-refused : {r : Refusal} → fileCheck wad ≡ Refused r → sought (Refused r) ≡ searchAnswer wad name
+  search-refused e = sym (ap (λ (k : Check). sought (k andThen named)) e)
 
-  pub marker-named : {b : Bool} → fileCheck wad ≡ Pass → b ≡ mapNameOk name
-      → sought (unless b MapName) ≡ markerAnswer wad name
-  marker-named e q =
+  pub search-named : {b : Bool} → fileCheck wad ≡ Pass → b ≡ mapNameOk name
+      → sought (unless b MapName) ≡ searchAnswer wad name
+  search-named e q =
       ap (λ (b : Bool). sought (unless b MapName)) q ∙ sym (ap (λ (k : Check). sought (k andThen named)) e)
+
+-- the count stands beside the marker and changes nothing of it
+counted-marker : (count : ℕ) (m : Marker) → counted count m .marker ≡ m
+counted-marker count (Marked i) = refl
+counted-marker count (NoMarker r) = refl
+
+searched-marker : (k : Check) (count : ℕ) (m : Marker) → searched k (counted count m) .marker ≡ found k m
+searched-marker Pass count m = counted-marker count m
+searched-marker (Refused r) count m = refl
+
+pub search-marker : (wad name : List ℕ) → searchAnswer wad name .marker ≡ markerAnswer wad name
+search-marker wad name =
+    searched-marker (fileCheck wad andThen named wad name) (entryCount (headOf wad))
+    (findMarker (directoryOf wad) name (entryCount (headOf wad)))
 
 -- a map's name has eight bytes
 pub mapNameOk-length : (name : List ℕ) → mapNameOk name ≡ true → length name ≡ 8

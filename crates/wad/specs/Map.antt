@@ -1,5 +1,5 @@
--- The search for a map's marker by an asked name (01, "One map"): 10 and 11. Assumes nothing.
-use Prim.Native.Nat.{ℕ, zero, suc}
+-- The search for a map's marker by an asked name (01, "One map", and W-203): 10 and 11. Assumes nothing.
+use Prim.Native.Nat.{ℕ, zero, suc, _-_}
 use mathlib.Core.Bool.{cond}
 use mathlib.Core.List.{List}
 use lib.ListN.{length}
@@ -9,14 +9,21 @@ use Rattle.refusal.specs.declared.Refusal.the-variants.{MapName, MapMissing}
 use Rattle.refusal.specs.Checks.{unless, _andThen_}
 use Rattle.wad.specs.declared.map.Marker.{Marker}
 use Rattle.wad.specs.declared.map.Marker.the-variants.{Entry, Refused as NoMarker}
+use Rattle.wad.specs.declared.map.MarkerSearch.{MarkerSearch}
 use Rattle.wad.specs.Header.{headOf, entryCount}
-use Rattle.wad.specs.Entries.{entryName, directoryOf, directoryCheck}
+use Rattle.wad.specs.Entries.{entryName, directoryOf, directoryCheck, fileCheck}
 use Rattle.name.specs.Names.{sameName, mapNameOk}
 
 -- the last of the first `n` entries that has the name
 unfoldable pub findMarker : List ℕ → List ℕ → ℕ → Marker
 findMarker dir name zero = NoMarker MapMissing
 findMarker dir name (suc n) = cond (sameName (entryName dir n) name) (Entry n) (findMarker dir name n)
+
+-- how many names the search compared, from the last of `count` entries down: the count less the found entry's number, or the
+-- whole count if none has the name
+abbrev pub counted : ℕ → Marker → MarkerSearch
+counted count (Entry i) = record { marker = Entry i; compared = count - i }
+counted count (NoMarker r) = record { marker = NoMarker r; compared = count }
 
 -- the refusal, or what the search finds
 abbrev pub found : Check → Marker → Marker
@@ -30,3 +37,14 @@ markerBy len head dir name =
 
 abbrev pub markerAnswer : List ℕ → List ℕ → Marker
 markerAnswer wad name = markerBy (length wad) (headOf wad) (directoryOf wad) name
+
+-- the refusal, with no name compared, or what the search finds and how many it compared
+abbrev pub searched : Check → MarkerSearch → MarkerSearch
+searched Pass search = search
+searched (Refused r) search = record { marker = NoMarker r; compared = 0 }
+
+-- the same with how many names were compared
+abbrev pub searchAnswer : List ℕ → List ℕ → MarkerSearch
+searchAnswer wad name =
+    let count = entryCount (headOf wad) in
+    searched (fileCheck wad andThen unless (mapNameOk name) MapName) (counted count (findMarker (directoryOf wad) name count))

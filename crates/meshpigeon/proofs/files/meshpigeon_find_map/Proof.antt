@@ -1,6 +1,6 @@
 -- `meshpigeon::files::meshpigeon_find_map` meets its contract, by the answer of the layer below. Assumes nothing.
 use mathlib.Core.Path.{sym, ap, _∙_}
-use Rattle.meshpigeon.specs.Files.{markerOut}
+use Rattle.meshpigeon.specs.Files.{markerWith, markerOut}
 use borrow.Author.Needs.{needs}
 use Rattle.meshpigeon.proofs.files.meshpigeon_find_map.Statement.{statement}
 use Rattle.meshpigeon.proofs.files.meshpigeon_find_map.Tie as tie
@@ -8,13 +8,17 @@ use Rattle.meshpigeon.proofs.files.meshpigeon_find_map.Tie as tie
 returns : tie.Need-returns
 returns c =
     let g = c .before .before .marker .given in
-    (λ i. record { status = c .nothing-refused .ensures i; marker = g .0 .0 })
-    ∙ ap markerOut (sym (g .1) ∙ c .before .before .before .before .find-map .ensures)
+    let s = c .before .before .before .before .search-map in
+    (λ i. record { status = c .nothing-refused .ensures i; marker = g .0 .0; compared = s .result .compared })
+    ∙ ap (markerWith (s .result .compared)) (sym (g .1))
+    ∙ ap markerOut (s .ensures)
 
 returns-2 : tie.Need-returns-2
 returns-2 c =
-    (λ i. record { status = c .refused .ensures i; marker = 0 })
-    ∙ ap markerOut (sym (c .before .before .r .given .1) ∙ c .before .before .before .before .find-map .ensures)
+    let s = c .before .before .before .before .search-map in
+    (λ i. record { status = c .refused .ensures i; marker = 0; compared = s .result .compared })
+    ∙ ap (markerWith (s .result .compared)) (sym (c .before .before .marker2 .given .1))
+    ∙ ap markerOut (s .ensures)
 
 pub meshpigeon-find-map-spec : {M : Type 1} → statement M
 meshpigeon-find-map-spec =
