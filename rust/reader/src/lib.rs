@@ -1,7 +1,7 @@
 //! An independent reader of Doom map files.
 //!
-//! Written from paper 01 ("Specification of the build and its rules"), request W-202 and document
-//! 004 (field layouts) alone, in plain safe Rust, to be held against the proved library. Every
+//! Written from paper 01 ("Specification of the build and its rules"), the requests of paper 02 and
+//! document 004 (field layouts) alone, in plain safe Rust, to be held against the proved library. Every
 //! function answers the papers' refusal number, place and record; where the papers leave an order
 //! open, the list "Readings taken" of the design decides.
 //!
@@ -11,7 +11,7 @@
 //! ```
 //! let wad = [*b"PWAD", [0; 4], [12, 0, 0, 0]].concat();
 //! assert_eq!(reader::directory(&wad).unwrap().count, 0);
-//! assert_eq!(reader::find_map(&wad, b"MAP01\0\0\0").unwrap_err().number, 11);
+//! assert_eq!(reader::find_map(&wad, b"MAP01\0\0\0").marker.unwrap_err().number, 11);
 //! ```
 #![forbid(unsafe_code)]
 #![deny(missing_docs)]
@@ -32,7 +32,7 @@ pub use map::{judge_map, reject_size, Accepted};
 pub use picture::{judge_picture, paint_picture, Picture};
 pub use record::{Linedef, Node, Sector, Seg, Sidedef, Subsector, Thing, Vertex};
 pub use refusal::Refusal;
-pub use wad::{directory, entry, find_map, is_map_name, is_name, lump, Directory};
+pub use wad::{directory, entry, find_map, is_map_name, is_name, lump, Directory, Search};
 
 /// The sidedef number that means none.
 pub const NO_SIDEDEF: u16 = 65_535;

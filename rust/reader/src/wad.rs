@@ -17,6 +17,15 @@ pub struct Directory {
     pub start: usize,
 }
 
+/// What the search for a map's marker answers.
+#[derive(Clone, Copy, Debug, PartialEq, Eq)]
+pub struct Search {
+    /// The marker's entry number, or the refusal.
+    pub marker: Result<usize, Refusal>,
+    /// How many names were compared with the asked one; 0 where the search did not begin.
+    pub compared: usize,
+}
+
 /// One entry of 16 bytes, with its numbers as they stand.
 #[derive(Clone, Copy)]
 pub(crate) struct Entry<'a> {
@@ -84,20 +93,38 @@ pub fn lump(wad: &[u8], number: usize) -> &[u8] {
 }
 
 /// The number of the last entry with the map name `name`: refusals 1 to 6, 10, 11.
-pub fn find_map(wad: &[u8], name: &[u8]) -> Result<usize, Refusal> {
-    find_marker(wad, name).map(|(_, marker)| marker)
+pub fn find_map(wad: &[u8], name: &[u8]) -> Search {
+    match searched(wad, name) {
+        Ok(directory) => search(wad, directory, name),
+        Err(refusal) => Search { marker: Err(refusal), compared: 0 },
+    }
 }
 
 /// As [`find_map`], with the directory that was judged on the way.
 pub(crate) fn find_marker(wad: &[u8], name: &[u8]) -> Result<(Directory, usize), Refusal> {
+    let directory = searched(wad, name)?;
+    let marker = search(wad, directory, name).marker?;
+    Ok((directory, marker))
+}
+
+/// The directory in which a map's name is to be searched: refusals 1 to 6, 10.
+fn searched(wad: &[u8], name: &[u8]) -> Result<Directory, Refusal> {
     let directory = directory(wad)?;
-    if !is_map_name(name) {
-        return Err(Refusal::plain(10));
+    if is_map_name(name) {
+        Ok(directory)
+    } else {
+        Err(Refusal::plain(10))
     }
-    match entries(wad, directory).rposition(|entry| entry.name == name) {
-        Some(marker) => Ok((directory, marker)),
-        None => Err(Refusal::plain(11)),
-    }
+}
+
+/// Compares the names of all entries with `name`, from the last one down, and stops at the first that is equal: refusal 11.
+fn search(wad: &[u8], directory: Directory, name: &[u8]) -> Search {
+    let mut compared = 0;
+    let found = entries(wad, directory).rposition(|entry| {
+        compared += 1;
+        entry.name == name
+    });
+    Search { marker: found.ok_or(Refusal::plain(11)), compared }
 }
 
 /// The entries of a directory whose header is good, in turn.

@@ -1,4 +1,4 @@
-//! The examples (a) to (l) of paper 01, as W-202 has them, that request's own, and the sides of W-214.
+//! The examples (a) to (l) of paper 01, as W-202 has them, that request's own, the sides of W-214 and the search of W-203.
 
 use reader::*;
 
@@ -189,6 +189,32 @@ fn doublings_are_shared() {
 fn unreached_nodes_may_share() {
     let nodes = [node(0x8000, 0x8000), node(0, 0), node(0x8000, 0x8001)].concat();
     assert_eq!(judge_nodes(&nodes), accepted(1));
+}
+
+/// A file whose directory has these names and nothing else.
+fn named(names: &[&[u8; 8]]) -> Vec<u8> {
+    let directory: Vec<u8> = names.iter().flat_map(|name| [&[0; 8][..], &name[..]].concat()).collect();
+    [&b"PWAD"[..], &(names.len() as u32).to_le_bytes(), &12u32.to_le_bytes(), &directory].concat()
+}
+
+#[test]
+fn w_203_the_search_stops_at_the_last_of_the_name() {
+    let other = b"DEMO1\0\0\0";
+    let search = |names: &[&[u8; 8]]| find_map(&named(names), NAME);
+    let found = |marker, compared| Search { marker: Ok(marker), compared };
+    assert_eq!(search(&[NAME, other, other]), found(0, 3));
+    assert_eq!(search(&[NAME, NAME, other]), found(1, 2));
+    assert_eq!(search(&[other, other, NAME]), found(2, 1));
+    let none = |compared| Search { marker: Err(Refusal::plain(11)), compared };
+    assert_eq!([search(&[other, other, other]), search(&[])], [none(3), none(0)]);
+}
+
+#[test]
+fn w_203_nothing_is_compared_before_the_search() {
+    let refused = |number, record| Search { marker: Err(Refusal::new(number, 0, record)), compared: 0 };
+    assert_eq!(find_map(&named(&[NAME]), b"MAP00\0\0\0"), refused(10, 0));
+    assert_eq!(find_map(&named(&[NAME, b"demo1\0\0\0", NAME]), NAME), refused(6, 1));
+    assert_eq!(find_map(&[], NAME), refused(1, 0));
 }
 
 #[test]
