@@ -1,7 +1,7 @@
 //! What a case is: the bytes, the question asked of them, and what is known of the answer.
 
 use crate::{Kind, Record};
-use reader::{Accepted, Found, Refusal};
+use reader::{Accepted, Found, Refusal, Search};
 
 /// One input with one question.
 #[derive(Clone, Debug)]
@@ -85,6 +85,8 @@ pub enum Expected {
     Map(Accepted),
     /// A descent that ends so.
     Found(Found),
+    /// A search that ends so, found or not.
+    Search(Search),
 }
 
 impl Case {

@@ -8,8 +8,8 @@
 //! - [`limits`] lists both sides of every limit, each case built when asked for;
 //! - [`MapSpec`], [`Plan`], [`BlockmapSpec`] and [`PictureSpec`] build inputs by hand;
 //! - [`ordinary_map`], [`largest_map`], [`directory_of`], [`chain`], [`balanced`], [`doublings`],
-//!   [`shared_subsector`], [`hostile_blockmap`], [`hostile_picture`], [`picture`],
-//!   [`halving_nodes`] and [`mixed_nodes`] are the inputs of a benchmark;
+//!   [`shared_subsector`], [`search_to_the_first`], [`search_in_vain`], [`hostile_blockmap`],
+//!   [`hostile_picture`], [`picture`], [`halving_nodes`] and [`mixed_nodes`] are the inputs of a benchmark;
 //! - [`shrink`] makes a failing case smaller.
 //!
 //! ```
@@ -50,6 +50,7 @@ mod record_case;
 mod rng;
 mod rooms;
 mod sample;
+mod search;
 mod shrink;
 mod valid;
 
@@ -75,5 +76,6 @@ pub use record_case::record_case;
 pub use rng::Rng;
 pub use rooms::rooms;
 pub use sample::{samples, Sample};
+pub use search::{named_entries, search_case, search_in_vain, search_to_the_first};
 pub use shrink::shrink;
 pub use valid::{any_plan, map_case, sound_plan, valid_case, verdict};

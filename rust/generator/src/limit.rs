@@ -4,9 +4,10 @@ use crate::limit_graph::graph_limits;
 use crate::limit_lump::lump_limits;
 use crate::limit_map::map_limits;
 use crate::limit_run::run_limits;
+use crate::search::search_limits;
 use crate::{directory_of, map_case, Case, Expected, Plan, Question, MOST_BYTES};
 use crate::{Content, EntryPlan, MapSpec, Rng, Sizes, MAP_NAME};
-use reader::{Accepted, Refusal};
+use reader::{Accepted, Refusal, Search};
 
 /// A case that is built when asked for, since some have 16 MiB.
 pub type Build = Box<dyn Fn() -> Case>;
@@ -17,6 +18,7 @@ pub fn limits() -> Vec<Build> {
     all.extend(header_limits());
     all.extend(entry_limits());
     all.extend(name_limits());
+    all.extend(search_limits());
     all.extend(run_limits());
     all.extend(map_limits());
     all.extend(graph_limits());
@@ -181,5 +183,7 @@ fn map_name_case(name: [u8; 8]) -> Case {
     let good = episodes.chain(levels).any(|good| good.as_bytes() == name);
     let question = Question::FindMap { name: name.to_vec() };
     let wad = two_entries(12, 1, *b"B\0\0\0\0\0\0\0");
-    Case::new("map name", wad, question, plainly(if good { 11 } else { 10 }))
+    let (number, compared) = if good { (11, 2) } else { (10, 0) };
+    let marker = Err(Refusal::plain(number));
+    Case::new("map name", wad, question, Expected::Search(Search { marker, compared }))
 }

@@ -1,7 +1,7 @@
 //! Single damages and pairs of damages, with the refusal that 01's order gives.
 
 use crate::{damages, map_case, sound_plan, Case, Damage, Expected, Plan, Question, Rng};
-use reader::Refusal;
+use reader::{Refusal, Search};
 
 /// Where a refusal stands in 01's order: what comes first compares less.
 pub fn order_of(refusal: &Refusal) -> (u32, usize, u32) {
@@ -68,36 +68,49 @@ pub fn directory_case(rng: &mut Rng) -> Case {
     let chosen: Vec<Damage> = (0..rng.below(3)).map(|_| rng.pick(&early)).collect();
     let refusal = (!chosen.is_empty()).then(|| apply(&mut plan, &chosen, rng));
     let (question, own) = directory_question(&plan, rng);
-    let expected = refusal.or(own).map_or(Expected::Accepted, Expected::Refused);
+    let expected = match (refusal, &question) {
+        (None, _) => own,
+        (Some(refusal), Question::FindMap { .. }) => unsearched(refusal),
+        (Some(refusal), _) => Expected::Refused(refusal),
+    };
     Case::new("directory", plan.wad(), question, expected)
 }
 
-/// A question, and the refusal due in a good directory.
-fn directory_question(plan: &Plan, rng: &mut Rng) -> (Question, Option<Refusal>) {
+/// A search that is refused before it begins.
+fn unsearched(refusal: Refusal) -> Expected {
+    Expected::Search(Search { marker: Err(refusal), compared: 0 })
+}
+
+/// A question, and what is due in a good directory.
+fn directory_question(plan: &Plan, rng: &mut Rng) -> (Question, Expected) {
     let count = plan.entries.len();
     match rng.below(5) {
-        0 => (Question::Directory, None),
+        0 => (Question::Directory, Expected::Accepted),
         1 | 2 => {
             let any = rng.below(count);
             let number = rng.pick(&[0, any, count - 1, plan.marker + 2]);
-            (Question::Entry { number }, None)
+            (Question::Entry { number }, Expected::Accepted)
         }
         3 => {
             let number = rng.pick(&[count, count + 1, usize::MAX, 1 << 31, 1 << 32]);
-            (Question::Entry { number }, Some(Refusal::plain(7)))
+            (Question::Entry { number }, Expected::Refused(Refusal::plain(7)))
         }
         _ => find_question(plan, rng),
     }
 }
 
-fn find_question(plan: &Plan, rng: &mut Rng) -> (Question, Option<Refusal>) {
-    let bad = crate::damage::BAD_MAP_NAMES;
-    match rng.below(3) {
-        0 => (Question::FindMap { name: plan.name.clone() }, None),
-        1 => {
-            let name = bad[rng.below(bad.len())].to_vec();
-            (Question::FindMap { name }, Some(Refusal::plain(10)))
+fn find_question(plan: &Plan, rng: &mut Rng) -> (Question, Expected) {
+    let (bad, count) = (crate::damage::BAD_MAP_NAMES, plan.entries.len());
+    let (name, expected) = match rng.below(3) {
+        0 => {
+            let search = Search { marker: Ok(plan.marker), compared: count - plan.marker };
+            (plan.name.clone(), Expected::Search(search))
         }
-        _ => (Question::FindMap { name: b"MAP77\0\0\0".to_vec() }, Some(Refusal::plain(11))),
-    }
+        1 => (bad[rng.below(bad.len())].to_vec(), unsearched(Refusal::plain(10))),
+        _ => {
+            let search = Search { marker: Err(Refusal::plain(11)), compared: count };
+            (b"MAP77\0\0\0".to_vec(), Expected::Search(search))
+        }
+    };
+    (Question::FindMap { name }, expected)
 }

@@ -4,7 +4,7 @@ mod common;
 
 use common::check;
 use generator::*;
-use reader::{descend, directory, judge_map, judge_picture, Accepted, Found, Refusal};
+use reader::{descend, directory, find_map, judge_map, judge_picture, Accepted, Found, Refusal, Search};
 
 #[test]
 fn both_sides_of_every_limit() {
@@ -39,6 +39,15 @@ fn large_inputs_are_good() {
 fn shared_inputs_are_refused_for_that_alone() {
     for wad in [doublings(30), doublings(32_767), shared_subsector(30), shared_subsector(32_766)] {
         assert_eq!(verdict_on(&wad), Err(Refusal::new(32, 7, 0)));
+    }
+}
+
+#[test]
+fn searched_inputs_are_searched_to_their_end() {
+    for count in [1, 1_024, 4_096] {
+        let [first, none] = [search_to_the_first(count), search_in_vain(count)].map(|wad| find_map(&wad, &MAP_NAME));
+        assert_eq!(first, Search { marker: Ok(0), compared: count });
+        assert_eq!(none, Search { marker: Err(Refusal::plain(11)), compared: count });
     }
 }
 

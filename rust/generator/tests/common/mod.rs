@@ -9,6 +9,7 @@ enum Answer {
     Good,
     Map(Accepted),
     Found(Found),
+    Search(Search),
 }
 
 /// Checks one case; answers its refusal number, 0 for none.
@@ -20,9 +21,13 @@ pub fn check(case: &Case) -> u32 {
         Expected::Accepted => answer.is_ok(),
         Expected::Map(accepted) => answer == Ok(Answer::Map(accepted)),
         Expected::Found(found) => answer == Ok(Answer::Found(found)),
+        Expected::Search(search) => answer == Ok(Answer::Search(search)),
     };
     assert!(good, "{}: {:?}, not {:?}", case.label, answer, case.expected);
-    answer.err().map_or(0, |refusal| refusal.number)
+    match answer {
+        Err(refusal) | Ok(Answer::Search(Search { marker: Err(refusal), .. })) => refusal.number,
+        Ok(_) => 0,
+    }
 }
 
 fn ask(case: &Case) -> Result<Answer, Refusal> {
@@ -30,7 +35,7 @@ fn ask(case: &Case) -> Result<Answer, Refusal> {
     match &case.question {
         Question::Directory => directory(bytes).map(|_| Answer::Good),
         Question::Entry { number } => ask_entry(bytes, *number),
-        Question::FindMap { name } => find_map(bytes, name).map(|_| Answer::Good),
+        Question::FindMap { name } => Ok(Answer::Search(find_map(bytes, name))),
         Question::JudgeMap { name, words } => ask_map(bytes, name, words),
         Question::Descend { subsectors, x, y } => descend(bytes, *subsectors, *x, *y).map(Answer::Found),
         Question::JudgePicture => judge_picture(bytes).map(|_| Answer::Good),
@@ -56,7 +61,7 @@ fn ask_map(wad: &[u8], name: &[u8], lent: &[u16]) -> Result<Answer, Refusal> {
     let verdict = judge_map(wad, name, &mut words);
     let zeroed = match verdict {
         Ok(accepted) => 4 * lump(wad, accepted.marker + 7).len() / Node::SIZE,
-        Err(Refusal { number: 31 | 32, .. }) => 4 * lump(wad, find_map(wad, name)? + 7).len() / Node::SIZE,
+        Err(Refusal { number: 31 | 32, .. }) => 4 * lump(wad, find_map(wad, name).marker? + 7).len() / Node::SIZE,
         Err(_) => 0,
     };
     assert!(words[..zeroed].iter().all(|&word| word == 0));
