@@ -36,9 +36,10 @@ AT(entry_answer, status, 0);
 AT(entry_answer, offset, 24);
 AT(entry_answer, size, 32);
 
-SIZE(marker_answer, 32);
+SIZE(marker_answer, 40);
 AT(marker_answer, status, 0);
 AT(marker_answer, marker, 24);
+AT(marker_answer, compared, 32);
 
 SIZE(map_answer, 40);
 AT(map_answer, status, 0);
@@ -205,9 +206,14 @@ static void markers(void)
 {
     build_wad();
     meshpigeon_marker_answer m = meshpigeon_find_map(wad, wad_len, map_name, 8);
-    EXPECT(accepted(m.status) && m.marker == BEFORE);
+    EXPECT(accepted(m.status) && m.marker == BEFORE && m.compared == ENTRIES - BEFORE);
+    m = meshpigeon_find_map(wad, wad_len, (const uint8_t *)"MAP02\0\0", 8);
+    EXPECT(status_is(m.status, 11, 0, 0) && m.marker == 0 && m.compared == ENTRIES);
     m = meshpigeon_find_map(wad, wad_len, map_name, 5);
-    EXPECT(status_is(m.status, 10, 0, 0) && m.marker == 0);
+    EXPECT(status_is(m.status, 10, 0, 0) && m.marker == 0 && m.compared == 0);
+    wad[wad_start + 16 + 8] = 'p';
+    m = meshpigeon_find_map(wad, wad_len, map_name, 8);
+    EXPECT(status_is(m.status, 6, 0, 1) && m.marker == 0 && m.compared == 0);
 }
 
 /* ---- maps ---- */

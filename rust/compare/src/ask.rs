@@ -7,6 +7,8 @@ use generator::{Case, Kind, Question, Record};
 pub struct Outcome {
     /// The answer's numbers, or the refusal's number, place and record.
     pub numbers: Result<Vec<i64>, (u32, usize, usize)>,
+    /// How many names were compared, with a refusal too.
+    pub compared: usize,
     /// The bytes of the entry that was asked for.
     pub part: Vec<u8>,
     /// The work words afterwards.
@@ -19,7 +21,7 @@ pub struct Outcome {
 
 impl Outcome {
     fn new(numbers: Result<Vec<i64>, (u32, usize, usize)>) -> Self {
-        Self { numbers, part: Vec::new(), words: Vec::new(), first: Vec::new(), second: Vec::new() }
+        Self { numbers, compared: 0, part: Vec::new(), words: Vec::new(), first: Vec::new(), second: Vec::new() }
     }
 }
 
@@ -39,7 +41,12 @@ macro_rules! asker {
                     outcome.part = $part(bytes, *number);
                     outcome
                 }
-                Question::FindMap { name } => Outcome::new($side::find_map(bytes, name).map(|it| vec![it as i64]).map_err(refused)),
+                Question::FindMap { name } => {
+                    let search = $side::find_map(bytes, name);
+                    let mut outcome = Outcome::new(search.marker.map(|it| vec![it as i64]).map_err(refused));
+                    outcome.compared = search.compared;
+                    outcome
+                }
                 Question::JudgeMap { name, words } => {
                     let mut words = words.clone();
                     let judged = $side::$judge_map(bytes, name, &mut words);

@@ -30,6 +30,16 @@ pub struct Directory {
     pub start: usize,
 }
 
+/// What the search for a map's marker answers.
+#[derive(Clone, Copy, Debug, PartialEq, Eq)]
+pub struct Search {
+    /// The marker's entry number, or the refusal: 1 to 6, 10, 11.
+    pub marker: Result<usize, Refusal>,
+    /// How many names were compared: the count of entries less the marker's number, or with 11 the whole count. With any other
+    /// refusal nothing was compared, and it is 0.
+    pub compared: usize,
+}
+
 /// An accepted map.
 #[derive(Clone, Copy, Debug, PartialEq, Eq)]
 pub struct Accepted {
@@ -77,9 +87,22 @@ pub fn lump(wad: &[u8], number: usize) -> Result<&[u8], Refusal> {
     entry(wad, number).map(|(offset, size)| &wad[offset..offset + size])
 }
 
-/// The entry number of a map's marker, by its name zero-padded to eight bytes: 1 to 6, 10, 11.
-pub fn find_map(wad: &[u8], name: &[u8]) -> Result<usize, Refusal> {
-    raw::find_map(wad, name).map(|answer| answer.marker)
+/// The entry number of a map's marker, by its name zero-padded to eight bytes: 1 to 6, 10, 11. The search goes from the last entry
+/// down and stops at the first of the name.
+///
+/// ```
+/// # let entry = |name: &[u8; 8]| [&[0; 8][..], name].concat();
+/// let names = [b"DEMO1\0\0\0", b"MAP01\0\0\0", b"THINGS\0\0"];
+/// # let directory: Vec<u8> = names.into_iter().flat_map(entry).collect();
+/// # let wad = [&b"PWAD\x03\0\0\0\x0C\0\0\0"[..], &directory].concat();
+/// let search = meshpigeon::find_map(&wad, b"MAP01\0\0\0");
+/// assert_eq!((search.marker, search.compared), (Ok(1), 2));
+///
+/// let search = meshpigeon::find_map(&wad, b"MAP02\0\0\0");
+/// assert_eq!((search.marker.unwrap_err().number, search.compared), (11, 3));
+/// ```
+pub fn find_map(wad: &[u8], name: &[u8]) -> Search {
+    raw::find_map(wad, name)
 }
 
 /// Judges one map, with work words of its own.

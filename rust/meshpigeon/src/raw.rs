@@ -4,7 +4,7 @@
 mod layout;
 
 use crate::record::{Linedef, Node, Sector, Seg, Sidedef, Subsector, Thing, Vertex};
-use crate::{Picture, Refusal};
+use crate::{Picture, Refusal, Search};
 
 /// What every answer begins with; number 0 is accepted.
 #[repr(C)]
@@ -48,8 +48,8 @@ answers! {
     DirectoryAnswer { count: usize, start: usize }
     /// Where an entry's part of the file lies.
     EntryAnswer { offset: usize, size: usize }
-    /// A map's marker.
-    MarkerAnswer { marker: usize }
+    /// A map's marker, and how many names were compared.
+    MarkerAnswer { marker: usize, compared: usize }
     /// An accepted map.
     MapAnswer { depth: usize, marker: usize }
     /// Where a descent ends.
@@ -93,8 +93,11 @@ pub(crate) fn entry(wad: &[u8], number: usize) -> Result<EntryAnswer, Refusal> {
     unsafe { meshpigeon_entry(wad.as_ptr(), wad.len(), number) }.checked()
 }
 
-pub(crate) fn find_map(wad: &[u8], name: &[u8]) -> Result<MarkerAnswer, Refusal> {
-    unsafe { meshpigeon_find_map(wad.as_ptr(), wad.len(), name.as_ptr(), name.len()) }.checked()
+/// The one answer that a refusal does not clear: `compared` stays.
+pub(crate) fn find_map(wad: &[u8], name: &[u8]) -> Search {
+    let answer = unsafe { meshpigeon_find_map(wad.as_ptr(), wad.len(), name.as_ptr(), name.len()) };
+    let compared = answer.compared;
+    Search { marker: answer.checked().map(|answer| answer.marker), compared }
 }
 
 pub(crate) fn judge_map(wad: &[u8], name: &[u8], words: &mut [u16]) -> Result<MapAnswer, Refusal> {

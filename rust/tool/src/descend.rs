@@ -36,7 +36,7 @@ fn find(wad: &Wad, map: &[u8], (x, y): (i16, i16)) -> Result<Found, Refusal> {
         Err(refusal) if refusal.number < LUMPS_ARE_THERE => return Err(refusal),
         _ => {}
     }
-    let marker = meshpigeon::find_map(wad.bytes(), map)?;
+    let marker = meshpigeon::find_map(wad.bytes(), map).marker?;
     let subsectors = wad.lump(marker + Subsector::PLACE).len() / Subsector::SIZE;
     meshpigeon::descend(wad.lump(marker + Node::PLACE), subsectors, x, y)
 }

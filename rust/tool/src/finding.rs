@@ -52,7 +52,7 @@ impl Finding {
         if !(20..=22).contains(&refusal.number) {
             return None;
         }
-        let marker = meshpigeon::find_map(wad.bytes(), map).ok()?;
+        let marker = meshpigeon::find_map(wad.bytes(), map).marker.ok()?;
         let size = |place| wad.lump(marker + place).len();
         match (refusal.number, refusal.place) {
             (20, place) => Some(Self::Size(size(place))),

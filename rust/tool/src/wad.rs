@@ -95,5 +95,5 @@ impl Wad {
 /// Whether a map can have this name. The library says so: asked of a file without entries, it refuses a map's name with 11 (no
 /// such entry) and any other with 10.
 fn is_map(name: &[u8]) -> bool {
-    meshpigeon::find_map(EMPTY, name).is_err_and(|refusal| refusal.number == 11)
+    meshpigeon::find_map(EMPTY, name).marker.is_err_and(|refusal| refusal.number == 11)
 }

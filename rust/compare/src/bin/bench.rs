@@ -57,6 +57,15 @@ fn reader_directory(wad: &[u8]) -> usize {
     reader::directory(wad).expect("a good directory").count
 }
 
+/// How many names a search compared.
+fn library_search(wad: &[u8]) -> usize {
+    meshpigeon::find_map(wad, &given::MAP_NAME).compared
+}
+
+fn reader_search(wad: &[u8]) -> usize {
+    reader::find_map(wad, &given::MAP_NAME).compared
+}
+
 fn library_picture(lump: &[u8]) -> usize {
     let (mut colour, mut cover) = (vec![0; 64_000], vec![0; 64_000]);
     meshpigeon::paint_picture(lump, &mut colour, &mut cover).expect("a good picture").width
@@ -89,6 +98,18 @@ fn inputs() -> Vec<Input> {
             sized: |n| given::directory_of(1_024 * n),
             library: library_directory,
             reader: reader_directory,
+        },
+        Input {
+            name: "search to the first of 4,096 entries",
+            sized: |n| given::search_to_the_first(1_024 * n),
+            library: library_search,
+            reader: reader_search,
+        },
+        Input {
+            name: "search of 4,096 entries in vain (11)",
+            sized: |n| given::search_in_vain(1_024 * n),
+            library: library_search,
+            reader: reader_search,
         },
         Input {
             name: "chain of 32,766 nodes",

@@ -22,7 +22,7 @@ layout! {
     Status 24 { number 0, place 8, record 16 }
     DirectoryAnswer 40 { status 0, count 24, start 32 }
     EntryAnswer 40 { status 0, offset 24, size 32 }
-    MarkerAnswer 32 { status 0, marker 24 }
+    MarkerAnswer 40 { status 0, marker 24, compared 32 }
     MapAnswer 40 { status 0, depth 24, marker 32 }
     DescentAnswer 40 { status 0, subsector 24, count 32 }
     Picture 24 { width 0, height 8, left 16, top 18 }
