@@ -1,52 +1,80 @@
--- Names of eight bytes (01, "File and directory", "One map"; document 004, "Directory"). Which names are good, and which are
--- the same, is said here alone. Assumes nothing.
-use Prim.Native.Nat.{ℕ, zero, suc, _+_}
-use mathlib.Core.Bool.{Bool, true, not, _&&_, _||_}
-use mathlib.Core.List.{List}
+-- Names of eight bytes (01, "File and directory", "One map", and W-204; document 004, "Directory"). Which names are good, and
+-- which are the same, is said here alone. Assumes nothing.
+use Prim.Native.Nat.{ℕ}
+use mathlib.Core.Bool.{Bool, true, false, not, _&&_, _||_, cond}
+use mathlib.Core.List.{List, [], _∷_}
 use lib.Dec.{leb, eqb}
-use lib.ListN.{length, getD}
+use lib.ListN.{length}
 
--- the test holds of 0 to `n - 1`
-abbrev pub allBelow : ℕ → (ℕ → Bool) → Bool
-allBelow zero ok = true
-allBelow (suc n) ok = allBelow n ok && ok n
+-- a name is what precedes the first zero of its bytes
+abbrev pub nameOf : List ℕ → List ℕ
+nameOf [] = []
+nameOf (c ∷ cs) = cond (eqb c 0) [] (c ∷ nameOf cs)
 
 -- `c` is a byte from `least` to `most`
 abbrev pub within : ℕ → ℕ → ℕ → Bool
-within c least most = leb least c && leb c most
+within least most c = leb least c && leb c most
 
 -- A-Z, 0-9, `[`, `\`, `]`, `-`, `_`
 abbrev pub characterOk : ℕ → Bool
-characterOk c = within c 65 90 || within c 48 57 || within c 91 93 || eqb c 45 || eqb c 95
+characterOk c = within 65 90 c || within 48 57 c || within 91 93 c || eqb c 45 || eqb c 95
 
--- `c` may follow `before`: a zero may follow anything, a character only a character
-abbrev pub followsOk : ℕ → ℕ → Bool
-followsOk before c = eqb c 0 || (characterOk c && not (eqb before 0))
+-- there are no characters
+abbrev pub isEmpty : List ℕ → Bool
+isEmpty [] = true
+isEmpty (c ∷ cs) = false
 
--- one to eight characters, then zeros only
+-- all characters are good ones
+abbrev pub charactersOk : List ℕ → Bool
+charactersOk [] = true
+charactersOk (c ∷ cs) = characterOk c && charactersOk cs
+
+-- a good name has one character or more, all of them good
 abbrev pub nameOk : List ℕ → Bool
-nameOk name = characterOk (getD name 0 0) && allBelow 7 (λ i. followsOk (getD name i 0) (getD name (i + 1) 0))
+nameOk bytes = not (isEmpty (nameOf bytes)) && charactersOk (nameOf bytes)
 
--- two names of eight bytes are the same
+-- two rows of characters are the same
+abbrev pub sameCharacters : List ℕ → List ℕ → Bool
+sameCharacters [] [] = true
+sameCharacters [] (d ∷ ds) = false
+sameCharacters (c ∷ cs) [] = false
+sameCharacters (c ∷ cs) (d ∷ ds) = eqb c d && sameCharacters cs ds
+
+-- two names are the same
 abbrev pub sameName : List ℕ → List ℕ → Bool
-sameName a b = allBelow 8 (λ i. eqb (getD a i 0) (getD b i 0))
+sameName bytes bytes′ = sameCharacters (nameOf bytes) (nameOf bytes′)
 
--- the bytes from `at` to 7 are zero
-abbrev pub zerosFrom : ℕ → List ℕ → Bool
-zerosFrom at name = allBelow 8 (λ i. not (leb at i) || eqb (getD name i 0) 0)
+-- as many characters as tests, each passing its own
+abbrev pub fits : List (ℕ → Bool) → List ℕ → Bool
+fits [] [] = true
+fits [] (c ∷ cs) = false
+fits (ok ∷ oks) [] = false
+fits (ok ∷ oks) (c ∷ cs) = ok c && fits oks cs
+
+-- the digits 1-9, and with the 0
+abbrev pub digit : ℕ → Bool
+digit = within 49 57
+
+abbrev pub digitOrZero : ℕ → Bool
+digitOrZero = within 48 57
+
+-- one character alone
+abbrev pub is : ℕ → ℕ → Bool
+is character c = eqb c character
 
 -- `E`, 1-9, `M`, 1-9
 abbrev pub episodeName : List ℕ → Bool
-episodeName name =
-    eqb (getD name 0 0) 69 && within (getD name 1 0) 49 57 && eqb (getD name 2 0) 77 && within (getD name 3 0) 49 57
-    && zerosFrom 4 name
+episodeName = fits (is 69 ∷ digit ∷ is 77 ∷ digit ∷ [])
 
--- `MAP` and 01 to 99
-abbrev pub numberedName : List ℕ → Bool
-numberedName name =
-    eqb (getD name 0 0) 77 && eqb (getD name 1 0) 65 && eqb (getD name 2 0) 80 && within (getD name 3 0) 48 57
-    && within (getD name 4 0) 48 57 && not (eqb (getD name 3 0) 48 && eqb (getD name 4 0) 48) && zerosFrom 5 name
+-- `MAP` and 01 to 09
+abbrev pub lowName : List ℕ → Bool
+lowName = fits (is 77 ∷ is 65 ∷ is 80 ∷ is 48 ∷ digit ∷ [])
 
--- an asked name is a map's: eight bytes of one of the two forms, zero padded
+-- `MAP` and 10 to 99
+abbrev pub highName : List ℕ → Bool
+highName = fits (is 77 ∷ is 65 ∷ is 80 ∷ digit ∷ digitOrZero ∷ [])
+
+-- an asked name is a map's: eight bytes, with a name of one of these forms
 abbrev pub mapNameOk : List ℕ → Bool
-mapNameOk name = eqb (length name) 8 && (episodeName name || numberedName name)
+mapNameOk bytes =
+    eqb (length bytes) 8 && (episodeName (nameOf bytes) || lowName (nameOf bytes) || highName (nameOf bytes))

@@ -1,86 +1,102 @@
-// Names of eight bytes: which are good, which are the same, and which are a map's. specs/ has the definitions.
+// Names of eight bytes: which are good, which are the same, and which are a map's. What follows a name's first zero is not
+// looked at.
 ghost use mathlib.Core.Path.{_≡_};
 ghost use lib.ListN.{length};
-ghost use Rattle.name.specs.Names.{within, characterOk, followsOk, nameOk, sameName, zerosFrom, episodeName, numberedName, mapNameOk};
+ghost use Rattle.name.specs.Names.{nameOf, within, characterOk, nameOk, sameName, episodeName, lowName, highName, mapNameOk};
 
-fn within(c: u8, least: u8, most: u8) -> bool
-    ensures { λ r. ⌜ r ≡ within c least most ⌝ }
-{
-    (least <= c) & (c <= most)
-}
+// The characters of a name from 45 to 95, a bit for each.
+const CHARACTERS: u64 = 1688849859223545;
 
 fn character_ok(c: u8) -> bool
     ensures { λ r. ⌜ r ≡ characterOk c ⌝ }
 {
-    within(c, 65, 90) | within(c, 48, 57) | within(c, 91, 93) | (c == 45) | (c == 95)
+    if c < 45 {
+        return false;
+    }
+    if 95 < c {
+        return false;
+    }
+    (CHARACTERS >> ((c - 45) as u64)) % 2 == 1
 }
 
-fn follows_ok(before: u8, c: u8) -> bool
-    ensures { λ r. ⌜ r ≡ followsOk before c ⌝ }
-{
-    (c == 0) | (character_ok(c) & !(before == 0))
-}
-
-// One to eight characters, then zeros only.
+// One character or more before the zero, all of them good. A zero is no character, so that each byte is tested once.
 pub fn name_ok(name: &[u8]) -> bool
     requires { ⌜ length (now name) ≡ 8 ⌝ }
     ensures { λ r. ⌜ r ≡ nameOk (now (name .entry)) ⌝ }
 {
-    character_ok(name[0])
-        & (follows_ok(name[0], name[1])
-            & follows_ok(name[1], name[2])
-            & follows_ok(name[2], name[3])
-            & follows_ok(name[3], name[4])
-            & follows_ok(name[4], name[5])
-            & follows_ok(name[5], name[6])
-            & follows_ok(name[6], name[7]))
+    for i in 0..8 {
+        if !character_ok(name[i]) {
+            return (0 < i) & (name[i] == 0);
+        }
+    }
+    true
 }
 
+// The same up to a zero that both have, or in all eight bytes.
 pub fn same_name(a: &[u8], b: &[u8]) -> bool
     requires { ⌜ (length (now a) ≡ 8) × (length (now b) ≡ 8) ⌝ }
     ensures { λ r. ⌜ r ≡ sameName (now (a .entry)) (now (b .entry)) ⌝ }
 {
-    (a[0] == b[0])
-        & (a[1] == b[1])
-        & (a[2] == b[2])
-        & (a[3] == b[3])
-        & (a[4] == b[4])
-        & (a[5] == b[5])
-        & (a[6] == b[6])
-        & (a[7] == b[7])
+    for i in 0..8 {
+        if a[i] != b[i] {
+            return false;
+        }
+        if a[i] == 0 {
+            return true;
+        }
+    }
+    true
+}
+
+fn within(least: u8, most: u8, c: u8) -> bool
+    ensures { λ r. ⌜ r ≡ within least most c ⌝ }
+{
+    (least <= c) & (c <= most)
 }
 
 // E, 1-9, M, 1-9
 fn episode_name(name: &[u8]) -> bool
     requires { ⌜ length (now name) ≡ 8 ⌝ }
-    ensures { λ r. ⌜ r ≡ episodeName (now (name .entry)) ⌝ }
+    ensures { λ r. ⌜ r ≡ episodeName (nameOf (now (name .entry))) ⌝ }
 {
     (name[0] == 69)
-        & within(name[1], 49, 57)
+        & within(49, 57, name[1])
         & (name[2] == 77)
-        & within(name[3], 49, 57)
-        & ((name[4] == 0) & (name[5] == 0) & (name[6] == 0) & (name[7] == 0))
+        & within(49, 57, name[3])
+        & (name[4] == 0)
 }
 
-// MAP and 01 to 99
-fn numbered_name(name: &[u8]) -> bool
+// MAP and 01 to 09
+fn low_name(name: &[u8]) -> bool
     requires { ⌜ length (now name) ≡ 8 ⌝ }
-    ensures { λ r. ⌜ r ≡ numberedName (now (name .entry)) ⌝ }
+    ensures { λ r. ⌜ r ≡ lowName (nameOf (now (name .entry))) ⌝ }
 {
     (name[0] == 77)
         & (name[1] == 65)
         & (name[2] == 80)
-        & within(name[3], 48, 57)
-        & within(name[4], 48, 57)
-        & !((name[3] == 48) & (name[4] == 48))
-        & ((name[5] == 0) & (name[6] == 0) & (name[7] == 0))
+        & (name[3] == 48)
+        & within(49, 57, name[4])
+        & (name[5] == 0)
+}
+
+// MAP and 10 to 99
+fn high_name(name: &[u8]) -> bool
+    requires { ⌜ length (now name) ≡ 8 ⌝ }
+    ensures { λ r. ⌜ r ≡ highName (nameOf (now (name .entry))) ⌝ }
+{
+    (name[0] == 77)
+        & (name[1] == 65)
+        & (name[2] == 80)
+        & within(49, 57, name[3])
+        & within(48, 57, name[4])
+        & (name[5] == 0)
 }
 
 pub fn map_name_ok(name: &[u8]) -> bool
     ensures { λ r. ⌜ r ≡ mapNameOk (now (name .entry)) ⌝ }
 {
     if name.len() == 8 {
-        return episode_name(name) | numbered_name(name);
+        return episode_name(name) | low_name(name) | high_name(name);
     }
     false
 }

@@ -21,7 +21,7 @@ use Rattle.wad.specs.declared.lumps.Entry.the-variants.{At, Refused as N
 use Rattle.wad.specs.declared.map.Marker.{Marker}
 use Rattle.wad.specs.declared.map.Marker.the-variants.{Entry as Marked, Refused as NoMarker}
 use Rattle.wad.specs.declared.map.MarkerSearch.{MarkerSearch}
-use Rattle.name.specs.Names.{mapNameOk, episodeName, numberedName}
+use Rattle.name.specs.Names.{nameOf, episodeName, lowName, highName, mapNameOk}
 use Rattle.wad.specs.Header.{headOf, entryCount, fileHeaderCheck}
 use Rattle.wad.specs.Entries.{directoryOf, offsetAt, sizeAt, insideOk, entryCheck, fileCheck}
 use Rattle.wad.specs.Lump.{entrySize, entryOffset, placed, entryAnswer, partOf, HandedWhole}
@@ -81,7 +81,9 @@ search-marker wad name =
 
 -- a map's name has eight bytes
 pub mapNameOk-length : (name : List ℕ) → mapNameOk name ≡ true → length name ≡ 8
-mapNameOk-length name e = eqb-true (length name) 8 (both (eqb (length name) 8) (episodeName name || numberedName name) e .0)
+mapNameOk-length name e =
+    let forms = episodeName (nameOf name) || lowName (nameOf name) || highName (nameOf name) in
+    eqb-true (length name) 8 (both (eqb (length name) 8) forms e .0)
 
 -- ---- an entry that is not refused
 

@@ -27,10 +27,12 @@ fn inside_ok(len: usize, dir: &[u8], i: usize) -> bool
     ensures { λ r. ⌜ r ≡ insideOk len (offsetAt (now (dir .entry)) i) (sizeAt (now (dir .entry)) i) ⌝ }
 {
     let at = 16 * i;
-    endian::between_at(dir, at + 4, 0, 0)
-        | (endian::between_at(dir, at + 4, 1, len)
-            & endian::between_at(dir, at, 12, len)
-            & (endian::natural_at(dir, at) + endian::natural_at(dir, at + 4) <= len))
+    if endian::between_at(dir, at + 4, 0, 0) {
+        return true;
+    }
+    endian::between_at(dir, at + 4, 1, len)
+        & endian::between_at(dir, at, 12, len)
+        & (endian::natural_at(dir, at) + endian::natural_at(dir, at + 4) <= len)
 }
 
 fn judge_entry(len: usize, dir: &[u8], i: usize) -> Check

@@ -5,11 +5,14 @@ use Rattle.name.proofs.map_name_ok.Statement.{statement}
 use Rattle.name.proofs.map_name_ok.Tie as tie
 
 returns : tie.Need-returns
-returns c = simp (eq-eqb _ _ (c .before .before .if1 .taken), c .before .episode-name .ensures, c .numbered-name .ensures)
+returns c =
+    rw (c .high-name .ensures, c .before .low-name .ensures, c .before .before .episode-name .ensures)
+    (simp (eq-eqb _ _ (c .before .before .before .if1 .taken)))
 
 returns-2 : tie.Need-returns-2
 returns-2 c = simp (ne-eqb _ _ (c .if1 .left))
 
 pub map-name-ok-spec : {M : Type 1} → statement M
 map-name-ok-spec =
-    tie.close (tie.spec (λ c κs. search needs) (λ c κs. search needs) returns returns-2)
+    tie.close
+    (tie.spec (λ c κs. search needs) (λ c κs. search needs) (λ c κs. search needs) returns returns-2)
