@@ -32,7 +32,7 @@ pub use map::{judge_map, reject_size, Accepted};
 pub use picture::{judge_picture, paint_picture, Picture};
 pub use record::{Linedef, Node, Sector, Seg, Sidedef, Subsector, Thing, Vertex};
 pub use refusal::Refusal;
-pub use wad::{directory, entry, find_map, is_map_name, is_name, lump, Directory, Search};
+pub use wad::{directory, entry, find_map, is_map_name, is_name, lump, name_of, Directory, Search};
 
 /// The sidedef number that means none.
 pub const NO_SIDEDEF: u16 = 65_535;

@@ -14,30 +14,30 @@ pub struct Accepted {
 
 /// A row of the table of map lumps.
 struct Row {
-    name: &'static [u8; 8],
+    name: &'static [u8],
     /// Bytes of a record, with the least and the largest count; `None` for REJECT and BLOCKMAP.
     records: Option<(usize, usize, usize)>,
 }
 
-const fn row(name: &'static [u8; 8], size: usize, least: usize, most: usize) -> Row {
+const fn row(name: &'static [u8], size: usize, least: usize, most: usize) -> Row {
     Row { name, records: Some((size, least, most)) }
 }
 
 /// Places 1 to 10.
 const TABLE: [Row; 10] = [
-    row(b"THINGS\0\0", 10, 0, 65_535),
+    row(b"THINGS", 10, 0, 65_535),
     row(b"LINEDEFS", 14, 1, 65_535),
     row(b"SIDEDEFS", 30, 1, 65_535),
     row(b"VERTEXES", 4, 1, 65_535),
-    row(b"SEGS\0\0\0\0", 12, 1, 65_535),
+    row(b"SEGS", 12, 1, 65_535),
     row(b"SSECTORS", 4, 1, 32_767),
-    row(b"NODES\0\0\0", 28, 0, 32_767),
-    row(b"SECTORS\0", 26, 1, 65_535),
-    Row { name: b"REJECT\0\0", records: None },
+    row(b"NODES", 28, 0, 32_767),
+    row(b"SECTORS", 26, 1, 65_535),
+    Row { name: b"REJECT", records: None },
     Row { name: b"BLOCKMAP", records: None },
 ];
 
-const HEXEN: &[u8; 8] = b"BEHAVIOR";
+const HEXEN: &[u8] = b"BEHAVIOR";
 
 /// The ten lumps of a map, in place order.
 pub(crate) struct Lumps<'a> {

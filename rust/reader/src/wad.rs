@@ -26,7 +26,7 @@ pub struct Search {
     pub compared: usize,
 }
 
-/// One entry of 16 bytes, with its numbers as they stand.
+/// One entry of 16 bytes, with its numbers as they stand and its name cut at the first zero.
 #[derive(Clone, Copy)]
 pub(crate) struct Entry<'a> {
     pub(crate) offset: i64,
@@ -36,7 +36,7 @@ pub(crate) struct Entry<'a> {
 
 impl<'a> Entry<'a> {
     fn decode(bytes: &'a [u8]) -> Self {
-        Self { offset: i32_at(bytes, 0), size: i32_at(bytes, 4), name: &bytes[8..16] }
+        Self { offset: i32_at(bytes, 0), size: i32_at(bytes, 4), name: name_of(&bytes[8..16]) }
     }
 
     /// Whether the entry's part lies inside a file of `length` bytes. The offset of an empty
@@ -68,7 +68,7 @@ pub fn directory(wad: &[u8]) -> Result<Directory, Refusal> {
         if !entry.lies_inside(wad.len()) {
             return Err(Refusal::new(5, 0, index));
         }
-        if !is_name(entry.name) {
+        if !is_good(entry.name) {
             return Err(Refusal::new(6, 0, index));
         }
     }
@@ -119,6 +119,7 @@ fn searched(wad: &[u8], name: &[u8]) -> Result<Directory, Refusal> {
 
 /// Compares the names of all entries with `name`, from the last one down, and stops at the first that is equal: refusal 11.
 fn search(wad: &[u8], directory: Directory, name: &[u8]) -> Search {
+    let name = name_of(name);
     let mut compared = 0;
     let found = entries(wad, directory).rposition(|entry| {
         compared += 1;
@@ -151,25 +152,32 @@ fn header(wad: &[u8]) -> Result<Directory, Refusal> {
     Ok(Directory { count: count as usize, start: start as usize })
 }
 
-/// Whether eight bytes are an entry's name: one to eight allowed characters, then zeros only.
-pub fn is_name(name: &[u8]) -> bool {
-    let characters = name.iter().take_while(|&&byte| byte != 0).count();
-    name.len() == 8
-        && characters > 0
-        && name[..characters].iter().all(|&byte| is_name_character(byte))
-        && name[characters..].iter().all(|&byte| byte == 0)
+/// A name is what precedes its first zero; whatever stands behind that is rubbish.
+pub fn name_of(bytes: &[u8]) -> &[u8] {
+    let end = bytes.iter().position(|&byte| byte == 0).unwrap_or(bytes.len());
+    &bytes[..end]
+}
+
+/// Whether eight bytes hold an entry's name: one to eight allowed characters.
+pub fn is_name(bytes: &[u8]) -> bool {
+    bytes.len() == 8 && is_good(name_of(bytes))
+}
+
+fn is_good(name: &[u8]) -> bool {
+    !name.is_empty() && name.iter().all(|&byte| is_name_character(byte))
 }
 
 fn is_name_character(byte: u8) -> bool {
     matches!(byte, b'A'..=b'Z' | b'0'..=b'9' | b'[' | b']' | b'-' | b'_' | b'\\')
 }
 
-/// Whether `name` is a map's name, zero-padded to eight bytes.
-pub fn is_map_name(name: &[u8]) -> bool {
-    matches!(
-        name,
-        [b'E', b'1'..=b'9', b'M', b'1'..=b'9', 0, 0, 0, 0]
-            | [b'M', b'A', b'P', b'1'..=b'9', b'0'..=b'9', 0, 0, 0]
-            | [b'M', b'A', b'P', b'0', b'1'..=b'9', 0, 0, 0]
-    )
+/// Whether `bytes` are eight and hold a map's name.
+pub fn is_map_name(bytes: &[u8]) -> bool {
+    bytes.len() == 8
+        && matches!(
+            name_of(bytes),
+            [b'E', b'1'..=b'9', b'M', b'1'..=b'9']
+                | [b'M', b'A', b'P', b'1'..=b'9', b'0'..=b'9']
+                | [b'M', b'A', b'P', b'0', b'1'..=b'9']
+        )
 }
