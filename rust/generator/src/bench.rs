@@ -3,7 +3,7 @@
 
 use crate::blockmap::LIST_END;
 use crate::map::encode;
-use crate::{BlockmapSpec, MAP_NAME};
+use crate::{littered, named_entries, BlockmapSpec, MAP_NAME};
 use crate::{Content, EntryPlan, Layout, MapSpec, PictureSpec, Plan, Post, Rng, Shape, Sizes};
 use reader::{Node, SUBSECTOR_BIT};
 
@@ -95,6 +95,17 @@ pub fn directory_of(count: usize) -> Vec<u8> {
         plan.entries.push(EntryPlan::new(name, Content::Bytes(vec![index as u8; index % 3])));
     }
     plan.wad()
+}
+
+/// A file of `count` entries without a lump, each with a name of one character to seven, and rubbish behind its zero.
+pub fn littered_directory_of(count: usize) -> Vec<u8> {
+    let mut rng = Rng::new(7);
+    let mut name = |at: usize| {
+        let mut name = [0; 8];
+        name[..1 + at % 7].fill(b'A' + (at % 26) as u8);
+        littered(name, &mut rng)
+    };
+    named_entries(&(0..count).map(&mut name).collect::<Vec<_>>())
 }
 
 /// A file with a map whose nodes are a chain of `nodes`, up to 32,766: its depth is `nodes`.

@@ -4,6 +4,7 @@
 
 use crate::damage_graph::GRAPH_DAMAGES;
 use crate::damage_records::RECORD_DAMAGES;
+use crate::name::cut;
 use crate::{EntryPlan, MapSpec, Plan, Rng, LUMP_NAMES};
 use reader::Refusal;
 
@@ -60,7 +61,7 @@ const FILE_DAMAGES: &[Damage] = &[
     }),
     damage(11, "no such entry", |plan, _| {
         let name = plan.entries[plan.marker].name;
-        for entry in plan.entries.iter_mut().filter(|entry| entry.name == name) {
+        for entry in plan.entries.iter_mut().filter(|entry| cut(&entry.name) == cut(&name)) {
             entry.name = *b"MAP0\0\0\0\0";
         }
         Refusal::plain(11)
@@ -71,7 +72,7 @@ const FILE_DAMAGES: &[Damage] = &[
 pub(crate) const BAD_MAP_NAMES: &[&[u8]] = &[
     b"", b"E1M1", b"MAP01", b"MAP01\0\0", b"MAP01\0\0\0\0", b"E0M1\0\0\0\0", b"E1M0\0\0\0\0", b"E1M10\0\0\0", b"e1m1\0\0\0\0",
     b"E1N1\0\0\0\0", b"F1M1\0\0\0\0", b"MAP00\0\0\0", b"MAP1\0\0\0\0", b"MAP100\0\0", b"MAP0A\0\0\0", b"MAP:1\0\0\0",
-    b"MAP1:\0\0\0", b"MAP/1\0\0\0", b"MAP01\0\0A", b"E1M1\0\0\0\x01", b"THINGS\0\0",
+    b"MAP1:\0\0\0", b"MAP/1\0\0\0", b"MAP01A\0\0", b"MAP0\01\0\0", b"E1M\01\0\0\0", b"\0MAP01\0\0", &[0; 8], b"THINGS\0\0",
 ];
 
 const RUN_DAMAGES: &[Damage] = &[
@@ -158,8 +159,8 @@ fn entry_outside(plan: &mut Plan, number: usize, rng: &mut Rng) -> Refusal {
 
 fn bad_name(plan: &mut Plan, number: usize, rng: &mut Rng) -> Refusal {
     let bad: [&[u8; 8]; 10] = [
-        &[0; 8], b"\0THINGS\0", b"things\0\0", b"THINGS\0A", b"THINGS \0", b"A.LMP\0\0\0", b"ABCDEFG\x80", b"A^\0\0\0\0\0\0",
-        b"@\0\0\0\0\0\0\0", b"A\0\0\0\0\0\0\x01",
+        &[0; 8], b"\0THINGS\0", b"things\0\0", b"t\0HINGS\0", b"THINGS \0", b"A.LMP\0\0\0", b"ABCDEFG\x80", b"A^\0\0\0\0\0\0",
+        b"@\0\0\0\0\0\0\0", b"\0\0\0\0\0\0\0\x01",
     ];
     plan.entries[number].name = *rng.pick(&bad);
     Refusal::new(6, 0, number)

@@ -7,7 +7,7 @@
 //!   [`all_picture_damages`] does so for pictures;
 //! - [`limits`] lists both sides of every limit, each case built when asked for;
 //! - [`MapSpec`], [`Plan`], [`BlockmapSpec`] and [`PictureSpec`] build inputs by hand;
-//! - [`ordinary_map`], [`largest_map`], [`directory_of`], [`chain`], [`balanced`], [`doublings`],
+//! - [`ordinary_map`], [`largest_map`], [`directory_of`], [`littered_directory_of`], [`chain`], [`balanced`], [`doublings`],
 //!   [`shared_subsector`], [`search_to_the_first`], [`search_in_vain`], [`hostile_blockmap`],
 //!   [`hostile_picture`], [`picture`], [`halving_nodes`] and [`mixed_nodes`] are the inputs of a benchmark;
 //! - [`shrink`] makes a failing case smaller.
@@ -41,6 +41,7 @@ mod limit_lump;
 mod limit_map;
 mod limit_run;
 mod map;
+mod name;
 mod order;
 mod picture;
 mod picture_damage;
@@ -56,7 +57,8 @@ mod valid;
 
 pub use bench::{
     balanced, chain, directory_of, doublings, halving_nodes, hostile_blockmap, hostile_blockmap_of, hostile_picture,
-    hostile_picture_of, largest_map, largest_map_of, map_of, mixed_nodes, ordinary_map, picture, shared_subsector, MOST_BYTES,
+    hostile_picture_of, largest_map, largest_map_of, littered_directory_of, map_of, mixed_nodes, ordinary_map, picture,
+    shared_subsector, MOST_BYTES,
 };
 pub use blockmap::{BlockmapSpec, Layout};
 pub use case::{Case, Expected, Question};
@@ -67,6 +69,7 @@ pub use flip::{flipped_map_case, flipped_picture_case, random_file_case, random_
 pub use graph::{Shape, Truth};
 pub use limit::{limits, Build};
 pub use map::{MapSpec, Sizes};
+pub use name::littered;
 pub use order::{apply, damaged_case, directory_case, order_of, pair, pair_case, pair_count, single_case};
 pub use picture::{picture_case, PictureSpec, Post};
 pub use picture_damage::{all_picture_damages, damaged_picture_case, picture_damage_case, PictureDamage, PICTURE_DAMAGES};

@@ -1,13 +1,14 @@
-//! Both sides of every limit: the file, the directory, its entries and names.
+//! Both sides of every limit: the file, the directory and its entries.
 
 use crate::limit_graph::graph_limits;
 use crate::limit_lump::lump_limits;
 use crate::limit_map::map_limits;
 use crate::limit_run::run_limits;
+use crate::name::name_limits;
 use crate::search::search_limits;
 use crate::{directory_of, map_case, Case, Expected, Plan, Question, MOST_BYTES};
 use crate::{Content, EntryPlan, MapSpec, Rng, Sizes, MAP_NAME};
-use reader::{Accepted, Refusal, Search};
+use reader::{Accepted, Refusal};
 
 /// A case that is built when asked for, since some have 16 MiB.
 pub type Build = Box<dyn Fn() -> Case>;
@@ -143,47 +144,4 @@ fn entry_limits() -> Vec<Build> {
         }));
     }
     all
-}
-
-/// Every byte in several places of an entry's name and of an asked name.
-fn name_limits() -> Vec<Build> {
-    let mut all: Vec<Build> = Vec::new();
-    for byte in 0..=255 {
-        for (mut name, at) in [(*b"ABCDEFGH", 0), (*b"ABCDEFGH", 7), (*b"AB\0\0\0\0\0\0", 2)] {
-            name[at] = byte;
-            all.push(Box::new(move || name_case(name)));
-        }
-        for (mut name, at) in [(*b"AB\0\0\0\0\0\0", 3), ([0; 8], 0)] {
-            name[at] = byte;
-            all.push(Box::new(move || name_case(name)));
-        }
-        for at in 0..8 {
-            for mut name in [*b"E1M1\0\0\0\0", MAP_NAME] {
-                name[at] = byte;
-                all.push(Box::new(move || map_name_case(name)));
-            }
-        }
-    }
-    all
-}
-
-const NAME_CHARACTERS: &[u8] = b"ABCDEFGHIJKLMNOPQRSTUVWXYZ0123456789[]-_\\";
-
-fn name_case(name: [u8; 8]) -> Case {
-    let length = name.iter().rposition(|&byte| byte != 0).map_or(0, |last| last + 1);
-    let good = length > 0 && name[..length].iter().all(|byte| NAME_CHARACTERS.contains(byte));
-    let bad = Expected::Refused(Refusal::new(6, 0, 1));
-    let expected = if good { Expected::Accepted } else { bad };
-    directory_case("name", two_entries(12, 1, name), expected)
-}
-
-fn map_name_case(name: [u8; 8]) -> Case {
-    let episodes = (11..=99).filter(|n| n % 10 > 0).map(|n| format!("E{}M{}\0\0\0\0", n / 10, n % 10));
-    let levels = (1..=99).map(|level| format!("MAP{level:02}\0\0\0"));
-    let good = episodes.chain(levels).any(|good| good.as_bytes() == name);
-    let question = Question::FindMap { name: name.to_vec() };
-    let wad = two_entries(12, 1, *b"B\0\0\0\0\0\0\0");
-    let (number, compared) = if good { (11, 2) } else { (10, 0) };
-    let marker = Err(Refusal::plain(number));
-    Case::new("map name", wad, question, Expected::Search(Search { marker, compared }))
 }

@@ -2,6 +2,7 @@
 
 use crate::damage::clear;
 use crate::limit::Build;
+use crate::name::length_of;
 use crate::{map_case, Content, EntryPlan, Expected, MapSpec, Plan, Rng, Sizes};
 use crate::{LUMP_NAMES, MAP_NAME};
 use reader::{Accepted, Refusal};
@@ -16,7 +17,7 @@ pub(crate) fn run_limits() -> Vec<Build> {
 }
 
 /// A small good file with one edit of its plan.
-fn planned(label: &'static str, edit: impl Fn(&mut Plan) + 'static, verdict: Result<usize, Refusal>) -> Build {
+pub(crate) fn planned(label: &'static str, edit: impl Fn(&mut Plan) + 'static, verdict: Result<usize, Refusal>) -> Build {
     Box::new(move || {
         let mut plan = Plan::new(MapSpec::plain(Sizes::tree(1), &mut Rng::new(14)), MAP_NAME);
         edit(&mut plan);
@@ -95,9 +96,8 @@ fn missing() -> Vec<Build> {
         all.push(planned("lump twice", double, verdict));
         for at in 0..8 {
             let rename = move |plan: &mut Plan| misname(&mut plan.entries[place].name, at);
-            let length = LUMP_NAMES[place - 1].iter().filter(|byte| **byte != 0).count();
-            let number = if at > length { Refusal::new(6, 0, place) } else { Refusal::new(12, place, 0) };
-            all.push(planned("misnamed", rename, Err(number)));
+            let is_rubbish = at > length_of(&LUMP_NAMES[place - 1]);
+            all.push(planned("misnamed", rename, if is_rubbish { Ok(0) } else { refused(12, place) }));
         }
     }
     all

@@ -108,7 +108,7 @@ impl Plan {
         Self::new(map, MAP_NAME).wad()
     }
 
-    /// Puts entries around the map: other lumps, an earlier and worse map of the same name.
+    /// Puts entries around the map: other lumps, an earlier and worse map of the same name; and now and then rubbish behind all names.
     pub fn surround(&mut self, rng: &mut Rng) {
         let marker_name = self.entries[self.marker].name;
         let mut before = Vec::new();
@@ -124,6 +124,9 @@ impl Plan {
         (self.directory_first, self.overlap) = (rng.once_in(2), rng.once_in(3));
         (self.mark, self.fill) = (rng.pick(&[*b"IWAD", *b"PWAD"]), rng.pick(&[0, 1, 0xA5A5, 0xFFFF]));
         (self.spare_words, self.step) = (rng.pick(&[0, 0, 1, 3, 7]), rng.pick(&[0, 1, 0x1003]));
+        if rng.once_in(4) {
+            self.litter(rng);
+        }
     }
 
     /// The entry at `place` of the map.

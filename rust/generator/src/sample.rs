@@ -1,6 +1,7 @@
-//! The small files of samples/: one good map, one whose nodes turn back, one whose nodes are shared, one with a bad reference, and
-//! one picture.
+//! The small files of samples/: one good map, one whose names have rubbish behind them, one whose nodes turn back, one whose nodes
+//! are shared, one with a bad reference, and one picture.
 
+use crate::name::length_of;
 use crate::{rooms, Content, EntryPlan, PictureSpec, Plan, Post, MAP_NAME};
 use reader::{Node, SUBSECTOR_BIT};
 
@@ -32,6 +33,7 @@ const PAINTS: [(u8, u8, [u8; 3]); 8] = [
 pub fn samples() -> Vec<Sample> {
     vec![
         ("accepted.wad", accepted()),
+        ("leftover.wad", leftover()),
         ("loop.wad", turning_back()),
         ("shared.wad", shared()),
         ("reference.wad", bad_reference()),
@@ -42,6 +44,19 @@ pub fn samples() -> Vec<Sample> {
 /// Four rooms in a row.
 fn accepted() -> Vec<u8> {
     Plan::wad_of(rooms())
+}
+
+/// The four rooms again, from a tool that writes each name and its zero into one buffer of eight bytes and never clears it: behind
+/// the zero stands what is left of the longer names before it, the first of them the BLOCKMAP of an earlier map.
+fn leftover() -> Vec<u8> {
+    let mut plan = Plan::new(rooms(), MAP_NAME);
+    let mut buffer = *b"BLOCKMAP";
+    for entry in &mut plan.entries {
+        let written = (length_of(&entry.name) + 1).min(8);
+        buffer[..written].copy_from_slice(&entry.name[..written]);
+        entry.name = buffer;
+    }
+    plan.wad()
 }
 
 /// The eastern node has the root as its right child: a player in the last room freezes the machine.

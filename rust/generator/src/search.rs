@@ -1,11 +1,12 @@
 //! Searches for a map's marker: directories in which the asked name stands once, several times or not at all.
 
 use crate::limit::Build;
+use crate::name::{cut, littered};
 use crate::valid::GOOD_NAMES;
 use crate::{Case, Expected, Question, Rng, MAP_NAME};
 use reader::{Refusal, Search};
 
-/// Names that are easily taken for [`MAP_NAME`], none of them equal to it.
+/// Names that are easily taken for [`MAP_NAME`], none of them equal to it, whatever stands behind their zeros.
 const ALMOST: [&[u8; 8]; 6] = [b"MAP02\0\0\0", b"MAP0\0\0\0\0", b"MAP011\0\0", b"MAP01AAA", b"NAP01\0\0\0", b"MAP10\0\0\0"];
 
 /// A file that has these names in its directory and no lump of any size.
@@ -17,7 +18,7 @@ pub fn named_entries(names: &[[u8; 8]]) -> Vec<u8> {
 /// The answer of a search among these names: the last that is the asked one, or all of them in vain.
 fn answer(names: &[[u8; 8]], asked: &[u8]) -> Search {
     let count = names.len();
-    match (0..count).rev().find(|&at| names[at] == asked) {
+    match (0..count).rev().find(|&at| cut(&names[at]) == cut(asked)) {
         Some(marker) => Search { marker: Ok(marker), compared: count - marker },
         None => Search { marker: Err(Refusal::plain(11)), compared: count },
     }
@@ -28,11 +29,23 @@ fn ask(label: &str, names: &[[u8; 8]], asked: [u8; 8]) -> Case {
     Case::new(label, named_entries(names), Question::FindMap { name: asked.to_vec() }, expected)
 }
 
-/// A search among a few names, of which some are the asked one and most are almost it.
+/// A search among a few names, of which some are the asked one and most are almost it; half of them with rubbish.
 pub fn search_case(rng: &mut Rng) -> Case {
+    let mut case = plain_search(rng);
+    if rng.once_in(2) {
+        for entry in case.bytes[12..].chunks_exact_mut(16) {
+            let name = std::array::from_fn(|at| entry[8 + at]);
+            entry[8..].copy_from_slice(&littered(name, rng));
+        }
+    }
+    case
+}
+
+fn plain_search(rng: &mut Rng) -> Case {
     let (count, times) = (rng.below(24), rng.pick(&[2, 4, 24]));
     let names: Vec<[u8; 8]> = (0..count).map(|_| if rng.once_in(times) { MAP_NAME } else { *rng.pick(&ALMOST) }).collect();
     let asked = if rng.once_in(8) { *rng.pick(&GOOD_NAMES) } else { MAP_NAME };
+    let asked = if rng.once_in(2) { littered(asked, rng) } else { asked };
     ask("search among a few names", &names, asked)
 }
 

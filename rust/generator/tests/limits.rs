@@ -30,6 +30,7 @@ fn large_inputs_are_good() {
     assert_eq!(judged(&balanced(32_766)).depth, 15);
     assert_eq!(judged(&directory_of(4_096)).marker, 0);
     assert_eq!(directory(&directory_of(4_096)).unwrap().count, 4_096);
+    assert_eq!(directory(&littered_directory_of(4_096)).unwrap().count, 4_096);
     let largest = largest_map();
     assert!((MOST_BYTES - 1..=MOST_BYTES).contains(&largest.len()));
     assert_eq!(judged(&largest).depth, 15);
