@@ -185,6 +185,9 @@ static void directories(void)
     EXPECT(accepted(d.status) && d.count == ENTRIES && d.start == wad_start);
     d = meshpigeon_directory(wad, 11);
     EXPECT(status_is(d.status, 1, 0, 0) && d.count == 0 && d.start == 0);
+    wad[wad_start + 8 + 7] = 'p';
+    d = meshpigeon_directory(wad, wad_len);
+    EXPECT(accepted(d.status) && d.count == ENTRIES && d.start == wad_start);
     wad[wad_start + 16 + 8] = 'p';
     d = meshpigeon_directory(wad, wad_len);
     EXPECT(status_is(d.status, 6, 0, 1) && d.count == 0 && d.start == 0);
@@ -206,6 +209,8 @@ static void markers(void)
 {
     build_wad();
     meshpigeon_marker_answer m = meshpigeon_find_map(wad, wad_len, map_name, 8);
+    EXPECT(accepted(m.status) && m.marker == BEFORE && m.compared == ENTRIES - BEFORE);
+    m = meshpigeon_find_map(wad, wad_len, (const uint8_t *)"MAP01\0zz", 8);
     EXPECT(accepted(m.status) && m.marker == BEFORE && m.compared == ENTRIES - BEFORE);
     m = meshpigeon_find_map(wad, wad_len, (const uint8_t *)"MAP02\0\0", 8);
     EXPECT(status_is(m.status, 11, 0, 0) && m.marker == 0 && m.compared == ENTRIES);

@@ -87,12 +87,14 @@ pub fn lump(wad: &[u8], number: usize) -> Result<&[u8], Refusal> {
     entry(wad, number).map(|(offset, size)| &wad[offset..offset + size])
 }
 
-/// The entry number of a map's marker, by its name zero-padded to eight bytes: 1 to 6, 10, 11. The search goes from the last entry
-/// down and stops at the first of the name.
+/// The entry number of a map's marker, by its name in eight bytes: 1 to 6, 10, 11. The search goes from the last entry down and stops
+/// at the first of the name.
+///
+/// A name is what precedes its first zero, here and in the directory: bytes behind that do not count.
 ///
 /// ```
 /// # let entry = |name: &[u8; 8]| [&[0; 8][..], name].concat();
-/// let names = [b"DEMO1\0\0\0", b"MAP01\0\0\0", b"THINGS\0\0"];
+/// let names = [b"DEMO1\0\0\0", b"MAP01\0AP", b"THINGS\0P"];
 /// # let directory: Vec<u8> = names.into_iter().flat_map(entry).collect();
 /// # let wad = [&b"PWAD\x03\0\0\0\x0C\0\0\0"[..], &directory].concat();
 /// let search = meshpigeon::find_map(&wad, b"MAP01\0\0\0");

@@ -74,7 +74,10 @@ impl Refusal {
                 "entry {record} claims bytes outside the file: a lump starts at byte 12 or later, and its offset and size end \
                  inside the file"
             ),
-            6 => write!(out, "entry {record} has a bad name: one to eight of A-Z, 0-9, [ ] - _ \\ and then zeros only"),
+            6 => write!(
+                out,
+                "entry {record} has a bad name: a name is what precedes its first zero, one to eight of A-Z, 0-9, [ ] - _ \\"
+            ),
             _ => write!(out, "there is no entry of that number"),
         }
     }

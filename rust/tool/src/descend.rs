@@ -17,7 +17,7 @@ pub fn run(file: &OsStr, map: &OsStr, point: (i16, i16), report: &mut Report) {
         Ok(wad) => wad,
         Err(fault) => return report.fault(file, fault),
     };
-    let map = name::padded(map);
+    let map = name::asked(map);
     let (file, name) = (file.to_string_lossy(), name::text(&map));
     match find(&wad, &map, point) {
         Err(refusal) => {

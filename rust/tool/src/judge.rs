@@ -11,7 +11,7 @@ use std::ffi::{OsStr, OsString};
 /// Judges the named maps of each file, or all of them where none is named.
 pub fn run(files: &[OsString], maps: &[OsString], report: &mut Report) {
     let mut asked: Vec<Vec<u8>> = Vec::new();
-    for map in maps.iter().map(|map| name::padded(map)) {
+    for map in maps.iter().map(|map| name::asked(map)) {
         if !asked.contains(&map) {
             asked.push(map);
         }

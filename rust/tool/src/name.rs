@@ -2,20 +2,26 @@
 
 use std::ffi::OsStr;
 
-/// A name as it stands in a directory: upper case, zero-padded to eight bytes. A longer one is left as long as it is, and is then
-/// no entry's.
-pub fn padded(given: &OsStr) -> Vec<u8> {
-    let mut name = given.as_encoded_bytes().to_ascii_uppercase();
-    if name.len() < 8 {
-        name.resize(8, 0);
-    }
+/// A name as it is asked for: upper case, zero-padded to eight bytes. A longer one is left as long as it is, and is then no entry's.
+pub fn asked(given: &OsStr) -> Vec<u8> {
+    padded(&given.as_encoded_bytes().to_ascii_uppercase())
+}
+
+/// A name zero-padded to eight bytes, if it is not longer.
+pub fn padded(name: &[u8]) -> Vec<u8> {
+    let mut name = name.to_vec();
+    name.resize(name.len().max(8), 0);
     name
 }
 
-/// A name's characters, without the zeros behind them.
+/// A name is what precedes its first zero; tools leave what they like behind it.
+pub fn cut(name: &[u8]) -> &[u8] {
+    name.split(|&byte| byte == 0).next().unwrap_or_default()
+}
+
+/// A name's characters.
 pub fn text(name: &[u8]) -> String {
-    let length = name.iter().rposition(|&byte| byte != 0).map_or(0, |last| last + 1);
-    String::from_utf8_lossy(&name[..length]).into_owned()
+    String::from_utf8_lossy(cut(name)).into_owned()
 }
 
 /// Text on one line: control characters are spelled out, so that no file's name can forge a verdict or command a terminal.

@@ -27,7 +27,7 @@ pub fn run(file: &OsStr, lump: &OsStr, output: &OsStr, report: &mut Report) {
         Ok(wad) => wad,
         Err(fault) => return report.fault(file, fault),
     };
-    let name = name::padded(lump);
+    let name = name::asked(lump);
     let Some(number) = wad.last(&name) else {
         return report.trouble(file, &format!("there is no lump {}", shown(&name::text(&name))));
     };

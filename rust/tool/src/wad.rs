@@ -2,6 +2,7 @@
 
 use crate::finding::Finding;
 use crate::input::{self, Fault};
+use crate::name;
 use meshpigeon::Directory;
 use std::ffi::OsStr;
 
@@ -22,7 +23,7 @@ pub struct Wad {
 
 /// An entry of a good directory, as the library answers it.
 pub struct Entry<'a> {
-    /// Its name, eight bytes.
+    /// Its name: what precedes the first zero of eight bytes.
     pub name: &'a [u8],
     /// Where its part of the file lies; 0 where its size is 0.
     pub offset: usize,
@@ -35,7 +36,7 @@ impl<'a> Entry<'a> {
     fn of(bytes: &'a [u8]) -> Self {
         let size = number_at(bytes, SIZE);
         let offset = if size == 0 { 0 } else { number_at(bytes, OFFSET) };
-        Self { name: &bytes[NAME..], offset, size }
+        Self { name: name::cut(&bytes[NAME..]), offset, size }
     }
 }
 
@@ -72,7 +73,7 @@ impl Wad {
 
     /// The last entry of a name.
     pub fn last(&self, name: &[u8]) -> Option<usize> {
-        self.names().rposition(|it| it == name)
+        self.names().rposition(|it| it == name::cut(name))
     }
 
     /// An entry's bytes; none for a number past the last.
@@ -80,12 +81,12 @@ impl Wad {
         meshpigeon::lump(&self.bytes, number).unwrap_or_default()
     }
 
-    /// The names of all maps, each once, where it first stands in the directory.
+    /// The names of all maps, each once, where it first stands in the directory, zero-padded to eight bytes.
     pub fn maps(&self) -> Vec<Vec<u8>> {
         let mut maps: Vec<Vec<u8>> = Vec::new();
-        for name in self.names().filter(|name| is_map(name)) {
-            if !maps.iter().any(|map| map == name) {
-                maps.push(name.to_vec());
+        for name in self.names().map(name::padded).filter(|name| is_map(name)) {
+            if !maps.contains(&name) {
+                maps.push(name);
             }
         }
         maps

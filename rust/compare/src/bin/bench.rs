@@ -100,6 +100,12 @@ fn inputs() -> Vec<Input> {
             reader: reader_directory,
         },
         Input {
+            name: "the same, rubbish behind the names",
+            sized: |n| given::littered_directory_of(1_024 * n),
+            library: library_directory,
+            reader: reader_directory,
+        },
+        Input {
             name: "search to the first of 4,096 entries",
             sized: |n| given::search_to_the_first(1_024 * n),
             library: library_search,

@@ -80,6 +80,26 @@ fn the_last_map_of_a_name_counts() {
 }
 
 #[test]
+fn a_map_is_called_by_what_precedes_its_zero() {
+    let folder = Folder::with("a.wad", &maps(&[b"MAP01\0AP", b"E1M1\01\0\0", b"MAP01\0zz"]));
+    let lines = ["MAP01", "E1M1"].map(|map| format!("a.wad:{map}: {GOOD}"));
+    folder.run(&["judge", "a.wad"]).is(0, &[&lines[0], &lines[1], "1 file: 2 maps accepted"]);
+    folder.run(&["judge", "a.wad", "--map", "e1m1"]).is(0, &[&lines[1]]);
+    let said = folder.run(&["judge", "a.wad", "--json"]);
+    let markers = said.out.lines().map(|line| line.contains(r#""map":"MAP01""#) && line.contains(r#""marker":22"#));
+    assert_eq!(markers.collect::<Vec<_>>(), [true, false], "{said:?}");
+}
+
+#[test]
+fn a_name_that_is_bad_before_its_zero_is_refused() {
+    for name in [b"\0MAP01\0\0", b"map01\0AP", &[0; 8]] {
+        let said = Folder::with("a.wad", &lumps(&[(b"GOOD\0bad", vec![]), (name, vec![])])).run(&["judge", "a.wad"]);
+        let line = r"a.wad: refused 6 at entry 1: entry 1 has a bad name: a name is what precedes its first zero, one to eight of A-Z, 0-9, [ ] - _ \";
+        said.is(1, &[line]);
+    }
+}
+
+#[test]
 fn named_maps_are_judged_in_the_order_asked() {
     let folder = Folder::with("a.wad", &maps(&[b"MAP01\0\0\0", b"MAP02\0\0\0", b"MAP03\0\0\0"]));
     let lines = ["MAP03", "MAP01"].map(|map| format!("a.wad:{map}: {GOOD}"));

@@ -13,6 +13,21 @@ fn each_entry_is_a_line() {
 }
 
 #[test]
+fn a_name_is_shown_as_what_precedes_its_zero() {
+    let wad = lumps(&[(b"FIRST\0\x1B[", vec![1, 2, 3]), (b"A\0B\0C\0D\n", vec![]), (b"EIGHTCHR", vec![4])]);
+    let folder = Folder::with("a.wad", &wad);
+    let lines =
+        ["   0  FIRST           12         3", "   1  A                0         0", "   2  EIGHTCHR        15         1"];
+    folder.run(&["list", "a.wad"]).is(0, &lines);
+    let lines = [("FIRST", 12, 3), ("A", 0, 0), ("EIGHTCHR", 15, 1)];
+    let lines = [0, 1, 2].map(|at| {
+        let (name, offset, size) = lines[at];
+        format!(r#"{{"file":"a.wad","entry":{at},"name":"{name}","offset":{offset},"size":{size}}}"#)
+    });
+    folder.run(&["list", "a.wad", "--json"]).is(0, &[&lines[0], &lines[1], &lines[2]]);
+}
+
+#[test]
 fn an_empty_directory_lists_nothing() {
     Folder::with("a.wad", &lumps(&[])).run(&["list", "a.wad"]).is(0, &[]);
 }

@@ -34,6 +34,17 @@ fn a_picture_has_the_files_own_colours() {
 }
 
 #[test]
+fn lump_and_palette_are_found_by_what_precedes_their_zeros() {
+    let (black, blank) = (vec![0; 768], PictureSpec::blank(1, 1).encode());
+    let entries = [(b"PLAYPAL\0", black), (b"SMALL\0\0\0", blank), (b"SMALL\0ER", small()), (b"PLAYPAL\0", palette())];
+    let folder = Folder::with("a.wad", &lumps(&entries));
+    let said = folder.run(&["picture", "a.wad", "small", "-o", "out.png"]);
+    said.is(0, &["a.wad:SMALL: 2 x 3, offsets -3 and 4, written to out.png"]);
+    let said = folder.run(&["picture", "a.wad", "SMALLER", "-o", "out.png"]);
+    assert_eq!((said.status, said.err.as_str()), (2, "meshpigeon: a.wad: there is no lump SMALLER\n"));
+}
+
+#[test]
 fn the_last_lump_and_the_last_palette_of_a_name_count() {
     let (black, blank) = (vec![0; 768], PictureSpec::blank(1, 1).encode());
     let entries = [(b"PLAYPAL\0", black), (b"SMALL\0\0\0", blank), (b"SMALL\0\0\0", small()), (b"PLAYPAL\0", palette())];

@@ -9,15 +9,26 @@ fn folder() -> Folder {
 
 #[test]
 fn each_sample_is_what_its_name_says() {
-    let said = folder().run(&["judge", "accepted.wad", "loop.wad", "picture.wad", "reference.wad", "shared.wad"]);
+    let said = folder().run(&["judge", "accepted.wad", "leftover.wad", "loop.wad", "picture.wad", "reference.wad", "shared.wad"]);
     let lines: Vec<&str> = said.out.lines().collect();
     assert_eq!(lines[0], format!("accepted.wad:MAP01: {GOOD}"));
-    assert!(lines[1].starts_with("loop.wad:MAP01: refused 31 at NODES: "), "{said:?}");
-    assert_eq!(lines[2], "picture.wad: no map");
-    assert!(lines[3].starts_with("reference.wad:MAP01: refused 23 at LINEDEFS 5: "), "{said:?}");
-    assert!(lines[4].starts_with("shared.wad:MAP01: refused 32 at NODES: "), "{said:?}");
-    assert_eq!(lines[5..], ["5 files: 1 map accepted, 3 maps refused, 1 file without a map"]);
+    assert_eq!(lines[1], format!("leftover.wad:MAP01: {GOOD}"));
+    assert!(lines[2].starts_with("loop.wad:MAP01: refused 31 at NODES: "), "{said:?}");
+    assert_eq!(lines[3], "picture.wad: no map");
+    assert!(lines[4].starts_with("reference.wad:MAP01: refused 23 at LINEDEFS 5: "), "{said:?}");
+    assert!(lines[5].starts_with("shared.wad:MAP01: refused 32 at NODES: "), "{said:?}");
+    assert_eq!(lines[6..], ["6 files: 2 maps accepted, 3 maps refused, 1 file without a map"]);
     assert_eq!((said.status, said.err.as_str()), (1, ""));
+}
+
+#[test]
+fn what_is_left_of_longer_names_is_not_listed() {
+    let folder = folder();
+    let bytes = std::fs::read(folder.file("leftover.wad")).expect("it is there");
+    for name in [b"MAP01\0AP", b"THINGS\0P", b"SEGS\0XES", b"NODES\0RS"] {
+        assert!(bytes.windows(8).any(|it| it == name), "{}", String::from_utf8_lossy(name));
+    }
+    assert_eq!(folder.run(&["list", "leftover.wad"]).out, folder.run(&["list", "accepted.wad"]).out);
 }
 
 #[test]
