@@ -1,18 +1,19 @@
--- The refusal table of 01, "Refusal numbers": number, place and record of each refusal, in the table's order. Unnamed parts
--- are 0. Assumes nothing.
+-- The refusal table of 01, "Refusal numbers", as the requests change it: number, place and record of each refusal, in the
+-- table's order. Unnamed parts are 0. Assumes nothing.
 use Prim.Native.Nat.{ℕ}
 use Rattle.refusal.specs.declared.Row.{Row}
 use Rattle.refusal.specs.declared.Refusal.{Refusal}
 use Rattle.refusal.specs.declared.Refusal.the-variants.{FileLength, Mark, LumpCount, DirectoryBounds}
 use Rattle.refusal.specs.declared.Refusal.the-variants.{EntryBounds, EntryName, EntryNumber}
-use Rattle.refusal.specs.declared.Refusal.the-variants.{MapName, MapMissing, MarkerRun, HexenMap}
+use Rattle.refusal.specs.declared.Refusal.the-variants.{MapName, MapMissing, MarkerRun}
 use Rattle.refusal.specs.declared.Refusal.the-variants.{RecordSize, RecordCount, RejectLength}
 use Rattle.refusal.specs.declared.Refusal.the-variants.{LinedefReference, SidedefReference, SegReference}
 use Rattle.refusal.specs.declared.Refusal.the-variants.{SubsectorReference, NodeReference, Blockmap}
 use Rattle.refusal.specs.declared.Refusal.the-variants.{WorkWords, NodeLoop, NodeShared}
 use Rattle.refusal.specs.declared.Refusal.the-variants.{DescentNodes, DescentSubsectors, DescentChild, DescentLoop}
 use Rattle.refusal.specs.declared.Refusal.the-variants.{PictureLength, PictureSize, PictureOffsets}
-use Rattle.refusal.specs.declared.Refusal.the-variants.{PostBounds, PostRows, PixelBuffer, RecordBounds}
+use Rattle.refusal.specs.declared.Refusal.the-variants.{PostBounds, PostRows, PixelBuffer}
+use Rattle.refusal.specs.declared.Refusal.the-variants.{RecordBounds, RecordFields}
 
 -- a row of the table: number, place, record
 abbrev pub row : ℕ → ℕ → ℕ → Row
@@ -30,7 +31,6 @@ rowOf EntryNumber = row 7 0 0
 rowOf MapName = row 10 0 0
 rowOf MapMissing = row 11 0 0
 rowOf (MarkerRun place) = row 12 place 0
-rowOf HexenMap = row 13 0 0
 rowOf (RecordSize place) = row 20 place 0
 rowOf (RecordCount place) = row 21 place 0
 rowOf RejectLength = row 22 9 0
@@ -54,6 +54,7 @@ rowOf (PostBounds column) = row 53 0 column
 rowOf (PostRows column) = row 54 0 column
 rowOf PixelBuffer = row 55 0 0
 rowOf RecordBounds = row 60 0 0
+rowOf RecordFields = row 61 0 0
 
 -- the paper's number of a refusal
 abbrev pub numberOf : Refusal → ℕ

@@ -26,8 +26,6 @@ pub enum Refusal {
     MapMissing,
     // 12: the marker's size, or one of the ten lumps missing or misnamed, at a place
     MarkerRun(usize),
-    // 13: a Hexen map
-    HexenMap,
     // 20: a size that is no multiple of the record, at a place
     RecordSize(usize),
     // 21: a count outside the table, at a place
@@ -70,6 +68,8 @@ pub enum Refusal {
     PixelBuffer,
     // 60: a record not wholly inside its lump
     RecordBounds,
+    // 61: a field that the record's game lacks is not 0, or a Hexen special is over 255
+    RecordFields,
 }
 
 // What a check answers.
@@ -96,7 +96,6 @@ pub fn row_of(r: Refusal) -> Row
         Refusal::MapName => Row(10, 0, 0),
         Refusal::MapMissing => Row(11, 0, 0),
         Refusal::MarkerRun(place) => Row(12, place, 0),
-        Refusal::HexenMap => Row(13, 0, 0),
         Refusal::RecordSize(place) => Row(20, place, 0),
         Refusal::RecordCount(place) => Row(21, place, 0),
         Refusal::RejectLength => Row(22, 9, 0),
@@ -120,6 +119,7 @@ pub fn row_of(r: Refusal) -> Row
         Refusal::PostRows(column) => Row(54, 0, column),
         Refusal::PixelBuffer => Row(55, 0, 0),
         Refusal::RecordBounds => Row(60, 0, 0),
+        Refusal::RecordFields => Row(61, 0, 0),
     }
 }
 
