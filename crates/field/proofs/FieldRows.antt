@@ -31,8 +31,9 @@ spelt-whole d xs e = ap (spelt d xs 0) (sym e) ∙ spelt-length d xs
 
 -- ---- a row of fields
 
--- two bytes unsigned, two bytes signed, or eight bytes
+-- a byte, two bytes unsigned, two bytes signed, or eight bytes
 pub data Field : Type 0 where
+  byte : Field
   number : Field
   signed16 : Field
   name : Field
@@ -40,6 +41,7 @@ pub data Field : Type 0 where
 -- the bytes made of the fields at `at`, and of those after them
 abbrev pub written : List Field → List ℕ → ℕ → List ℕ
 written [] bytes at = []
+written (byte ∷ fs) bytes at = getD bytes at 0 ∷ written fs bytes (at + 1)
 written (number ∷ fs) bytes at = u16Bytes (u16At bytes at) ++ written fs bytes (at + 2)
 written (signed16 ∷ fs) bytes at = i16Bytes (i16At bytes at) ++ written fs bytes (at + 2)
 written (name ∷ fs) bytes at = nameAt bytes at ++ written fs bytes (at + 8)
@@ -47,6 +49,7 @@ written (name ∷ fs) bytes at = nameAt bytes at ++ written fs bytes (at + 8)
 -- how many bytes they take
 abbrev pub width : List Field → ℕ
 width [] = 0
+width (byte ∷ fs) = suc (width fs)
 width (number ∷ fs) = suc (suc (width fs))
 width (signed16 ∷ fs) = suc (suc (width fs))
 width (name ∷ fs) = suc (suc (suc (suc (suc (suc (suc (suc (width fs))))))))
@@ -56,6 +59,9 @@ u16-spelt xs at h = u16Bytes-read (getD xs at 0) (getD xs (at + 1) 0) (h at)
 
 i16-spelt : (xs : List ℕ) (at : ℕ) → Bytes xs → i16Bytes (i16At xs at) ≡ getD xs at 0 ∷ getD xs (at + 1) 0 ∷ []
 i16-spelt xs at h = ap u16Bytes (bits-signed 32768 (u16At xs at) (u16At-fits xs at h)) ∙ u16-spelt xs at h
+
+one-spelt : (xs : List ℕ) (at n : ℕ) {zs : List ℕ} → zs ≡ spelt 0 xs (at + 1) n → getD xs at 0 ∷ zs ≡ spelt 0 xs at (suc n)
+one-spelt xs at n f = let one : at + 1 ≡ suc at = omega arith in rw (f, one)
 
 two-spelt : (xs : List ℕ) (at n : ℕ) {ys zs : List ℕ} → ys ≡ getD xs at 0 ∷ getD xs (at + 1) 0 ∷ [] → zs ≡ spelt 0 xs (at + 2) n
     → ys ++ zs ≡ spelt 0 xs at (suc (suc n))
@@ -79,6 +85,7 @@ name-spelt xs at n f =
 
 written-spelt : (fs : List Field) (xs : List ℕ) (at : ℕ) → Bytes xs → written fs xs at ≡ spelt 0 xs at (width fs)
 written-spelt [] xs at h = refl
+written-spelt (byte ∷ fs) xs at h = one-spelt xs at (width fs) (written-spelt fs xs (at + 1) h)
 written-spelt (number ∷ fs) xs at h = two-spelt xs at (width fs) (u16-spelt xs at h) (written-spelt fs xs (at + 2) h)
 written-spelt (signed16 ∷ fs) xs at h = two-spelt xs at (width fs) (i16-spelt xs at h) (written-spelt fs xs (at + 2) h)
 written-spelt (name ∷ fs) xs at h = name-spelt xs at (width fs) (written-spelt fs xs (at + 8) h)

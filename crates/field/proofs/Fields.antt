@@ -13,7 +13,7 @@ use Rattle.endian.specs.Unsigned.{putU16}
 use Rattle.endian.specs.Signed.{i16At, bitsOf, signed}
 use Rattle.endian.proofs.Unsigned.{u16-whole}
 use Rattle.endian.proofs.Signed.{signed-bits}
-use Rattle.field.specs.Fields.{i16Bytes, nameAt, fourAt, fourBytes, putFour, Int16, Name, FourFits}
+use Rattle.field.specs.Fields.{i16Bytes, nameAt, fourAt, fourBytes, putFour, argsAt, putAction, Int16, Name, FourFits, Args}
 use Rattle.field.proofs.FieldRows.{spelt-whole}
 
 -- ---- signed numbers, which the machine reads back from their bits
@@ -30,6 +30,9 @@ field-bits z h = ap (bitsOf 32768) (toZ-ofZ w16 z (record { sfits = h }))
 
 pub name-whole : (xs : List ℕ) → Name xs → nameAt xs 0 ≡ xs
 name-whole xs h = spelt-whole 0 xs h
+
+pub args-whole : (xs : List ℕ) → Args xs → argsAt xs 0 ≡ xs
+args-whole xs h = spelt-whole 0 xs h
 
 pub i16-whole : (z : ℤ) → Int16 z → signed 32768 (bitsOf 32768 z % 256 + 256 * (bitsOf 32768 z / 256)) ≡ z
 i16-whole z h = ap (signed 32768) (u16-whole (bitsOf 32768 z)) ∙ signed-bits 32768 z h
@@ -55,3 +58,7 @@ then-name at name e q = e ∙ ap (λ (l : List ℕ). paste l at (nameAt name 0) 
 
 pub then-four : (at : ℕ) (zs : List ℤ) {x y z : List ℕ} → y ≡ putFour x at zs → x ≡ z → y ≡ putFour z at zs
 then-four at zs e q = e ∙ ap (λ (l : List ℕ). putFour l at zs) q
+
+pub then-action : (at action : ℕ) (args : List ℕ) {x y z : List ℕ} → y ≡ putAction x at action args → x ≡ z
+    → y ≡ putAction z at action args
+then-action at action args e q = e ∙ ap (λ (l : List ℕ). putAction l at action args) q

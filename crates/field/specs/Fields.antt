@@ -1,10 +1,13 @@
--- What document 004's tables are made of beside unsigned numbers: signed numbers of two bytes, four of these in a row, and
--- names of eight bytes. Assumes nothing.
+-- What document 004's tables are made of beside unsigned numbers: signed numbers of two bytes, four of these in a row, names
+-- of eight bytes, and actions with their arguments. Assumes nothing.
 use Prim.Native.Nat.{ℕ, _+_, _<_}
+use mathlib.Core.Bool.{Bool, _&&_}
 use mathlib.Core.List.{List, [], _∷_, _++_}
 use mathlib.Core.Path.{_≡_}
+use lib.Dec.{eqb}
 use lib.IntN.{ℤ, pos}
-use lib.ListN.{length, getD}
+use lib.ListN.{length, getD, set}
+use lib.Seq.{paste}
 use lib.Signed.{mag}
 use Rattle.endian.specs.Unsigned.{u16Bytes, putU16}
 use Rattle.endian.specs.Signed.{i16At, bitsOf}
@@ -46,3 +49,29 @@ putFour xs at zs =
 pub record FourFits (zs : List ℤ) : Type 0 where
   pub four : length zs ≡ 4
   pub each : (i : ℕ) → Int16 (getD zs i (pos 0))
+
+-- the five arguments of an action at `at`, a byte each
+abbrev pub argsAt : List ℕ → ℕ → List ℕ
+argsAt xs at =
+    getD xs at 0 ∷ getD xs (at + 1) 0 ∷ getD xs (at + 2) 0 ∷ getD xs (at + 3) 0 ∷ getD xs (at + 4) 0 ∷ []
+
+-- those of a record whose game has none
+abbrev pub noArgs : List ℕ
+noArgs = 0 ∷ 0 ∷ 0 ∷ 0 ∷ 0 ∷ []
+
+-- all five are 0
+abbrev pub argsZero : List ℕ → Bool
+argsZero args =
+    eqb (getD args 0 0) 0 && eqb (getD args 1 0) 0 && eqb (getD args 2 0) 0 && eqb (getD args 3 0) 0 && eqb (getD args 4 0) 0
+
+-- the six bytes of an action and its arguments
+abbrev pub actionBytes : ℕ → List ℕ → List ℕ
+actionBytes action args = action ∷ argsAt args 0
+
+-- `xs` with these at `at`
+abbrev pub putAction : List ℕ → ℕ → ℕ → List ℕ → List ℕ
+putAction xs at action args = paste (set xs at action) (at + 1) (argsAt args 0) 5
+
+-- `xs` has five bytes
+abbrev pub Args : List ℕ → Type 0
+Args xs = length xs ≡ 5

@@ -1,5 +1,5 @@
 -- A record of a lump by its number, whatever its kind: `size` bytes from `size × index` on (01, refusal 60 and "A write
--- changes its record's bytes only"). Assumes nothing.
+-- changes its record's bytes only"; W-205, refusal 61). Assumes nothing.
 use Prim.Native.Nat.{ℕ, _*_, _/_}
 use mathlib.Core.Bool.{Bool, cond}
 use mathlib.Core.Path.{_≡_}
@@ -8,8 +8,8 @@ use lib.Dec.{ltb}
 use lib.ListN.{length, take, drop, replicate}
 use lib.Seq.{paste}
 use Rattle.refusal.specs.declared.Check.{Check}
-use Rattle.refusal.specs.declared.Refusal.the-variants.{RecordBounds}
-use Rattle.refusal.specs.Checks.{unless}
+use Rattle.refusal.specs.declared.Refusal.the-variants.{RecordBounds, RecordFields}
+use Rattle.refusal.specs.Checks.{unless, _andThen_}
 
 -- record `index` of `lump` lies wholly inside it
 abbrev pub inside : List ℕ → ℕ → ℕ → Bool
@@ -39,3 +39,12 @@ replaced lump size index bytes = cond (inside lump size index) (paste lump (size
 pub record Written (lump : List ℕ) (size index : ℕ) (bytes : List ℕ) (answer : Check) (left : List ℕ) : Type 0 where
   pub answers : answer ≡ insideCheck lump size index
   pub leaves : left ≡ replaced lump size index bytes
+
+-- 60, then 61 unless the record's fields are `good`
+abbrev pub goodCheck : Bool → List ℕ → ℕ → ℕ → Check
+goodCheck good lump size index = insideCheck lump size index andThen unless good RecordFields
+
+-- what such a write answers, and what it leaves: as found where the fields are not good
+pub record WrittenIf (good : Bool) (lump : List ℕ) (size index : ℕ) (bytes : List ℕ) (answer : Check) (left : List ℕ) : Type 0 where
+  pub answers : answer ≡ goodCheck good lump size index
+  pub leaves : left ≡ cond good (replaced lump size index bytes) lump

@@ -2,10 +2,10 @@
 // are no single numbers. specs/ has the definitions.
 ghost use mathlib.Core.Path.{_≡_};
 ghost use Prim.Native.Nat.{_+_, _≤_, _<_, _/_};
-ghost use lib.ListN.{length};
+ghost use lib.ListN.{length, set};
 ghost use lib.Seq.{paste};
-ghost use Rattle.field.specs.Fields.{nameAt, fourAt, putFour};
-ghost use Rattle.field.specs.Records.{insideCheck, bytesOr, Written};
+ghost use Rattle.field.specs.Fields.{nameAt, fourAt, putFour, argsAt, argsZero, putAction};
+ghost use Rattle.field.specs.Records.{insideCheck, bytesOr, Written, WrittenIf};
 use refusal::Check;
 use refusal::Refusal;
 
@@ -39,6 +39,20 @@ pub fn replace(lump: &mut [u8], size: usize, index: usize, bytes: &[u8]) -> Chec
         return Check::Pass;
     }
     Check::Refused(Refusal::RecordBounds)
+}
+
+// The record's bytes replaced where its fields are good, or 60, then 61, and nothing written.
+pub fn replace_if(good: bool, lump: &mut [u8], size: usize, index: usize, bytes: &[u8]) -> Check
+    requires { ⌜ (0 < size) × (length (now bytes) ≡ size) ⌝ }
+    ensures { λ r. ⌜ WrittenIf good (now (lump .entry)) size index (now (bytes .entry)) r (now (lump .exit)) ⌝ }
+{
+    if good {
+        return replace(lump, size, index, bytes);
+    }
+    refusal::then(
+        inside_check(lump, size, index),
+        Check::Refused(Refusal::RecordFields),
+    )
 }
 
 // The eight bytes of a name.
@@ -88,6 +102,37 @@ pub fn put_four(s: &mut [u8], at: usize, v: [i16; 4])
     endian::put_i16(s, at + 2, v[1]);
     endian::put_i16(s, at + 4, v[2]);
     endian::put_i16(s, at + 6, v[3]);
+}
+
+// The five arguments of an action.
+pub fn args_at(b: &[u8], at: usize) -> [u8; 5]
+    requires { ⌜ at + 4 < length (now b) ⌝ }
+    ensures { λ r. ⌜ r ≡ argsAt (now (b .entry)) at ⌝ }
+{
+    [b[at], b[at + 1], b[at + 2], b[at + 3], b[at + 4]]
+}
+
+// An action and its five arguments written from at on.
+pub fn put_action(s: &mut [u8], at: usize, action: u8, args: [u8; 5])
+    requires { ⌜ at + 5 < length (now s) ⌝ }
+    ensures { λ _. ⌜ now (s .exit) ≡ putAction (now (s .entry)) at action args ⌝ }
+{
+    put_byte(s, at, action);
+    copy_at(s, at + 1, &args);
+}
+
+fn put_byte(s: &mut [u8], at: usize, v: u8)
+    requires { ⌜ at < length (now s) ⌝ }
+    ensures { λ _. ⌜ now (s .exit) ≡ set (now (s .entry)) at v ⌝ }
+{
+    s[at] = v;
+}
+
+// Whether all five arguments are 0.
+pub fn args_zero(args: [u8; 5]) -> bool
+    ensures { λ r. ⌜ r ≡ argsZero args ⌝ }
+{
+    (args[0] == 0) & (args[1] == 0) & (args[2] == 0) & (args[3] == 0) & (args[4] == 0)
 }
 
 // The bytes of s written over those of d from at on.

@@ -32,6 +32,11 @@ refused-then y e = sym (ap (λ (a : Check). a andThen y) e)
 pub pass-then : {a x y : Check} → a ≡ Pass → x ≡ y → x ≡ a andThen y
 pass-then {a} {x} {y} e q = q ∙ sym (ap (λ (a : Check). a andThen y) e)
 
+-- a check that passes changes nothing after another
+pub before-pass : (a : Check) → a ≡ a andThen Pass
+before-pass Pass = refl
+before-pass (Refused r) = refl
+
 pub andThen-pass : (a b : Check) → a andThen b ≡ Pass → (a ≡ Pass) × (b ≡ Pass)
 andThen-pass Pass b e = (refl, e)
 andThen-pass (Refused r) b e = let z : _≡_ {A = ℕ} 0 1 = cc in absurd (omega arith)
