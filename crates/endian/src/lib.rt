@@ -7,7 +7,7 @@ ghost use Rattle.endian.specs.Unsigned.{u16At, u32At, putU16, putU32};
 ghost use Rattle.endian.specs.Signed.{signed, bitsOf, i16At, i32At, between, natural};
 
 // A byte as a wider number.
-fn wide(b: u8) -> u16
+pub fn wide(b: u8) -> u16
     ensures { λ r. ⌜ (r ≡ b) × (r < 256) ⌝ }
 {
     b as u16

@@ -1,3 +1,4 @@
 -- The laws of the kinds that are drawn. Assumes nothing.
 
+pub mod Games
 pub mod Codecs

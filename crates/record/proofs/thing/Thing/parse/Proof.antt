@@ -1,17 +1,19 @@
--- `record::thing::Thing::parse` meets its contract, field by field. Assumes nothing.
+-- `record::thing::Thing::parse` meets its contract, by the game. Assumes nothing.
 use borrow.Author.Needs.{needs}
-use Rattle.field.proofs.Fields.{signed-field}
 use Rattle.record.proofs.thing.Thing.parse.Statement.{statement}
 use Rattle.record.proofs.thing.Thing.parse.Tie as tie
 
+parse-hexen-requires : tie.Need-parse-hexen-requires
+parse-hexen-requires c κs = rw (c .if1 .taken) at (c .before .before .pre)
+
 returns : tie.Need-returns
-returns c =
-    let x = c .before .before .before .before .i16-at in
-    let y = c .before .before .before .i16-at2 in
-    cc (signed-field (x .ok) (x .ensures), signed-field (y .ok) (y .ensures))
+returns c = rw (c .before .if1 .taken) (c .parse-hexen .ensures)
+
+parse-doom-requires : tie.Need-parse-doom-requires
+parse-doom-requires c κs = rw (c .if1 .left) at (c .before .before .pre)
+
+returns-2 : tie.Need-returns-2
+returns-2 c = rw (c .before .if1 .left) (c .parse-doom .ensures)
 
 pub parse-spec : {M : Type 1} → statement M
-parse-spec =
-    tie.close
-    (tie.spec (λ c κs. search needs) (λ c κs. search needs) (λ c κs. search needs) (λ c κs. search needs)
-    (λ c κs. search needs) returns)
+parse-spec = tie.close (tie.spec parse-hexen-requires returns parse-doom-requires returns-2)

@@ -1,10 +1,10 @@
--- `record::linedef::Linedef::bytes` meets its contract, field by field, last to first. Assumes nothing.
+-- `record::linedef::Linedef::doom_bytes` meets its contract, field by field, last to first. Assumes nothing.
 use mathlib.Core.Path.{refl}
 use borrow.Author.Needs.{needs}
 use lib.ListN.{replicate}
 use Rattle.field.proofs.Fields.{then-u16}
-use Rattle.record.proofs.linedef.Linedef.bytes.Statement.{statement}
-use Rattle.record.proofs.linedef.Linedef.bytes.Tie as tie
+use Rattle.record.proofs.linedef.Linedef.doom_bytes.Statement.{statement}
+use Rattle.record.proofs.linedef.Linedef.doom_bytes.Tie as tie
 
 returns : tie.Need-returns
 returns c =
@@ -24,8 +24,8 @@ returns c =
     (then-u16 2 (s .end) (c1 .put-u162 .ensures)
     (then-u16 0 (s .start) {x = replicate 14 0} (c0 .put-u16 .ensures) refl))))))
 
-pub bytes-spec : {M : Type 1} → statement M
-bytes-spec =
+pub doom-bytes-spec : {M : Type 1} → statement M
+doom-bytes-spec =
     tie.close
     (tie.spec (λ c. search needs) (λ c κs. search needs) (λ c. search needs) (λ c κs. search needs)
     (λ c. search needs) (λ c κs. search needs) (λ c. search needs) (λ c κs. search needs)

@@ -1,10 +1,10 @@
--- `record::thing::Thing::bytes` meets its contract, field by field, last to first. Assumes nothing.
+-- `record::thing::Thing::doom_bytes` meets its contract, field by field, last to first. Assumes nothing.
 use mathlib.Core.Path.{refl}
 use borrow.Author.Needs.{needs}
 use lib.ListN.{replicate}
 use Rattle.field.proofs.Fields.{then-i16, then-u16}
-use Rattle.record.proofs.thing.Thing.bytes.Statement.{statement}
-use Rattle.record.proofs.thing.Thing.bytes.Tie as tie
+use Rattle.record.proofs.thing.Thing.doom_bytes.Statement.{statement}
+use Rattle.record.proofs.thing.Thing.doom_bytes.Tie as tie
 
 returns : tie.Need-returns
 returns c =
@@ -17,11 +17,11 @@ returns c =
     then-u16 8 (s .flags) (c4 .put-u163 .ensures)
     (then-u16 6 (s .kind) (c3 .put-u162 .ensures)
     (then-u16 4 (s .angle) (c2 .put-u16 .ensures)
-    (then-i16 2 (s .y) (c1 .before .struct-told2 .given .1 .0 .1) (c1 .put-i162 .ensures)
-    (then-i16 0 (s .x) {x = replicate 10 0} (c0 .before .struct-told .given .0 .1) (c0 .put-i16 .ensures) refl))))
+    (then-i16 2 (s .y) (c1 .before .struct-told2 .given .1 .1 .1 .0 .1) (c1 .put-i162 .ensures)
+    (then-i16 0 (s .x) {x = replicate 10 0} (c0 .before .struct-told .given .1 .1 .0 .1) (c0 .put-i16 .ensures) refl))))
 
-pub bytes-spec : {M : Type 1} → statement M
-bytes-spec =
+pub doom-bytes-spec : {M : Type 1} → statement M
+doom-bytes-spec =
     tie.close
     (tie.spec (λ c. search needs) (λ c κs. search needs) (λ c. search needs) (λ c κs. search needs)
     (λ c. search needs) (λ c κs. search needs) (λ c. search needs) (λ c κs. search needs)
