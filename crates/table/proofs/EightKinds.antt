@@ -1,11 +1,11 @@
--- Each of the eight kinds is lossless, by what is its own and the law for every kind. Assumes nothing.
+-- Each of the eight kinds is lossless, by what is its own and the law for every kind and game. Assumes nothing.
 use Rattle.field.proofs.Lossless.{lossless}
-use Rattle.record.specs.Things.{thingOf, thingBytes, ThingFits}
-use Rattle.record.specs.Linedefs.{linedefOf, linedefBytes, LinedefFits}
+use Rattle.record.specs.Things.{thingSize, thingOf, thingBytes, ThingFits}
+use Rattle.record.specs.Linedefs.{linedefSize, linedefOf, linedefBytes, LinedefFits}
 use Rattle.record.specs.Sidedefs.{sidedefOf, sidedefBytes, SidedefFits}
 use Rattle.record.specs.Vertexes.{vertexOf, vertexBytes, VertexFits}
 use Rattle.record.specs.Sectors.{sectorOf, sectorBytes, SectorFits}
-use Rattle.record.proofs.Codecs.{thing, linedef, sidedef, vertex, sector}
+use Rattle.record.proofs.Codecs.{thing, thing-good, linedef, linedef-good, sidedef, vertex, sector}
 use Rattle.built.specs.Segs.{segOf, segBytes, SegFits}
 use Rattle.built.specs.Subsectors.{subsectorOf, subsectorBytes, SubsectorFits}
 use Rattle.built.specs.Nodes.{nodeOf, nodeBytes, NodeFits}
@@ -15,8 +15,10 @@ use Rattle.table.specs.Lossless.{KindsLossless}
 pub kinds-lossless : KindsLossless
 kinds-lossless =
     record {
-      thing = lossless 10 thingOf thingBytes ThingFits thing;
-      linedef = lossless 14 linedefOf linedefBytes LinedefFits linedef;
+      thing = λ hexen. lossless (thingSize hexen) (thingOf hexen) (thingBytes hexen) (ThingFits hexen) (thing hexen);
+      thingAccepted = λ hexen bytes h. thing-good hexen bytes;
+      linedef = λ hexen. lossless (linedefSize hexen) (linedefOf hexen) (linedefBytes hexen) (LinedefFits hexen) (linedef hexen);
+      linedefAccepted = linedef-good;
       sidedef = lossless 30 sidedefOf sidedefBytes SidedefFits sidedef;
       vertex = lossless 4 vertexOf vertexBytes VertexFits vertex;
       seg = lossless 12 segOf segBytes SegFits seg;

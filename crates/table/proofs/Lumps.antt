@@ -1,4 +1,4 @@
--- Every kind's size and place agree with the table of lumps: one test, computed. Assumes nothing.
+-- Every kind's sizes and place agree with the table of lumps: one test, computed. Assumes nothing.
 use mathlib.Core.Path.{refl}
 use Rattle.table.specs.Lumps.{KindsAgree}
 

@@ -1,7 +1,7 @@
--- The table of a map's lumps (01, "One map"): places, names, record sizes and counts. The marker is place 0.
--- Assumes nothing.
+-- The table of a map's lumps (01, "One map"; W-205): places, names, record sizes in both games, and counts. The marker is
+-- place 0. Assumes nothing.
 use Prim.Native.Nat.{ℕ, _-_}
-use mathlib.Core.Bool.{Bool, true, _&&_}
+use mathlib.Core.Bool.{Bool, true, false, _&&_, cond}
 use mathlib.Core.Path.{_≡_}
 use mathlib.Core.List.{List, [], _∷_}
 use lib.Dec.{eqb}
@@ -49,32 +49,33 @@ REJECT = 9
 abbrev pub BLOCKMAP : ℕ
 BLOCKMAP = 10
 
--- a row: name and record size
-abbrev lump : List ℕ → ℕ → LumpRow
-lump name size = record { name = name; size = size }
+-- a row: name, and record sizes in Doom and in Hexen
+abbrev lump : List ℕ → ℕ → ℕ → LumpRow
+lump name size hexen = record { name = name; size = size; «hexen_size» = hexen }
 
 -- the ten lumps from place 1 on; size 0 where there are no records
 abbrev pub lumps : List LumpRow
 lumps =
-    lump (84 ∷ 72 ∷ 73 ∷ 78 ∷ 71 ∷ 83 ∷ 0 ∷ 0 ∷ []) thingSize  -- THINGS
-    ∷ lump (76 ∷ 73 ∷ 78 ∷ 69 ∷ 68 ∷ 69 ∷ 70 ∷ 83 ∷ []) linedefSize  -- LINEDEFS
-    ∷ lump (83 ∷ 73 ∷ 68 ∷ 69 ∷ 68 ∷ 69 ∷ 70 ∷ 83 ∷ []) sidedefSize  -- SIDEDEFS
-    ∷ lump (86 ∷ 69 ∷ 82 ∷ 84 ∷ 69 ∷ 88 ∷ 69 ∷ 83 ∷ []) vertexSize  -- VERTEXES
-    ∷ lump (83 ∷ 69 ∷ 71 ∷ 83 ∷ 0 ∷ 0 ∷ 0 ∷ 0 ∷ []) segSize  -- SEGS
-    ∷ lump (83 ∷ 83 ∷ 69 ∷ 67 ∷ 84 ∷ 79 ∷ 82 ∷ 83 ∷ []) subsectorSize  -- SSECTORS
-    ∷ lump (78 ∷ 79 ∷ 68 ∷ 69 ∷ 83 ∷ 0 ∷ 0 ∷ 0 ∷ []) nodeSize  -- NODES
-    ∷ lump (83 ∷ 69 ∷ 67 ∷ 84 ∷ 79 ∷ 82 ∷ 83 ∷ 0 ∷ []) sectorSize  -- SECTORS
-    ∷ lump (82 ∷ 69 ∷ 74 ∷ 69 ∷ 67 ∷ 84 ∷ 0 ∷ 0 ∷ []) 0  -- REJECT
-    ∷ lump (66 ∷ 76 ∷ 79 ∷ 67 ∷ 75 ∷ 77 ∷ 65 ∷ 80 ∷ []) 0  -- BLOCKMAP
+    lump (84 ∷ 72 ∷ 73 ∷ 78 ∷ 71 ∷ 83 ∷ 0 ∷ 0 ∷ []) (thingSize false) (thingSize true)  -- THINGS
+    ∷ lump (76 ∷ 73 ∷ 78 ∷ 69 ∷ 68 ∷ 69 ∷ 70 ∷ 83 ∷ []) (linedefSize false) (linedefSize true)  -- LINEDEFS
+    ∷ lump (83 ∷ 73 ∷ 68 ∷ 69 ∷ 68 ∷ 69 ∷ 70 ∷ 83 ∷ []) sidedefSize sidedefSize  -- SIDEDEFS
+    ∷ lump (86 ∷ 69 ∷ 82 ∷ 84 ∷ 69 ∷ 88 ∷ 69 ∷ 83 ∷ []) vertexSize vertexSize  -- VERTEXES
+    ∷ lump (83 ∷ 69 ∷ 71 ∷ 83 ∷ 0 ∷ 0 ∷ 0 ∷ 0 ∷ []) segSize segSize  -- SEGS
+    ∷ lump (83 ∷ 83 ∷ 69 ∷ 67 ∷ 84 ∷ 79 ∷ 82 ∷ 83 ∷ []) subsectorSize subsectorSize  -- SSECTORS
+    ∷ lump (78 ∷ 79 ∷ 68 ∷ 69 ∷ 83 ∷ 0 ∷ 0 ∷ 0 ∷ []) nodeSize nodeSize  -- NODES
+    ∷ lump (83 ∷ 69 ∷ 67 ∷ 84 ∷ 79 ∷ 82 ∷ 83 ∷ 0 ∷ []) sectorSize sectorSize  -- SECTORS
+    ∷ lump (82 ∷ 69 ∷ 74 ∷ 69 ∷ 67 ∷ 84 ∷ 0 ∷ 0 ∷ []) 0 0  -- REJECT
+    ∷ lump (66 ∷ 76 ∷ 79 ∷ 67 ∷ 75 ∷ 77 ∷ 65 ∷ 80 ∷ []) 0 0  -- BLOCKMAP
     ∷ []
 
 -- the name of the lump at `place`, eight bytes
 abbrev pub lumpName : ℕ → List ℕ
-lumpName place = getD lumps (place - 1) (lump [] 0) .name
+lumpName place = getD lumps (place - 1) (lump [] 0 0) .name
 
--- the size of its records
-abbrev pub recordSize : ℕ → ℕ
-recordSize place = getD lumps (place - 1) (lump [] 0) .size
+-- the size of its records, by the game
+abbrev pub recordSize : Bool → ℕ → ℕ
+recordSize hexen place =
+    cond hexen (getD lumps (place - 1) (lump [] 0 0) .«hexen_size») (getD lumps (place - 1) (lump [] 0 0) .size)
 
 -- a row: least and most
 abbrev count : ℕ → ℕ → CountRow
@@ -94,23 +95,30 @@ leastCount place = getD counts (place - 1) (count 0 0) .0
 abbrev pub mostCount : ℕ → ℕ
 mostCount place = getD counts (place - 1) (count 0 0) .1
 
--- a kind: place and size
-abbrev kind : ℕ → ℕ → KindRow
-kind place size = record { 0 = place; 1 = size }
+-- a kind: place, and sizes in Doom and in Hexen
+abbrev kind : ℕ → ℕ → ℕ → KindRow
+kind place size hexen = record { 0 = place; 1 = size; 2 = hexen }
 
 -- past the last kind
 abbrev pub noKind : KindRow
-noKind = kind 0 0
+noKind = kind 0 0 0
 
--- place and size of each kind of record, as its type carries them
+-- place and sizes of each kind of record, as its type carries them: things and linedefs have two
 abbrev pub kinds : List KindRow
 kinds =
-    kind thingPlace thingSize ∷ kind linedefPlace linedefSize ∷ kind sidedefPlace sidedefSize ∷ kind vertexPlace vertexSize
-    ∷ kind segPlace segSize ∷ kind subsectorPlace subsectorSize ∷ kind nodePlace nodeSize ∷ kind sectorPlace sectorSize ∷ []
+    kind thingPlace (thingSize false) (thingSize true)
+    ∷ kind linedefPlace (linedefSize false) (linedefSize true)
+    ∷ kind sidedefPlace sidedefSize sidedefSize
+    ∷ kind vertexPlace vertexSize vertexSize
+    ∷ kind segPlace segSize segSize
+    ∷ kind subsectorPlace subsectorSize subsectorSize
+    ∷ kind nodePlace nodeSize nodeSize
+    ∷ kind sectorPlace sectorSize sectorSize
+    ∷ []
 
--- a kind's size is the table's at its place
+-- a kind's sizes are the table's at its place
 abbrev agrees : KindRow → Bool
-agrees k = eqb (k .1) (recordSize (k .0))
+agrees k = eqb (k .1) (recordSize false (k .0)) && eqb (k .2) (recordSize true (k .0))
 
 -- every kind of a list does
 abbrev allAgree : List KindRow → Bool
