@@ -1,4 +1,4 @@
--- The references of a record to others: 23 to 27 (01, "References"). Assumes nothing.
+-- The references of a record to others: 23 to 27 (01, "References"). Linedefs are read by the map's game. Assumes nothing.
 use Prim.Native.Nat.{ℕ, _+_, _/_, _%_}
 use mathlib.Core.Bool.{Bool, not, _&&_, _||_}
 use mathlib.Core.List.{List}
@@ -29,31 +29,33 @@ linedefOk vertices sidedefs l =
     && (eqb (l .left) noSidedef || ltb (l .left) sidedefs) && not (twoSided (l .flags) && eqb (l .left) noSidedef)
 
 -- linedef `i` is there and has a left side
-abbrev pub leftOk : List ℕ → ℕ → Bool
-leftOk linedefs i = ltb i (length linedefs / linedefSize) && not (eqb (linedefOf (recordBytes linedefs linedefSize i) .left) noSidedef)
+abbrev pub leftOk : Bool → List ℕ → ℕ → Bool
+leftOk hexen linedefs i =
+    ltb i (length linedefs / linedefSize hexen)
+    && not (eqb (linedefOf hexen (recordBytes linedefs (linedefSize hexen) i) .left) noSidedef)
 
 -- both vertices and the linedef in range; direction 0, or 1 along a linedef with a left side
-abbrev pub segOk : List ℕ → ℕ → Seg → Bool
-segOk linedefs vertices s =
-    ltb (s .start) vertices && ltb (s .end) vertices && ltb (s .linedef) (length linedefs / linedefSize)
-    && (eqb (s .direction) 0 || (eqb (s .direction) 1 && leftOk linedefs (s .linedef)))
+abbrev pub segOk : Bool → List ℕ → ℕ → Seg → Bool
+segOk hexen linedefs vertices s =
+    ltb (s .start) vertices && ltb (s .end) vertices && ltb (s .linedef) (length linedefs / linedefSize hexen)
+    && (eqb (s .direction) 0 || (eqb (s .direction) 1 && leftOk hexen linedefs (s .linedef)))
 
 -- at least one seg, and none past the last of `segs`
 abbrev pub subsectorOk : ℕ → Subsector → Bool
 subsectorOk segs s = leb 1 (s .number) && leb (s .first + s .number) segs
 
 -- 23, of linedef `i`
-abbrev pub linedefCheck : List ℕ → ℕ → ℕ → ℕ → Check
-linedefCheck linedefs vertices sidedefs i =
-    unless (linedefOk vertices sidedefs (linedefOf (recordBytes linedefs linedefSize i))) (LinedefReference i)
+abbrev pub linedefCheck : Bool → List ℕ → ℕ → ℕ → ℕ → Check
+linedefCheck hexen linedefs vertices sidedefs i =
+    unless (linedefOk vertices sidedefs (linedefOf hexen (recordBytes linedefs (linedefSize hexen) i))) (LinedefReference i)
 
 -- 24, of sidedef `i`
 abbrev pub sidedefCheck : List ℕ → ℕ → ℕ → Check
 sidedefCheck sidedefs sectors i = unless (ltb (sidedefOf (recordBytes sidedefs sidedefSize i) .sector) sectors) (SidedefReference i)
 
 -- 25, of seg `i`
-abbrev pub segCheck : List ℕ → List ℕ → ℕ → ℕ → Check
-segCheck segs linedefs vertices i = unless (segOk linedefs vertices (segOf (recordBytes segs segSize i))) (SegReference i)
+abbrev pub segCheck : Bool → List ℕ → List ℕ → ℕ → ℕ → Check
+segCheck hexen segs linedefs vertices i = unless (segOk hexen linedefs vertices (segOf (recordBytes segs segSize i))) (SegReference i)
 
 -- 26, of subsector `i`
 abbrev pub subsectorCheck : List ℕ → ℕ → ℕ → Check

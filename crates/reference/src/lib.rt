@@ -29,10 +29,6 @@ const END: usize = 2;
 
 const FLAGS: usize = 4;
 
-const RIGHT: usize = 10;
-
-const LEFT: usize = 12;
-
 const SECTOR: usize = 28;
 
 const LINEDEF: usize = 6;
@@ -49,23 +45,24 @@ fn two_sided(flags: usize) -> bool
     flags / 4 % 2 == 1
 }
 
-fn linedef_ok(linedefs: &[u8], vertices: usize, sidedefs: usize, i: usize) -> bool
-    requires { ⌜ i < length (now linedefs) / linedefSize ⌝ }
-    ensures { λ r. ⌜ r ≡ linedefOk vertices sidedefs (linedefOf (recordBytes (now (linedefs .entry)) linedefSize i)) ⌝ }
+fn linedef_ok(hexen: bool, linedefs: &[u8], vertices: usize, sidedefs: usize, i: usize) -> bool
+    requires { ⌜ i < length (now linedefs) / linedefSize hexen ⌝ }
+    ensures { λ r. ⌜ r ≡ linedefOk vertices sidedefs (linedefOf hexen (recordBytes (now (linedefs .entry)) (linedefSize hexen) i)) ⌝ }
 {
-    let left = field(linedefs, Linedef::SIZE, i, LEFT);
-    (field(linedefs, Linedef::SIZE, i, START) < vertices)
-        & (field(linedefs, Linedef::SIZE, i, END) < vertices)
-        & (field(linedefs, Linedef::SIZE, i, RIGHT) < sidedefs)
+    let size = Linedef::size(hexen);
+    let left = field(linedefs, size, i, Linedef::left_place(hexen));
+    (field(linedefs, size, i, START) < vertices)
+        & (field(linedefs, size, i, END) < vertices)
+        & (field(linedefs, size, i, Linedef::right_place(hexen)) < sidedefs)
         & ((left == NO_SIDEDEF) | (left < sidedefs))
-        & !(two_sided(field(linedefs, Linedef::SIZE, i, FLAGS)) & (left == NO_SIDEDEF))
+        & !(two_sided(field(linedefs, size, i, FLAGS)) & (left == NO_SIDEDEF))
 }
 
-pub fn judge_linedefs(linedefs: &[u8], vertices: usize, sidedefs: usize) -> Check
-    ensures { λ r. ⌜ r ≡ each (linedefCheck (now (linedefs .entry)) vertices sidedefs) (length (now (linedefs .entry)) / linedefSize) ⌝ }
+pub fn judge_linedefs(hexen: bool, linedefs: &[u8], vertices: usize, sidedefs: usize) -> Check
+    ensures { λ r. ⌜ r ≡ each (linedefCheck hexen (now (linedefs .entry)) vertices sidedefs) (length (now (linedefs .entry)) / linedefSize hexen) ⌝ }
 {
-    for i in 0..linedefs.len() / Linedef::SIZE {
-        if !linedef_ok(linedefs, vertices, sidedefs, i) {
+    for i in 0..linedefs.len() / Linedef::size(hexen) {
+        if !linedef_ok(hexen, linedefs, vertices, sidedefs, i) {
             return Check::Refused(Refusal::LinedefReference(i));
         }
     }
@@ -90,32 +87,33 @@ pub fn judge_sidedefs(sidedefs: &[u8], sectors: usize) -> Check
     Check::Pass
 }
 
-fn left_ok(linedefs: &[u8], i: usize) -> bool
-    ensures { λ r. ⌜ r ≡ leftOk (now (linedefs .entry)) i ⌝ }
+fn left_ok(hexen: bool, linedefs: &[u8], i: usize) -> bool
+    ensures { λ r. ⌜ r ≡ leftOk hexen (now (linedefs .entry)) i ⌝ }
 {
-    if i < linedefs.len() / Linedef::SIZE {
-        return !(field(linedefs, Linedef::SIZE, i, LEFT) == NO_SIDEDEF);
+    let size = Linedef::size(hexen);
+    if i < linedefs.len() / size {
+        return !(field(linedefs, size, i, Linedef::left_place(hexen)) == NO_SIDEDEF);
     }
     false
 }
 
-fn seg_ok(segs: &[u8], linedefs: &[u8], vertices: usize, i: usize) -> bool
+fn seg_ok(hexen: bool, segs: &[u8], linedefs: &[u8], vertices: usize, i: usize) -> bool
     requires { ⌜ i < length (now segs) / segSize ⌝ }
-    ensures { λ r. ⌜ r ≡ segOk (now (linedefs .entry)) vertices (segOf (recordBytes (now (segs .entry)) segSize i)) ⌝ }
+    ensures { λ r. ⌜ r ≡ segOk hexen (now (linedefs .entry)) vertices (segOf (recordBytes (now (segs .entry)) segSize i)) ⌝ }
 {
     let linedef = field(segs, Seg::SIZE, i, LINEDEF);
     let direction = field(segs, Seg::SIZE, i, DIRECTION);
     (field(segs, Seg::SIZE, i, START) < vertices)
         & (field(segs, Seg::SIZE, i, END) < vertices)
-        & (linedef < linedefs.len() / Linedef::SIZE)
-        & ((direction == 0) | ((direction == 1) & left_ok(linedefs, linedef)))
+        & (linedef < linedefs.len() / Linedef::size(hexen))
+        & ((direction == 0) | ((direction == 1) & left_ok(hexen, linedefs, linedef)))
 }
 
-pub fn judge_segs(segs: &[u8], linedefs: &[u8], vertices: usize) -> Check
-    ensures { λ r. ⌜ r ≡ each (segCheck (now (segs .entry)) (now (linedefs .entry)) vertices) (length (now (segs .entry)) / segSize) ⌝ }
+pub fn judge_segs(hexen: bool, segs: &[u8], linedefs: &[u8], vertices: usize) -> Check
+    ensures { λ r. ⌜ r ≡ each (segCheck hexen (now (segs .entry)) (now (linedefs .entry)) vertices) (length (now (segs .entry)) / segSize) ⌝ }
 {
     for i in 0..segs.len() / Seg::SIZE {
-        if !seg_ok(segs, linedefs, vertices, i) {
+        if !seg_ok(hexen, segs, linedefs, vertices, i) {
             return Check::Refused(Refusal::SegReference(i));
         }
     }

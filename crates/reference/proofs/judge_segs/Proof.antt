@@ -10,10 +10,10 @@ use Rattle.reference.proofs.judge_segs.Statement.{statement}
 use Rattle.reference.proofs.judge_segs.Tie as tie
 
 abbrev Inv-loop : tie.InvT-loop
-Inv-loop segs linedefs vertices i₀ i-end i = Scanned (segCheck segs linedefs vertices) (length segs / 12) i-end i
+Inv-loop hexen segs linedefs vertices i₀ i-end i = Scanned (segCheck hexen segs linedefs vertices) (length segs / 12) i-end i
 
 abbrev μ-loop : tie.MeasureT-loop
-μ-loop segs linedefs vertices i₀ i-end i = i-end - i
+μ-loop hexen segs linedefs vertices i₀ i-end i = i-end - i
 
 pub judge-segs-spec : {M : Type 1} → statement M
 judge-segs-spec =
