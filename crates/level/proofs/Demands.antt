@@ -24,6 +24,7 @@ use Rattle.wad.specs.Entries.{directoryOf}
 use Rattle.wad.specs.Lump.{entrySize, entryOffset, lumpAt, entryAnswer, partOf}
 use Rattle.wad.specs.Map.{markerBy, markerAnswer}
 use Rattle.wad.proofs.Answers.{entry-at, handed-whole}
+use Rattle.record.specs.Linedefs.{linedefSize}
 use Rattle.built.specs.Subsectors.{subsectorSize}
 use Rattle.wad.proofs.Numbers.{marker-atMost}
 use Rattle.bsp.specs.declared.Graph.{Graph}
@@ -41,6 +42,7 @@ use Rattle.level.specs.declared.Verdict.the-variants.{Accepted, Refused 
 use Rattle.table.specs.Lumps.{LINEDEFS, SSECTORS, NODES, BLOCKMAP}
 use Rattle.level.specs.Lumps.{mapLumps, mapLump, recordCount}
 use Rattle.level.specs.Run.{runCheck}
+use Rattle.level.specs.Games.{gameAt}
 use Rattle.level.specs.Sizes.{sizesCheck}
 use Rattle.level.specs.References.{referencesCheck}
 use Rattle.level.specs.Verdict.{lumpsCheck, mapCheck, graphAnswer, judged, checkAt, nodesAt, subsectorsAt, verdictBy, verdict}
@@ -62,16 +64,17 @@ module _ (wad wad′ name words words′ : List ℕ) (same : SameMap wad wad′ 
     run-refused r e =
         let e′ : runCheck (directoryOf wad′) (entryCount (headOf wad′)) m ≡ Refused r =
         sym (λ i. runCheck (same .directory i) (entryCount (same .header i)) m) ∙ e in
-        ap (λ (c : Check). judged (c andThen lumpsCheck (mapLumps wad (directoryOf wad) m) (length words)) (graphVerdict (nodesAt wad m)) m) e
-        ∙ sym (ap (λ (c : Check). judged (c andThen lumpsCheck (mapLumps wad′ (directoryOf wad′) m) (length words′)) (graphVerdict (nodesAt wad′ m)) m) e′)
+        ap (λ (c : Check). judged (c andThen lumpsCheck (gameAt (directoryOf wad) (entryCount (headOf wad)) m) (mapLumps wad (directoryOf wad) m) (length words)) (graphVerdict (nodesAt wad m)) m) e
+        ∙ sym (ap (λ (c : Check). judged (c andThen lumpsCheck (gameAt (directoryOf wad′) (entryCount (headOf wad′)) m) (mapLumps wad′ (directoryOf wad′) m) (length words′)) (graphVerdict (nodesAt wad′ m)) m) e′)
 
     run-passed : MapAt wad name m → verdictBy wad words (Entry m) ≡ verdictBy wad′ words′ (Entry m)
     run-passed at =
         let dir = directoryOf wad in
         let lumps = mapLumps wad dir m in
+        let hexen = gameAt dir (entryCount (headOf wad)) m in
         let enough : Bool → Check = λ (b : Bool).
         runCheck dir (entryCount (headOf wad)) m
-        andThen (sizesCheck lumps andThen referencesCheck lumps andThen blockmapCheck (mapLump lumps BLOCKMAP) (recordCount lumps LINEDEFS) andThen unless b WorkWords) in
+        andThen (sizesCheck hexen lumps andThen referencesCheck hexen lumps andThen blockmapCheck (mapLump lumps BLOCKMAP) (recordCount lumps LINEDEFS (linedefSize hexen)) andThen unless b WorkWords) in
         ap (λ (b : Bool). judged (enough b) (graphVerdict (nodesAt wad m)) m) (short m at)
         ∙ (λ i.
         judged (mapCheck (same .directory i) (entryCount (same .header i)) m (same .lumps m at i) (length words′)) (graphVerdict (mapLump (same .lumps m at i) NODES)) m)
@@ -178,8 +181,9 @@ module _ (wad name words : List ℕ) where
   known-passed d m k =
       let dir = directoryOf wad in
       let lumps = mapLumps wad dir m in
-      let rest = andThen-pass (runCheck dir (entryCount (headOf wad)) m) (lumpsCheck lumps (length words)) (k .below .passes) .1 in
-      passed lumps (length words) rest
+      let hexen = gameAt dir (entryCount (headOf wad)) m in
+      let rest = andThen-pass (runCheck dir (entryCount (headOf wad)) m) (lumpsCheck hexen lumps (length words)) (k .below .passes) .1 in
+      passed hexen lumps (length words) rest
 
   one-more-of : (d m : ℕ) → Known d m → OneMore (nodesAt wad m)
   one-more-of d m k =

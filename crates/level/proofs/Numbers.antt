@@ -1,12 +1,12 @@
 -- Which numbers the checks of a map give: none above 30 before the node graph is judged. Assumes nothing.
 use Prim.Native.Nat.{ℕ, _+_, _*_, _≤_}
-use mathlib.Core.Bool.{Bool, not}
+use mathlib.Core.Bool.{Bool}
 use mathlib.Core.List.{List}
 use native.Mathlib.Omega.{arith}
 use lib.Dec.{leb, ltb, eqb}
 use lib.ListN.{length}
 use Rattle.refusal.specs.declared.Refusal.{Refusal}
-use Rattle.refusal.specs.declared.Refusal.the-variants.{MarkerRun, HexenMap, RecordSize, RecordCount, RejectLength, LinedefReference, SidedefReference, SegReference, SubsectorReference, NodeReference, Blockmap, WorkWords}
+use Rattle.refusal.specs.declared.Refusal.the-variants.{MarkerRun, RecordSize, RecordCount, RejectLength, LinedefReference, SidedefReference, SegReference, SubsectorReference, NodeReference, Blockmap, WorkWords}
 use Rattle.refusal.specs.Table.{numberOf}
 use Rattle.refusal.specs.Checks.{unless, each}
 use Rattle.refusal.proofs.Numbers.{AtMost, unless-atMost, andThen-atMost, each-atMost}
@@ -15,13 +15,17 @@ use Rattle.table.specs.Lumps.{lumpName, LINEDEFS, SIDEDEFS, VERTEXES, SEGS, SSE
 use Rattle.field.specs.Records.{recordBytes}
 use Rattle.record.specs.Linedefs.{linedefSize, linedefOf}
 use Rattle.record.specs.Sidedefs.{sidedefSize, sidedefOf}
+use Rattle.record.specs.Vertexes.{vertexSize}
 use Rattle.built.specs.Segs.{segSize, segOf}
 use Rattle.built.specs.Subsectors.{subsectorSize, subsectorOf}
+use Rattle.built.specs.Nodes.{nodeSize}
+use Rattle.record.specs.Sectors.{sectorSize}
 use Rattle.bsp.specs.Nodes.{nodeOk}
 use Rattle.reference.specs.References.{linedefOk, segOk, subsectorOk}
 use Rattle.blockmap.specs.Blockmap.{wordAt, cellsOf, headerOk, listOk, blockmapCheck}
 use Rattle.level.specs.Lumps.{mapLump, recordCount}
-use Rattle.level.specs.Run.{namedOk, behavior, runCheck}
+use Rattle.level.specs.Run.{namedOk, runCheck}
+use Rattle.level.specs.Games.{gameAt}
 use Rattle.level.specs.Sizes.{wholeOk, recordCountOk, rejectSize, sizeCheck, sizesCheck}
 use Rattle.level.specs.References.{linedefsCheck, sidedefsCheck, segsCheck, subsectorsCheck, nodesCheck, referencesCheck}
 use Rattle.level.specs.Verdict.{mapCheck}
@@ -34,30 +38,28 @@ tests ok r h n = each-atMost _ (λ i. unless-atMost (ok i) (r i) (h i)) n
 run : (dir : List ℕ) (count marker : ℕ) → AtMost 30 (runCheck dir count marker)
 run dir count marker =
     andThen-atMost _ _ (unless-atMost (eqb (entrySize dir marker) 0) (MarkerRun 0) (omega arith))
-    (andThen-atMost _ _
     (tests (λ i. namedOk dir count (marker + (i + 1)) (lumpName (i + 1))) (λ i. MarkerRun (i + 1)) (λ i. omega arith) 10)
-    (unless-atMost (not (namedOk dir count (marker + 11) behavior)) HexenMap (omega arith)))
 
-module _ (lumps : List (List ℕ)) where
-  sizes : AtMost 30 (sizesCheck lumps)
+module _ (hexen : Bool) (lumps : List (List ℕ)) where
+  sizes : AtMost 30 (sizesCheck hexen lumps)
   sizes =
       andThen-atMost _ _
-      (each-atMost (λ i. sizeCheck lumps (i + 1)) (λ i.
-      andThen-atMost _ _ (unless-atMost (wholeOk lumps (i + 1)) (RecordSize (i + 1)) (omega arith))
-      (unless-atMost (recordCountOk lumps (i + 1)) (RecordCount (i + 1)) (omega arith))) 8)
-      (unless-atMost (eqb (length (mapLump lumps REJECT)) (rejectSize (recordCount lumps SECTORS))) RejectLength (omega arith))
+      (each-atMost (λ i. sizeCheck hexen lumps (i + 1)) (λ i.
+      andThen-atMost _ _ (unless-atMost (wholeOk hexen lumps (i + 1)) (RecordSize (i + 1)) (omega arith))
+      (unless-atMost (recordCountOk hexen lumps (i + 1)) (RecordCount (i + 1)) (omega arith))) 8)
+      (unless-atMost (eqb (length (mapLump lumps REJECT)) (rejectSize (recordCount lumps SECTORS sectorSize))) RejectLength (omega arith))
 
-  references : AtMost 30 (referencesCheck lumps)
+  references : AtMost 30 (referencesCheck hexen lumps)
   references =
-      andThen-atMost (linedefsCheck lumps) _
-      (tests (λ i. linedefOk (recordCount lumps VERTEXES) (recordCount lumps SIDEDEFS) (linedefOf (recordBytes (mapLump lumps LINEDEFS) linedefSize i))) LinedefReference (λ i. omega arith) _)
+      andThen-atMost (linedefsCheck hexen lumps) _
+      (tests (λ i. linedefOk (recordCount lumps VERTEXES vertexSize) (recordCount lumps SIDEDEFS sidedefSize) (linedefOf hexen (recordBytes (mapLump lumps LINEDEFS) (linedefSize hexen) i))) LinedefReference (λ i. omega arith) _)
       (andThen-atMost (sidedefsCheck lumps) _
-      (tests (λ i. ltb (sidedefOf (recordBytes (mapLump lumps SIDEDEFS) sidedefSize i) .sector) (recordCount lumps SECTORS)) SidedefReference (λ i. omega arith) _)
-      (andThen-atMost (segsCheck lumps) _
-      (tests (λ i. segOk (mapLump lumps LINEDEFS) (recordCount lumps VERTEXES) (segOf (recordBytes (mapLump lumps SEGS) segSize i))) SegReference (λ i. omega arith) _)
+      (tests (λ i. ltb (sidedefOf (recordBytes (mapLump lumps SIDEDEFS) sidedefSize i) .sector) (recordCount lumps SECTORS sectorSize)) SidedefReference (λ i. omega arith) _)
+      (andThen-atMost (segsCheck hexen lumps) _
+      (tests (λ i. segOk hexen (mapLump lumps LINEDEFS) (recordCount lumps VERTEXES vertexSize) (segOf (recordBytes (mapLump lumps SEGS) segSize i))) SegReference (λ i. omega arith) _)
       (andThen-atMost (subsectorsCheck lumps) (nodesCheck lumps)
-      (tests (λ i. subsectorOk (recordCount lumps SEGS) (subsectorOf (recordBytes (mapLump lumps SSECTORS) subsectorSize i))) SubsectorReference (λ i. omega arith) _)
-      (tests (λ i. nodeOk (mapLump lumps NODES) (recordCount lumps SSECTORS) i) NodeReference (λ i. omega arith) _))))
+      (tests (λ i. subsectorOk (recordCount lumps SEGS segSize) (subsectorOf (recordBytes (mapLump lumps SSECTORS) subsectorSize i))) SubsectorReference (λ i. omega arith) _)
+      (tests (λ i. nodeOk (mapLump lumps NODES) (recordCount lumps SSECTORS subsectorSize) i) NodeReference (λ i. omega arith) _))))
 
 blockmaps : (lump : List ℕ) (linedefs : ℕ) → AtMost 30 (blockmapCheck lump linedefs)
 blockmaps lump linedefs =
@@ -68,8 +70,9 @@ blockmaps lump linedefs =
 pub map-atMost : (dir : List ℕ) (count marker : ℕ) (lumps : List (List ℕ)) (lent : ℕ)
     → AtMost 30 (mapCheck dir count marker lumps lent)
 map-atMost dir count marker lumps lent =
+    let hexen = gameAt dir count marker in
     andThen-atMost (runCheck dir count marker) _ (run dir count marker)
-    (andThen-atMost (sizesCheck lumps) _ (sizes lumps)
-    (andThen-atMost (referencesCheck lumps) _ (references lumps)
-    (andThen-atMost _ _ (blockmaps (mapLump lumps BLOCKMAP) (recordCount lumps LINEDEFS))
-    (unless-atMost (leb (4 * recordCount lumps NODES) lent) WorkWords (omega arith)))))
+    (andThen-atMost (sizesCheck hexen lumps) _ (sizes hexen lumps)
+    (andThen-atMost (referencesCheck hexen lumps) _ (references hexen lumps)
+    (andThen-atMost _ _ (blockmaps (mapLump lumps BLOCKMAP) (recordCount lumps LINEDEFS (linedefSize hexen)))
+    (unless-atMost (leb (4 * recordCount lumps NODES nodeSize) lent) WorkWords (omega arith)))))

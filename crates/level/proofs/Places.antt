@@ -1,5 +1,6 @@
 -- The lumps of a map and the table by places: what a loop over the places needs. Assumes nothing.
 use Prim.Native.Nat.{ℕ, zero, suc, _+_, _≤_, _<_}
+use mathlib.Core.Bool.{Bool, true, false}
 use mathlib.Core.List.{List}
 use mathlib.Core.Path.{_≡_, refl, ap, sym, _∙_}
 use native.Mathlib.Numerals.{add-one}
@@ -8,7 +9,10 @@ use Rattle.refusal.specs.declared.Check.{Check}
 use Rattle.refusal.specs.declared.Check.the-variants.{Pass}
 use Rattle.refusal.proofs.Checks.{each-pass}
 use Rattle.wad.specs.Lump.{lumpAt}
-use Rattle.table.specs.Lumps.{recordSize}
+use Rattle.built.specs.Subsectors.{subsectorSize}
+use Rattle.built.specs.Nodes.{nodeSize}
+use Rattle.record.specs.Sectors.{sectorSize}
+use Rattle.table.specs.Lumps.{recordSize, SSECTORS, NODES, SECTORS}
 use Rattle.level.specs.Lumps.{mapLumps, mapLump, eachPlace}
 
 module _ (P : ℕ → Type 0) (p1 : P 1) (p2 : P 2) (p3 : P 3) (p4 : P 4) (p5 : P 5) (p6 : P 6) (p7 : P 7) (p8 : P 8) (p9 : P 9) (p10 : P 10) where
@@ -34,13 +38,31 @@ mapLump-place wad dir marker =
     each-place (λ place. mapLump (mapLumps wad dir marker) place ≡ lumpAt wad dir (marker + place))
     refl refl refl refl refl refl refl refl refl refl
 
--- records have a size above 0
-pub recordSize-positive : (place : ℕ) → 1 ≤ place → place ≤ 8 → 0 < recordSize place
-recordSize-positive place low high =
-    each-place (λ (place : ℕ). place ≤ 8 → 0 < recordSize place)
+-- records have a size above 0, in both games
+pub recordSize-positive : (hexen : Bool) (place : ℕ) → 1 ≤ place → place ≤ 8 → 0 < recordSize hexen place
+recordSize-positive true place low high =
+    each-place (λ (place : ℕ). place ≤ 8 → 0 < recordSize true place)
     (λ h. omega arith) (λ h. omega arith) (λ h. omega arith) (λ h. omega arith) (λ h. omega arith)
     (λ h. omega arith) (λ h. omega arith) (λ h. omega arith) (λ h. omega arith) (λ h. omega arith)
     place low (omega arith) high
+recordSize-positive false place low high =
+    each-place (λ (place : ℕ). place ≤ 8 → 0 < recordSize false place)
+    (λ h. omega arith) (λ h. omega arith) (λ h. omega arith) (λ h. omega arith) (λ h. omega arith)
+    (λ h. omega arith) (λ h. omega arith) (λ h. omega arith) (λ h. omega arith) (λ h. omega arith)
+    place low (omega arith) high
+
+-- the records that the node graph and REJECT are about have one size
+pub subsectors-size : (hexen : Bool) → recordSize hexen SSECTORS ≡ subsectorSize
+subsectors-size true = refl
+subsectors-size false = refl
+
+pub nodes-size : (hexen : Bool) → recordSize hexen NODES ≡ nodeSize
+nodes-size true = refl
+nodes-size false = refl
+
+pub sectors-size : (hexen : Bool) → recordSize hexen SECTORS ≡ sectorSize
+sectors-size true = refl
+sectors-size false = refl
 
 -- a scan of the places that passes says that the check of each passes
 pub eachPlace-pass : (f : ℕ → Check) (n : ℕ) → eachPlace f n ≡ Pass → (place : ℕ) → 1 ≤ place → place ≤ n → f place ≡ Pass

@@ -3,6 +3,7 @@
 
 pub mod Lumps
 pub mod Run
+pub mod Games
 pub mod Sizes
 pub mod References
 pub mod Verdict

@@ -6,7 +6,7 @@ use lib.ListN.{length, getD}
 use Rattle.refusal.specs.declared.Check.{Check}
 use Rattle.refusal.specs.Checks.{each}
 use Rattle.wad.specs.Lump.{lumpAt}
-use Rattle.table.specs.Lumps.{recordSize, THINGS, LINEDEFS, SIDEDEFS, VERTEXES, SEGS, SSECTORS, NODES, SECTORS, REJECT, BLOCKMAP}
+use Rattle.table.specs.Lumps.{THINGS, LINEDEFS, SIDEDEFS, VERTEXES, SEGS, SSECTORS, NODES, SECTORS, REJECT, BLOCKMAP}
 
 -- all ten
 abbrev pub places : List ℕ
@@ -20,9 +20,9 @@ mapLumps wad dir marker = [] ∷ map (λ place. lumpAt wad dir (marker + place))
 abbrev pub mapLump : List (List ℕ) → ℕ → List ℕ
 mapLump lumps place = getD lumps place []
 
--- how many records it has
-abbrev pub recordCount : List (List ℕ) → ℕ → ℕ
-recordCount lumps place = length (mapLump lumps place) / recordSize place
+-- how many records of `size` bytes it has
+abbrev pub recordCount : List (List ℕ) → ℕ → ℕ → ℕ
+recordCount lumps place size = length (mapLump lumps place) / size
 
 -- the first refusal among the checks of places 1 to `n`, in turn
 abbrev pub eachPlace : (ℕ → Check) → ℕ → Check

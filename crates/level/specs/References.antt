@@ -1,36 +1,49 @@
 -- The references of a map's records to each other, over its lumps: 23 to 27 (01, "References"). Assumes nothing.
 use Prim.Native.Nat.{ℕ}
+use mathlib.Core.Bool.{Bool}
 use mathlib.Core.List.{List}
 use Rattle.refusal.specs.declared.Check.{Check}
 use Rattle.refusal.specs.Checks.{_andThen_, each}
+use Rattle.record.specs.Linedefs.{linedefSize}
+use Rattle.record.specs.Sidedefs.{sidedefSize}
+use Rattle.record.specs.Vertexes.{vertexSize}
+use Rattle.built.specs.Segs.{segSize}
+use Rattle.built.specs.Subsectors.{subsectorSize}
+use Rattle.built.specs.Nodes.{nodeSize}
+use Rattle.record.specs.Sectors.{sectorSize}
 use Rattle.reference.specs.References.{linedefCheck, sidedefCheck, segCheck, subsectorCheck, nodeCheck}
 use Rattle.table.specs.Lumps.{LINEDEFS, SIDEDEFS, VERTEXES, SEGS, SSECTORS, NODES, SECTORS}
 use Rattle.level.specs.Lumps.{mapLump, recordCount}
 
--- each over all records of its lump in turn
-abbrev pub linedefsCheck : List (List ℕ) → Check
-linedefsCheck lumps =
-    each (linedefCheck (mapLump lumps LINEDEFS) (recordCount lumps VERTEXES) (recordCount lumps SIDEDEFS))
-    (recordCount lumps LINEDEFS)
+-- each over all records of its lump in turn; linedefs by the game
+abbrev pub linedefsCheck : Bool → List (List ℕ) → Check
+linedefsCheck hexen lumps =
+    each
+    (linedefCheck hexen (mapLump lumps LINEDEFS) (recordCount lumps VERTEXES vertexSize) (recordCount lumps SIDEDEFS sidedefSize))
+    (recordCount lumps LINEDEFS (linedefSize hexen))
 
 abbrev pub sidedefsCheck : List (List ℕ) → Check
-sidedefsCheck lumps = each (sidedefCheck (mapLump lumps SIDEDEFS) (recordCount lumps SECTORS)) (recordCount lumps SIDEDEFS)
+sidedefsCheck lumps =
+    each (sidedefCheck (mapLump lumps SIDEDEFS) (recordCount lumps SECTORS sectorSize)) (recordCount lumps SIDEDEFS sidedefSize)
 
-abbrev pub segsCheck : List (List ℕ) → Check
-segsCheck lumps =
-    each (segCheck (mapLump lumps SEGS) (mapLump lumps LINEDEFS) (recordCount lumps VERTEXES)) (recordCount lumps SEGS)
+abbrev pub segsCheck : Bool → List (List ℕ) → Check
+segsCheck hexen lumps =
+    each (segCheck hexen (mapLump lumps SEGS) (mapLump lumps LINEDEFS) (recordCount lumps VERTEXES vertexSize))
+    (recordCount lumps SEGS segSize)
 
 abbrev pub subsectorsCheck : List (List ℕ) → Check
-subsectorsCheck lumps = each (subsectorCheck (mapLump lumps SSECTORS) (recordCount lumps SEGS)) (recordCount lumps SSECTORS)
+subsectorsCheck lumps =
+    each (subsectorCheck (mapLump lumps SSECTORS) (recordCount lumps SEGS segSize)) (recordCount lumps SSECTORS subsectorSize)
 
 abbrev pub nodesCheck : List (List ℕ) → Check
-nodesCheck lumps = each (nodeCheck (mapLump lumps NODES) (recordCount lumps SSECTORS)) (recordCount lumps NODES)
+nodesCheck lumps =
+    each (nodeCheck (mapLump lumps NODES) (recordCount lumps SSECTORS subsectorSize)) (recordCount lumps NODES nodeSize)
 
 -- 23 to 27
-abbrev pub referencesCheck : List (List ℕ) → Check
-referencesCheck lumps =
-    linedefsCheck lumps
+abbrev pub referencesCheck : Bool → List (List ℕ) → Check
+referencesCheck hexen lumps =
+    linedefsCheck hexen lumps
     andThen sidedefsCheck lumps
-    andThen segsCheck lumps
+    andThen segsCheck hexen lumps
     andThen subsectorsCheck lumps
     andThen nodesCheck lumps

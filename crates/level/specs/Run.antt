@@ -1,10 +1,10 @@
--- The marker and the ten names after it, and no Hexen map: 12 and 13 (01, "One map"). Assumes nothing.
+-- The marker and the ten names after it: 12 (01, "One map"). Assumes nothing.
 use Prim.Native.Nat.{ℕ, _+_}
-use mathlib.Core.Bool.{Bool, not, _&&_}
-use mathlib.Core.List.{List, [], _∷_}
+use mathlib.Core.Bool.{Bool, _&&_}
+use mathlib.Core.List.{List}
 use lib.Dec.{ltb, eqb}
 use Rattle.refusal.specs.declared.Check.{Check}
-use Rattle.refusal.specs.declared.Refusal.the-variants.{MarkerRun, HexenMap}
+use Rattle.refusal.specs.declared.Refusal.the-variants.{MarkerRun}
 use Rattle.refusal.specs.Checks.{unless, _andThen_}
 use Rattle.wad.specs.Entries.{entryName}
 use Rattle.wad.specs.Lump.{entrySize}
@@ -20,13 +20,7 @@ namedOk dir count i name = ltb i count && sameName (entryName dir i) name
 abbrev pub placeCheck : List ℕ → ℕ → ℕ → ℕ → Check
 placeCheck dir count marker place = unless (namedOk dir count (marker + place) (lumpName place)) (MarkerRun place)
 
--- BEHAVIOR, the lump that makes a Hexen map
-abbrev pub behavior : List ℕ
-behavior = 66 ∷ 69 ∷ 72 ∷ 65 ∷ 86 ∷ 73 ∷ 79 ∷ 82 ∷ []
-
--- 12 in place order, then 13
+-- 12 in place order
 abbrev pub runCheck : List ℕ → ℕ → ℕ → Check
 runCheck dir count marker =
-    unless (eqb (entrySize dir marker) 0) (MarkerRun 0)
-    andThen eachPlace (placeCheck dir count marker) 10
-    andThen unless (not (namedOk dir count (marker + 11) behavior)) HexenMap
+    unless (eqb (entrySize dir marker) 0) (MarkerRun 0) andThen eachPlace (placeCheck dir count marker) 10

@@ -1,6 +1,7 @@
 -- The verdict on a map, as the row of all checks in the order of 01's table, and what the lent work words hold afterwards.
 -- Assumes nothing.
 use Prim.Native.Nat.{ℕ, _*_}
+use mathlib.Core.Bool.{Bool}
 use mathlib.Core.List.{List}
 use mathlib.Core.Path.{_≡_}
 use lib.Dec.{leb}
@@ -22,27 +23,31 @@ use Rattle.graph.specs.Judging.{cleared}
 use Rattle.blockmap.specs.Blockmap.{blockmapCheck}
 use Rattle.level.specs.declared.Verdict.{Verdict}
 use Rattle.level.specs.declared.Verdict.the-variants.{Accepted, Refused as NotAccepted}
+use Rattle.record.specs.Linedefs.{linedefSize}
+use Rattle.built.specs.Subsectors.{subsectorSize}
+use Rattle.built.specs.Nodes.{nodeSize}
 use Rattle.table.specs.Lumps.{LINEDEFS, SSECTORS, NODES, BLOCKMAP}
 use Rattle.level.specs.Lumps.{mapLumps, mapLump, recordCount}
 use Rattle.level.specs.Run.{runCheck}
+use Rattle.level.specs.Games.{gameAt}
 use Rattle.level.specs.Sizes.{sizesCheck}
 use Rattle.level.specs.References.{referencesCheck}
 
 -- 30: fewer than four work words for each node
 abbrev pub workCheck : List (List ℕ) → ℕ → Check
-workCheck lumps lent = unless (leb (4 * recordCount lumps NODES) lent) WorkWords
+workCheck lumps lent = unless (leb (4 * recordCount lumps NODES nodeSize) lent) WorkWords
 
--- 20 to 30, which look at the map's own lumps and at how many words are lent, `lent`
-abbrev pub lumpsCheck : List (List ℕ) → ℕ → Check
-lumpsCheck lumps lent =
-    sizesCheck lumps
-    andThen referencesCheck lumps
-    andThen blockmapCheck (mapLump lumps BLOCKMAP) (recordCount lumps LINEDEFS)
+-- 20 to 30, which look at the map's game, its own lumps and how many words are lent, `lent`
+abbrev pub lumpsCheck : Bool → List (List ℕ) → ℕ → Check
+lumpsCheck hexen lumps lent =
+    sizesCheck hexen lumps
+    andThen referencesCheck hexen lumps
+    andThen blockmapCheck (mapLump lumps BLOCKMAP) (recordCount lumps LINEDEFS (linedefSize hexen))
     andThen workCheck lumps lent
 
 -- 12 to 30, of the map whose marker is entry `marker` of a directory of `count` entries
 abbrev pub mapCheck : List ℕ → ℕ → ℕ → List (List ℕ) → ℕ → Check
-mapCheck dir count marker lumps lent = runCheck dir count marker andThen lumpsCheck lumps lent
+mapCheck dir count marker lumps lent = runCheck dir count marker andThen lumpsCheck (gameAt dir count marker) lumps lent
 
 -- 31, 32, or accepted
 abbrev pub graphAnswer : Graph → ℕ → Verdict
@@ -70,7 +75,7 @@ abbrev pub nodesAt : List ℕ → ℕ → List ℕ
 nodesAt wad marker = mapLump (mapLumps wad (directoryOf wad) marker) NODES
 
 abbrev pub subsectorsAt : List ℕ → ℕ → ℕ
-subsectorsAt wad marker = recordCount (mapLumps wad (directoryOf wad) marker) SSECTORS
+subsectorsAt wad marker = recordCount (mapLumps wad (directoryOf wad) marker) SSECTORS subsectorSize
 
 -- 1 to 11 by the search for the marker, then the rest
 abbrev pub verdictBy : List ℕ → List ℕ → Marker → Verdict

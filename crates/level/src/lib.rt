@@ -13,6 +13,7 @@ ghost use Rattle.bsp.specs.Nodes.{nodesOf};
 ghost use Rattle.graph.specs.Judging.{Judgeable};
 ghost use Rattle.level.specs.Lumps.{mapLumps};
 ghost use Rattle.level.specs.Inner.{AnsweredAt, AnsweredBy};
+ghost use Rattle.level.specs.Games.{gameAnswer};
 ghost use Rattle.level.specs.Verdict.{mapCheck, Answered};
 use bsp::Graph;
 use built::Node;
@@ -24,6 +25,13 @@ use wad::Marker;
 pub enum Verdict {
     // the largest number of nodes on a route, and the marker's entry number
     Accepted { depth: usize, marker: usize },
+    Refused(Refusal),
+}
+
+// What is answered of a map's game.
+pub enum Game {
+    Doom,
+    Hexen,
     Refused(Refusal),
 }
 
@@ -62,7 +70,7 @@ fn judge_below(wad: &[u8], dir: &[u8], count: usize, marker: usize, words: usize
     if let Check::Refused(r) = run::judge_run(dir, count, marker) {
         return Check::Refused(r);
     }
-    lumps::check_lumps(wad, dir, marker, words)
+    lumps::check_lumps(run::game_at(dir, count, marker), wad, dir, marker, words)
 }
 
 // 31, 32, or accepted.
@@ -75,4 +83,21 @@ fn judge_graph(nodes: &[u8], marker: usize, words: &mut [u16]) -> Verdict
         Graph::HasShared => Verdict::Refused(Refusal::NodeShared),
         Graph::HasDepth(depth) => Verdict::Accepted { depth, marker },
     }
+}
+
+// The game of the map whose marker is an entry, 1 to 7. Nothing is asked of the entry itself.
+pub fn map_game(wad: &[u8], marker: usize) -> Game
+    ensures { λ r. ⌜ r ≡ gameAnswer (now (wad .entry)) marker ⌝ }
+{
+    if let Check::Refused(r) = wad::judge_file(wad) {
+        return Game::Refused(r);
+    }
+    let count = wad::entry_count(wad);
+    if count <= marker {
+        return Game::Refused(Refusal::EntryNumber);
+    }
+    if run::game_at(wad::directory_of(wad), count, marker) {
+        return Game::Hexen;
+    }
+    Game::Doom
 }

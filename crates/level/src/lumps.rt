@@ -3,6 +3,7 @@ ghost use mathlib.Core.Path.{_≡_};
 ghost use Prim.Native.Nat.{_+_, _*_, _≤_};
 ghost use lib.ListN.{length};
 ghost use Rattle.refusal.specs.declared.Check.the-variants.{Pass};
+ghost use Rattle.record.specs.Linedefs.{linedefSize};
 ghost use Rattle.table.specs.Lumps.{LINEDEFS, BLOCKMAP};
 ghost use Rattle.blockmap.specs.Blockmap.{blockmapCheck};
 ghost use Rattle.level.specs.Lumps.{mapLumps, mapLump, recordCount, eachPlace};
@@ -32,36 +33,37 @@ use table::BLOCKMAP;
 use table::REJECT;
 
 // 22. The counts have passed.
-fn check_reject(wad: &[u8], dir: &[u8], marker: usize) -> Check
+fn check_reject(hexen: bool, wad: &[u8], dir: &[u8], marker: usize) -> Check
     requires { ⌜ 16 * (marker + 11) ≤ length (now dir) ⌝ }
-    requires { ⌜ eachPlace (sizeCheck (mapLumps (now wad) (now dir) marker)) 8 ≡ Pass ⌝ }
+    requires { ⌜ eachPlace (sizeCheck hexen (mapLumps (now wad) (now dir) marker)) 8 ≡ Pass ⌝ }
     ensures { λ r. ⌜ r ≡ rejectCheck (mapLumps (now (wad .entry)) (now (dir .entry)) marker) ⌝ }
 {
     judge_reject(
         map_lump(wad, dir, marker, REJECT).len(),
-        record_count(wad, dir, marker, Sector::PLACE),
+        record_count(wad, dir, marker, Sector::PLACE, Sector::SIZE),
     )
 }
 
 // 20 to 22.
-fn check_sizes(wad: &[u8], dir: &[u8], marker: usize) -> Check
+fn check_sizes(hexen: bool, wad: &[u8], dir: &[u8], marker: usize) -> Check
     requires { ⌜ 16 * (marker + 11) ≤ length (now dir) ⌝ }
-    ensures { λ r. ⌜ r ≡ sizesCheck (mapLumps (now (wad .entry)) (now (dir .entry)) marker) ⌝ }
+    ensures { λ r. ⌜ r ≡ sizesCheck hexen (mapLumps (now (wad .entry)) (now (dir .entry)) marker) ⌝ }
 {
-    if let Check::Refused(r) = judge_sizes(wad, dir, marker) {
+    if let Check::Refused(r) = judge_sizes(hexen, wad, dir, marker) {
         return Check::Refused(r);
     }
-    check_reject(wad, dir, marker)
+    check_reject(hexen, wad, dir, marker)
 }
 
-fn check_linedefs(wad: &[u8], dir: &[u8], marker: usize) -> Check
+fn check_linedefs(hexen: bool, wad: &[u8], dir: &[u8], marker: usize) -> Check
     requires { ⌜ 16 * (marker + 11) ≤ length (now dir) ⌝ }
-    ensures { λ r. ⌜ r ≡ linedefsCheck (mapLumps (now (wad .entry)) (now (dir .entry)) marker) ⌝ }
+    ensures { λ r. ⌜ r ≡ linedefsCheck hexen (mapLumps (now (wad .entry)) (now (dir .entry)) marker) ⌝ }
 {
     judge_linedefs(
+        hexen,
         map_lump(wad, dir, marker, Linedef::PLACE),
-        record_count(wad, dir, marker, Vertex::PLACE),
-        record_count(wad, dir, marker, Sidedef::PLACE),
+        record_count(wad, dir, marker, Vertex::PLACE, Vertex::SIZE),
+        record_count(wad, dir, marker, Sidedef::PLACE, Sidedef::SIZE),
     )
 }
 
@@ -71,18 +73,19 @@ fn check_sidedefs(wad: &[u8], dir: &[u8], marker: usize) -> Check
 {
     judge_sidedefs(
         map_lump(wad, dir, marker, Sidedef::PLACE),
-        record_count(wad, dir, marker, Sector::PLACE),
+        record_count(wad, dir, marker, Sector::PLACE, Sector::SIZE),
     )
 }
 
-fn check_segs(wad: &[u8], dir: &[u8], marker: usize) -> Check
+fn check_segs(hexen: bool, wad: &[u8], dir: &[u8], marker: usize) -> Check
     requires { ⌜ 16 * (marker + 11) ≤ length (now dir) ⌝ }
-    ensures { λ r. ⌜ r ≡ segsCheck (mapLumps (now (wad .entry)) (now (dir .entry)) marker) ⌝ }
+    ensures { λ r. ⌜ r ≡ segsCheck hexen (mapLumps (now (wad .entry)) (now (dir .entry)) marker) ⌝ }
 {
     judge_segs(
+        hexen,
         map_lump(wad, dir, marker, Seg::PLACE),
         map_lump(wad, dir, marker, Linedef::PLACE),
-        record_count(wad, dir, marker, Vertex::PLACE),
+        record_count(wad, dir, marker, Vertex::PLACE, Vertex::SIZE),
     )
 }
 
@@ -92,7 +95,7 @@ fn check_subsectors(wad: &[u8], dir: &[u8], marker: usize) -> Check
 {
     judge_subsectors(
         map_lump(wad, dir, marker, Subsector::PLACE),
-        record_count(wad, dir, marker, Seg::PLACE),
+        record_count(wad, dir, marker, Seg::PLACE, Seg::SIZE),
     )
 }
 
@@ -102,22 +105,22 @@ fn check_nodes(wad: &[u8], dir: &[u8], marker: usize) -> Check
 {
     judge_nodes(
         map_lump(wad, dir, marker, Node::PLACE),
-        record_count(wad, dir, marker, Subsector::PLACE),
+        record_count(wad, dir, marker, Subsector::PLACE, Subsector::SIZE),
     )
 }
 
 // 23 to 27.
-fn check_references(wad: &[u8], dir: &[u8], marker: usize) -> Check
+fn check_references(hexen: bool, wad: &[u8], dir: &[u8], marker: usize) -> Check
     requires { ⌜ 16 * (marker + 11) ≤ length (now dir) ⌝ }
-    ensures { λ r. ⌜ r ≡ referencesCheck (mapLumps (now (wad .entry)) (now (dir .entry)) marker) ⌝ }
+    ensures { λ r. ⌜ r ≡ referencesCheck hexen (mapLumps (now (wad .entry)) (now (dir .entry)) marker) ⌝ }
 {
-    if let Check::Refused(r) = check_linedefs(wad, dir, marker) {
+    if let Check::Refused(r) = check_linedefs(hexen, wad, dir, marker) {
         return Check::Refused(r);
     }
     if let Check::Refused(r) = check_sidedefs(wad, dir, marker) {
         return Check::Refused(r);
     }
-    if let Check::Refused(r) = check_segs(wad, dir, marker) {
+    if let Check::Refused(r) = check_segs(hexen, wad, dir, marker) {
         return Check::Refused(r);
     }
     if let Check::Refused(r) = check_subsectors(wad, dir, marker) {
@@ -127,13 +130,13 @@ fn check_references(wad: &[u8], dir: &[u8], marker: usize) -> Check
 }
 
 // 28.
-fn check_blockmap(wad: &[u8], dir: &[u8], marker: usize) -> Check
+fn check_blockmap(hexen: bool, wad: &[u8], dir: &[u8], marker: usize) -> Check
     requires { ⌜ 16 * (marker + 11) ≤ length (now dir) ⌝ }
-    ensures { λ r. ⌜ r ≡ blockmapCheck (mapLump (mapLumps (now (wad .entry)) (now (dir .entry)) marker) BLOCKMAP) (recordCount (mapLumps (now (wad .entry)) (now (dir .entry)) marker) LINEDEFS) ⌝ }
+    ensures { λ r. ⌜ r ≡ blockmapCheck (mapLump (mapLumps (now (wad .entry)) (now (dir .entry)) marker) BLOCKMAP) (recordCount (mapLumps (now (wad .entry)) (now (dir .entry)) marker) LINEDEFS (linedefSize hexen)) ⌝ }
 {
     judge_blockmap(
         map_lump(wad, dir, marker, BLOCKMAP),
-        record_count(wad, dir, marker, Linedef::PLACE),
+        record_count(wad, dir, marker, Linedef::PLACE, Linedef::size(hexen)),
     )
 }
 
@@ -143,23 +146,23 @@ fn check_work(wad: &[u8], dir: &[u8], marker: usize, words: usize) -> Check
     ensures { λ r. ⌜ r ≡ workCheck (mapLumps (now (wad .entry)) (now (dir .entry)) marker) words ⌝ }
 {
     refusal::pass_if(
-        record_count(wad, dir, marker, Node::PLACE) <= words / 4,
+        record_count(wad, dir, marker, Node::PLACE, Node::SIZE) <= words / 4,
         Refusal::WorkWords,
     )
 }
 
 // 20 to 30.
-pub fn check_lumps(wad: &[u8], dir: &[u8], marker: usize, words: usize) -> Check
+pub fn check_lumps(hexen: bool, wad: &[u8], dir: &[u8], marker: usize, words: usize) -> Check
     requires { ⌜ 16 * (marker + 11) ≤ length (now dir) ⌝ }
-    ensures { λ r. ⌜ r ≡ lumpsCheck (mapLumps (now (wad .entry)) (now (dir .entry)) marker) words ⌝ }
+    ensures { λ r. ⌜ r ≡ lumpsCheck hexen (mapLumps (now (wad .entry)) (now (dir .entry)) marker) words ⌝ }
 {
-    if let Check::Refused(r) = check_sizes(wad, dir, marker) {
+    if let Check::Refused(r) = check_sizes(hexen, wad, dir, marker) {
         return Check::Refused(r);
     }
-    if let Check::Refused(r) = check_references(wad, dir, marker) {
+    if let Check::Refused(r) = check_references(hexen, wad, dir, marker) {
         return Check::Refused(r);
     }
-    if let Check::Refused(r) = check_blockmap(wad, dir, marker) {
+    if let Check::Refused(r) = check_blockmap(hexen, wad, dir, marker) {
         return Check::Refused(r);
     }
     check_work(wad, dir, marker, words)

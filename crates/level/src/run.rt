@@ -1,9 +1,10 @@
-// The marker and the ten names after it: refusals 12 and 13.
+// The marker and the ten names after it, refusal 12, and the game by the name after these.
 ghost use mathlib.Core.Path.{_≡_};
 ghost use Prim.Native.Nat.{_+_, _*_, _<_, _≤_};
 ghost use lib.ListN.{length};
 ghost use Rattle.level.specs.Lumps.{eachPlace};
 ghost use Rattle.level.specs.Run.{namedOk, placeCheck, runCheck};
+ghost use Rattle.level.specs.Games.{gameAt};
 use refusal::Check;
 use refusal::Refusal;
 
@@ -40,18 +41,22 @@ fn judge_places(dir: &[u8], count: usize, marker: usize) -> Check
     Check::Pass
 }
 
-// 12 in place order, then 13.
+// 12 in place order.
 pub fn judge_run(dir: &[u8], count: usize, marker: usize) -> Check
     requires { ⌜ (16 * count ≤ length (now dir)) × (marker < count) ⌝ }
     ensures { λ r. ⌜ r ≡ runCheck (now (dir .entry)) count marker ⌝ }
 {
     let empty = wad::entry_size(dir, marker) == 0;
-    let hexen = named_ok(dir, count, marker + 11, b"BEHAVIOR");
     refusal::then(
         refusal::pass_if(empty, Refusal::MarkerRun(0)),
-        refusal::then(
-            judge_places(dir, count, marker),
-            refusal::pass_if(!hexen, Refusal::HexenMap),
-        ),
+        judge_places(dir, count, marker),
     )
+}
+
+// The map's game: whether the eleventh entry after the marker is BEHAVIOR.
+pub fn game_at(dir: &[u8], count: usize, marker: usize) -> bool
+    requires { ⌜ (16 * count ≤ length (now dir)) × (marker < count) ⌝ }
+    ensures { λ r. ⌜ r ≡ gameAt (now (dir .entry)) count marker ⌝ }
+{
+    named_ok(dir, count, marker + 11, b"BEHAVIOR")
 }

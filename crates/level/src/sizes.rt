@@ -1,4 +1,4 @@
-// Sizes and counts of the eight lumps of records, and the length of REJECT: refusals 20 to 22.
+// Sizes and counts of the eight lumps of records, by the game, and the length of REJECT: refusals 20 to 22.
 ghost use mathlib.Core.Path.{_≡_};
 ghost use Prim.Native.Nat.{_+_, _*_, _/_, _<_, _≤_};
 ghost use lib.ListN.{length};
@@ -20,19 +20,19 @@ pub fn map_lump<'a>(wad: &'a [u8], dir: &[u8], marker: usize, place: usize) -> &
     wad::lump_at(wad, dir, marker + place)
 }
 
-// How many records the lump at a place has.
-pub fn record_count(wad: &[u8], dir: &[u8], marker: usize, place: usize) -> usize
-    requires { ⌜ (16 * (marker + 11) ≤ length (now dir)) × (1 ≤ place) × (place ≤ 8) ⌝ }
-    ensures { λ r. ⌜ r ≡ recordCount (mapLumps (now (wad .entry)) (now (dir .entry)) marker) place ⌝ }
+// How many records of a size the lump at a place has.
+pub fn record_count(wad: &[u8], dir: &[u8], marker: usize, place: usize, size: usize) -> usize
+    requires { ⌜ (16 * (marker + 11) ≤ length (now dir)) × (1 ≤ place) × (place ≤ 10) × (0 < size) ⌝ }
+    ensures { λ r. ⌜ r ≡ recordCount (mapLumps (now (wad .entry)) (now (dir .entry)) marker) place size ⌝ }
 {
-    map_lump(wad, dir, marker, place).len() / table::record_size(place)
+    map_lump(wad, dir, marker, place).len() / size
 }
 
-fn whole_ok(wad: &[u8], dir: &[u8], marker: usize, place: usize) -> bool
+fn whole_ok(hexen: bool, wad: &[u8], dir: &[u8], marker: usize, place: usize) -> bool
     requires { ⌜ (16 * (marker + 11) ≤ length (now dir)) × (1 ≤ place) × (place ≤ 8) ⌝ }
-    ensures { λ r. ⌜ r ≡ wholeOk (mapLumps (now (wad .entry)) (now (dir .entry)) marker) place ⌝ }
+    ensures { λ r. ⌜ r ≡ wholeOk hexen (mapLumps (now (wad .entry)) (now (dir .entry)) marker) place ⌝ }
 {
-    map_lump(wad, dir, marker, place).len() % table::record_size(place) == 0
+    map_lump(wad, dir, marker, place).len() % table::record_size(hexen, place) == 0
 }
 
 // Without nodes the count of subsectors must be 1.
@@ -41,42 +41,42 @@ fn alone_ok(wad: &[u8], dir: &[u8], marker: usize, place: usize) -> bool
     ensures { λ r. ⌜ r ≡ aloneOk (mapLumps (now (wad .entry)) (now (dir .entry)) marker) place ⌝ }
 {
     !(place == Node::PLACE)
-        | (0 < record_count(wad, dir, marker, Node::PLACE))
-        | (record_count(wad, dir, marker, Subsector::PLACE) == 1)
+        | (0 < record_count(wad, dir, marker, Node::PLACE, Node::SIZE))
+        | (record_count(wad, dir, marker, Subsector::PLACE, Subsector::SIZE) == 1)
 }
 
-fn record_count_ok(wad: &[u8], dir: &[u8], marker: usize, place: usize) -> bool
+fn record_count_ok(hexen: bool, wad: &[u8], dir: &[u8], marker: usize, place: usize) -> bool
     requires { ⌜ (16 * (marker + 11) ≤ length (now dir)) × (1 ≤ place) × (place ≤ 8) ⌝ }
-    ensures { λ r. ⌜ r ≡ recordCountOk (mapLumps (now (wad .entry)) (now (dir .entry)) marker) place ⌝ }
+    ensures { λ r. ⌜ r ≡ recordCountOk hexen (mapLumps (now (wad .entry)) (now (dir .entry)) marker) place ⌝ }
 {
-    let count = record_count(wad, dir, marker, place);
+    let count = record_count(wad, dir, marker, place, table::record_size(hexen, place));
     (table::least_count(place) <= count)
         & (count <= table::most_count(place))
         & alone_ok(wad, dir, marker, place)
 }
 
-fn judge_size(wad: &[u8], dir: &[u8], marker: usize, place: usize) -> Check
+fn judge_size(hexen: bool, wad: &[u8], dir: &[u8], marker: usize, place: usize) -> Check
     requires { ⌜ (16 * (marker + 11) ≤ length (now dir)) × (1 ≤ place) × (place ≤ 8) ⌝ }
-    ensures { λ r. ⌜ r ≡ sizeCheck (mapLumps (now (wad .entry)) (now (dir .entry)) marker) place ⌝ }
+    ensures { λ r. ⌜ r ≡ sizeCheck hexen (mapLumps (now (wad .entry)) (now (dir .entry)) marker) place ⌝ }
 {
     let whole = refusal::pass_if(
-        whole_ok(wad, dir, marker, place),
+        whole_ok(hexen, wad, dir, marker, place),
         Refusal::RecordSize(place),
     );
     let count = refusal::pass_if(
-        record_count_ok(wad, dir, marker, place),
+        record_count_ok(hexen, wad, dir, marker, place),
         Refusal::RecordCount(place),
     );
     refusal::then(whole, count)
 }
 
-// 20 and 21, lump by lump.
-pub fn judge_sizes(wad: &[u8], dir: &[u8], marker: usize) -> Check
+// 20 and 21, lump by lump, by the game's sizes.
+pub fn judge_sizes(hexen: bool, wad: &[u8], dir: &[u8], marker: usize) -> Check
     requires { ⌜ 16 * (marker + 11) ≤ length (now dir) ⌝ }
-    ensures { λ r. ⌜ r ≡ eachPlace (sizeCheck (mapLumps (now (wad .entry)) (now (dir .entry)) marker)) 8 ⌝ }
+    ensures { λ r. ⌜ r ≡ eachPlace (sizeCheck hexen (mapLumps (now (wad .entry)) (now (dir .entry)) marker)) 8 ⌝ }
 {
     for i in 0..8 {
-        if let Check::Refused(r) = judge_size(wad, dir, marker, i + 1) {
+        if let Check::Refused(r) = judge_size(hexen, wad, dir, marker, i + 1) {
             return Check::Refused(r);
         }
     }

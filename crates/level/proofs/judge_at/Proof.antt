@@ -15,6 +15,7 @@ use Rattle.bsp.specs.Nodes.{nodesOf}
 use Rattle.graph.specs.Judging.{Judgeable}
 use Rattle.level.specs.Lumps.{mapLumps, mapLump}
 use Rattle.level.specs.Run.{runCheck}
+use Rattle.level.specs.Games.{gameAt}
 use Rattle.level.specs.Verdict.{lumpsCheck, mapCheck, checkAt, nodesAt}
 use Rattle.level.specs.Inner.{AnsweredBy}
 use Rattle.level.proofs.Passing.{run-long, judgeable}
@@ -84,8 +85,9 @@ judge-graph-requires c κs =
     let dir = directoryOf (now (e .args .wad)) in
     let lumps = mapLumps (now (e .args .wad)) dir (e .args .marker) in
     let run = runCheck dir (entryCount (headOf (now (e .args .wad)))) (e .args .marker) in
-    let below31 = andThen-pass run (lumpsCheck lumps (length words)) (passes (r .before)) .1 in
-    subst⁻¹ (λ (l : List ℕ). Judgeable l (nodesOf l) words) (nodes r) (judgeable lumps (length words) below31 words refl)
+    let hexen = gameAt dir (entryCount (headOf (now (e .args .wad)))) (e .args .marker) in
+    let below31 = andThen-pass run (lumpsCheck hexen lumps (length words)) (passes (r .before)) .1 in
+    subst⁻¹ (λ (l : List ℕ). Judgeable l (nodesOf l) words) (nodes r) (judgeable hexen lumps (length words) below31 words refl)
 
 returns-2 : tie.Need-returns-2
 returns-2 c =

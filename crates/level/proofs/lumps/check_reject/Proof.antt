@@ -3,6 +3,7 @@ use native.Mathlib.Omega.{arith}
 use denote.Ref.{now}
 use Rattle.table.specs.Lumps.{SECTORS}
 use Rattle.level.specs.Lumps.{mapLumps}
+use Rattle.level.proofs.Places.{sectors-size}
 use Rattle.level.proofs.Passing.{count-most}
 use borrow.Author.Needs.{needs}
 use Rattle.level.proofs.lumps.check_reject.Statement.{statement}
@@ -12,7 +13,7 @@ judge-reject-requires : tie.Need-judge-reject-requires
 judge-reject-requires c κs =
     let e = c .before .before .before .before in
     let lumps = mapLumps (now (e .args .wad)) (now (e .args .dir)) (e .args .marker) in
-    rw (c .record-count .ensures) (count-most lumps (e .pre .1) SECTORS (omega arith) (omega arith))
+    rw (c .record-count .ensures) (count-most (e .args .hexen) lumps (e .pre .1) SECTORS (omega arith) (omega arith) (sectors-size (e .args .hexen)))
 
 returns : tie.Need-returns
 returns c =

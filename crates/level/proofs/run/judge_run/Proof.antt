@@ -6,18 +6,13 @@ use Rattle.level.proofs.run.judge_run.Tie as tie
 returns : tie.Need-returns
 returns c =
     rw (
-      c .then2 .ensures,
-      c .before .then .ensures,
-      c .before .before .pass-if2 .ensures,
-      c .before .before .before .judge-places .ensures,
-      c .before .before .before .before .pass-if .ensures,
-      c .before .before .before .before .before .named-ok .ensures,
-      c .before .before .before .before .before .before .before .entry-size .ensures .0,
+      c .then .ensures,
+      c .before .judge-places .ensures,
+      c .before .before .pass-if .ensures,
+      c .before .before .before .entry-size .ensures .0,
     )
 
 pub judge-run-spec : {M : Type 1} → statement M
 judge-run-spec =
     tie.close
-    (tie.spec (λ c κs. search needs) (λ c. search needs) (λ c. search needs) (λ c κs. search needs)
-    (λ c κs. search needs) (λ c κs. search needs) (λ c κs. search needs) (λ c κs. search needs)
-    (λ c κs. search needs) returns)
+    (tie.spec (λ c κs. search needs) (λ c κs. search needs) (λ c κs. search needs) (λ c κs. search needs) returns)

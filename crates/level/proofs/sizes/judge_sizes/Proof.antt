@@ -9,10 +9,10 @@ use Rattle.level.proofs.sizes.judge_sizes.Statement.{statement}
 use Rattle.level.proofs.sizes.judge_sizes.Tie as tie
 
 abbrev Inv-loop : tie.InvT-loop
-Inv-loop wad dir marker i₀ i = Scanned (λ j. sizeCheck (mapLumps wad dir marker) (j + 1)) 8 8 i
+Inv-loop hexen wad dir marker i₀ i = Scanned (λ j. sizeCheck hexen (mapLumps wad dir marker) (j + 1)) 8 8 i
 
 abbrev μ-loop : tie.MeasureT-loop
-μ-loop wad dir marker i₀ i = 8 - i
+μ-loop hexen wad dir marker i₀ i = 8 - i
 
 returns : tie.Need-returns Inv-loop μ-loop
 returns c =

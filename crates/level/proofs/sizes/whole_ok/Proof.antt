@@ -5,7 +5,7 @@ use Rattle.level.proofs.sizes.whole_ok.Statement.{statement}
 use Rattle.level.proofs.sizes.whole_ok.Tie as tie
 
 rem-result : tie.Need-rem-result
-rem-result c = rw (c .record-size .ensures) (recordSize-positive _ (c .before .before .before .before .pre .1) (c .before .before .before .before .pre .2))
+rem-result c = rw (c .record-size .ensures) (recordSize-positive (c .before .before .before .before .args .hexen) _ (c .before .before .before .before .pre .1) (c .before .before .before .before .pre .2))
 
 returns : tie.Need-returns
 returns c = rw (c .record-size .ensures, c .before .map-lump .ensures)
