@@ -1,8 +1,9 @@
 -- Answers on a map's records. Assumes nothing.
 use Prim.Native.Nat.{ℕ}
+use mathlib.Core.Bool.{Bool, cond}
 use mathlib.Core.List.{List}
 use mathlib.Core.Path.{_≡_}
-use Rattle.field.specs.Records.{insideCheck, replaced}
+use Rattle.field.specs.Records.{insideCheck, replaced, goodCheck}
 use Rattle.record.specs.declared.thing.ThingRead.{ThingRead}
 use Rattle.meshpigeon.specs.declared.records.ThingAnswer.{ThingAnswer}
 use Rattle.record.specs.declared.linedef.LinedefRead.{LinedefRead}
@@ -26,6 +27,11 @@ use Rattle.meshpigeon.specs.Status.{statusOf}
 pub record RecordWritten (lump : List ℕ) (size index : ℕ) (bytes : List ℕ) (answer : Status) (left : List ℕ) : Type 0 where
   pub answers : answer ≡ statusOf (insideCheck lump size index)
   pub leaves : left ≡ replaced lump size index bytes
+
+-- the same of a record that is written only where its fields are `good`
+pub record RecordWrittenIf (good : Bool) (lump : List ℕ) (size index : ℕ) (bytes : List ℕ) (answer : Status) (left : List ℕ) : Type 0 where
+  pub answers : answer ≡ statusOf (goodCheck good lump size index)
+  pub leaves : left ≡ cond good (replaced lump size index bytes) lump
 
 -- a record that was read, all 0 where refused
 abbrev pub thingOut : ThingRead → ThingAnswer

@@ -1,11 +1,13 @@
-// A map, and a point's descent.
+// A map, its game, and a point's descent.
 ghost use mathlib.Core.Path.{_≡_};
 ghost use Rattle.bsp.specs.Walks.{descent};
-ghost use Rattle.meshpigeon.specs.Maps.{MapJudged, descentOut};
+ghost use Rattle.level.specs.Games.{gameAnswer};
+ghost use Rattle.meshpigeon.specs.Maps.{MapJudged, gameOut, descentOut};
 use crate::status::Status;
 use crate::status::nothing_refused;
 use crate::status::refused;
 use bsp::Descent;
+use level::Game;
 use level::Verdict;
 
 #[repr(C)]
@@ -13,6 +15,12 @@ pub struct MapAnswer {
     pub status: Status,
     pub depth: usize,
     pub marker: usize,
+}
+
+#[repr(C)]
+pub struct GameAnswer {
+    pub status: Status,
+    pub hexen: bool,
 }
 
 #[repr(C)]
@@ -37,6 +45,27 @@ pub extern "C" fn meshpigeon_judge_map(wad: &[u8], name: &[u8], words: &mut [u16
             status: refused(r),
             depth: 0,
             marker: 0,
+        },
+    }
+}
+
+// The game of a map by its marker's entry number, 1 to 7: Hexen exactly if the eleventh entry after it is BEHAVIOR.
+#[no_mangle]
+pub extern "C" fn meshpigeon_map_game(wad: &[u8], marker: usize) -> GameAnswer
+    ensures { λ r. ⌜ r ≡ gameOut (gameAnswer (now (wad .entry)) marker) ⌝ }
+{
+    match level::map_game(wad, marker) {
+        Game::Doom => GameAnswer {
+            status: nothing_refused(),
+            hexen: false,
+        },
+        Game::Hexen => GameAnswer {
+            status: nothing_refused(),
+            hexen: true,
+        },
+        Game::Refused(r) => GameAnswer {
+            status: refused(r),
+            hexen: false,
         },
     }
 }

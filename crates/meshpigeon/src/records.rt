@@ -1,14 +1,15 @@
-// The eight kinds of map record, read and written by number: 60.
+// The eight kinds of map record, read and written by number: 60. Things and linedefs are read by their game, and say which
+// they are of; a write of one may be refused 61.
 ghost use mathlib.Core.Path.{_≡_};
-ghost use Rattle.record.specs.Things.{thingSize, thingAt, thingBytes};
-ghost use Rattle.record.specs.Linedefs.{linedefSize, linedefAt, linedefBytes};
+ghost use Rattle.record.specs.Things.{thingSize, thingAt, thingFieldsOk, thingBytes};
+ghost use Rattle.record.specs.Linedefs.{linedefSize, linedefAt, linedefFieldsOk, linedefBytes};
 ghost use Rattle.record.specs.Sidedefs.{sidedefSize, sidedefAt, sidedefBytes};
 ghost use Rattle.record.specs.Vertexes.{vertexSize, vertexAt, vertexBytes};
 ghost use Rattle.built.specs.Segs.{segSize, segAt, segBytes};
 ghost use Rattle.built.specs.Subsectors.{subsectorSize, subsectorAt, subsectorBytes};
 ghost use Rattle.built.specs.Nodes.{nodeSize, nodeAt, nodeBytes};
 ghost use Rattle.record.specs.Sectors.{sectorSize, sectorAt, sectorBytes};
-ghost use Rattle.meshpigeon.specs.Records.{RecordWritten, thingOut, linedefOut, sidedefOut, vertexOut, segOut, subsectorOut, nodeOut, sectorOut};
+ghost use Rattle.meshpigeon.specs.Records.{RecordWritten, RecordWrittenIf, thingOut, linedefOut, sidedefOut, vertexOut, segOut, subsectorOut, nodeOut, sectorOut};
 use crate::status::Status;
 use crate::status::status_of;
 use built::Node;
@@ -28,10 +29,10 @@ pub struct ThingAnswer {
 
 // Record `index` of THINGS.
 #[no_mangle]
-pub extern "C" fn meshpigeon_read_thing(lump: &[u8], index: usize) -> ThingAnswer
-    ensures { λ r. ⌜ r ≡ thingOut (thingAt (now (lump .entry)) index) ⌝ }
+pub extern "C" fn meshpigeon_read_thing(lump: &[u8], index: usize, hexen: bool) -> ThingAnswer
+    ensures { λ r. ⌜ r ≡ thingOut (thingAt hexen (now (lump .entry)) index) ⌝ }
 {
-    let read = Thing::read(lump, index);
+    let read = Thing::read(lump, index, hexen);
     let check = read.check;
     let thing = read.thing;
     ThingAnswer {
@@ -40,10 +41,10 @@ pub extern "C" fn meshpigeon_read_thing(lump: &[u8], index: usize) -> ThingAnswe
     }
 }
 
-// Record `index` of THINGS replaced.
+// Record `index` of THINGS of its game replaced.
 #[no_mangle]
 pub extern "C" fn meshpigeon_write_thing(lump: &mut [u8], index: usize, thing: Thing) -> Status
-    ensures { λ r. ⌜ RecordWritten (now (lump .entry)) thingSize index (thingBytes thing) r (now (lump .exit)) ⌝ }
+    ensures { λ r. ⌜ RecordWrittenIf (thingFieldsOk thing) (now (lump .entry)) (thingSize (thing .hexen)) index (thingBytes (thing .hexen) thing) r (now (lump .exit)) ⌝ }
 {
     status_of(Thing::write(lump, index, thing))
 }
@@ -56,10 +57,10 @@ pub struct LinedefAnswer {
 
 // Record `index` of LINEDEFS.
 #[no_mangle]
-pub extern "C" fn meshpigeon_read_linedef(lump: &[u8], index: usize) -> LinedefAnswer
-    ensures { λ r. ⌜ r ≡ linedefOut (linedefAt (now (lump .entry)) index) ⌝ }
+pub extern "C" fn meshpigeon_read_linedef(lump: &[u8], index: usize, hexen: bool) -> LinedefAnswer
+    ensures { λ r. ⌜ r ≡ linedefOut (linedefAt hexen (now (lump .entry)) index) ⌝ }
 {
-    let read = Linedef::read(lump, index);
+    let read = Linedef::read(lump, index, hexen);
     let check = read.check;
     let linedef = read.linedef;
     LinedefAnswer {
@@ -68,14 +69,14 @@ pub extern "C" fn meshpigeon_read_linedef(lump: &[u8], index: usize) -> LinedefA
     }
 }
 
-// Record `index` of LINEDEFS replaced.
+// Record `index` of LINEDEFS of its game replaced.
 #[no_mangle]
 pub extern "C" fn meshpigeon_write_linedef(
     lump: &mut [u8],
     index: usize,
     linedef: Linedef,
 ) -> Status
-    ensures { λ r. ⌜ RecordWritten (now (lump .entry)) linedefSize index (linedefBytes linedef) r (now (lump .exit)) ⌝ }
+    ensures { λ r. ⌜ RecordWrittenIf (linedefFieldsOk linedef) (now (lump .entry)) (linedefSize (linedef .hexen)) index (linedefBytes (linedef .hexen) linedef) r (now (lump .exit)) ⌝ }
 {
     status_of(Linedef::write(lump, index, linedef))
 }

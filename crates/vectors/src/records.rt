@@ -27,9 +27,9 @@ fn ask(kind: usize, lump: &mut [u8], i: usize, new: &[u8]) -> Status {
 
 fn thing(lump: &mut [u8], i: usize, new: &[u8]) -> Status {
     if new.len() == record::Thing::SIZE {
-        return records::meshpigeon_write_thing(lump, i, record::Thing::parse(new));
+        return records::meshpigeon_write_thing(lump, i, record::Thing::parse(new, false));
     }
-    let a = records::meshpigeon_read_thing(lump, i);
+    let a = records::meshpigeon_read_thing(lump, i, false);
     print::signed(&[a.thing.x, a.thing.y]);
     print::words(&[a.thing.angle, a.thing.kind, a.thing.flags]);
     a.status
@@ -37,9 +37,9 @@ fn thing(lump: &mut [u8], i: usize, new: &[u8]) -> Status {
 
 fn linedef(lump: &mut [u8], i: usize, new: &[u8]) -> Status {
     if new.len() == record::Linedef::SIZE {
-        return records::meshpigeon_write_linedef(lump, i, record::Linedef::parse(new));
+        return records::meshpigeon_write_linedef(lump, i, record::Linedef::parse(new, false));
     }
-    let a = records::meshpigeon_read_linedef(lump, i);
+    let a = records::meshpigeon_read_linedef(lump, i, false);
     let l = a.linedef;
     print::words(&[l.start, l.end, l.flags, l.special, l.tag, l.right, l.left]);
     a.status
