@@ -1,6 +1,6 @@
--- The examples of 01, "Examples", (a) to (l), and of W-214, of the definitions. The proof is proofs/Examples.antt. Assumes nothing.
-use Prim.Native.Nat.{ℕ, zero, suc, _+_, _*_, _/_, _%_, _≤_}
-use mathlib.Core.Bool.{true, false}
+-- The examples of 01, "Examples", (a) to (l), of W-205 and of W-214, of the definitions. The proof is proofs/Examples.antt. Assumes nothing.
+use Prim.Native.Nat.{ℕ, zero, suc, _+_, _-_, _*_, _/_, _%_, _≤_}
+use mathlib.Core.Bool.{Bool, true, false}
 use mathlib.Core.List.{List, [], _∷_, _++_}
 use mathlib.Core.Path.{_≡_}
 use lib.IntN.{ℤ, pos, negsuc, _-ℤ_, _*ℤ_}
@@ -18,13 +18,15 @@ use Rattle.bsp.specs.Nodes.{subsectorBit, isNode, childOk}
 use Rattle.bsp.specs.Heights.{graphVerdict}
 use Rattle.bsp.specs.Side.{side}
 use Rattle.bsp.specs.Walks.{descent}
+use Rattle.level.specs.Games.{behavior, gameAnswer}
 use Rattle.level.specs.Verdict.{verdict}
 use Rattle.level.specs.Sizes.{rejectSize}
 use Rattle.blockmap.specs.Blockmap.{linedefsNamed, listOk}
 use Rattle.canvas.specs.Buffers.{paintCheck}
 use Rattle.canvas.specs.Pixels.{planeOf, byColour, byCover}
 use Rattle.meshpigeon.specs.declared.maps.MapAnswer.{MapAnswer}
-use Rattle.meshpigeon.specs.Maps.{mapOut}
+use Rattle.meshpigeon.specs.declared.maps.GameAnswer.{GameAnswer}
+use Rattle.meshpigeon.specs.Maps.{mapOut, gameOut}
 
 -- (b)'s bytes, and the letters D E M O 1
 abbrev demo1 : List ℕ
@@ -56,21 +58,29 @@ abbrev ssectors : ℕ → List ℕ
 ssectors zero = []
 ssectors (suc n) = u16Bytes 1 ++ u16Bytes 0 ++ ssectors n
 
--- the smallest map with so many subsectors and these nodes, whole: one linedef, sidedef, vertex, seg and sector, and one empty
--- cell. NODES begins at byte `at`, and ends at byte `end`
-abbrev mapOf : ℕ → List ℕ → List ℕ
-mapOf subsectors nodes =
-    let at = 72 + 4 * subsectors in
+-- the smallest map with so many subsectors and these nodes, whole: one linedef of `size` bytes, one sidedef, vertex, seg and
+-- sector, and one empty cell; `more` are entries after its own. NODES begins at byte `at`, and ends at byte `end`
+abbrev mapWith : ℕ → List ℕ → ℕ → List ℕ → List ℕ
+mapWith size more subsectors nodes =
+    let at = 58 + size + 4 * subsectors in
     let end = at + length nodes in
-    (80 ∷ 87 ∷ 65 ∷ 68 ∷ []) ++ u32Bytes 11 ++ u32Bytes (end + 41)
-    ++ replicate 12 0 ++ u16Bytes 65535
+    (80 ∷ 87 ∷ 65 ∷ 68 ∷ []) ++ u32Bytes (11 + length more / 16) ++ u32Bytes (end + 41)
+    ++ replicate (size - 2) 0 ++ u16Bytes 65535
     ++ replicate 30 0 ++ replicate 4 0 ++ replicate 12 0
     ++ ssectors subsectors
     ++ nodes ++ replicate 26 0 ++ replicate 1 0
     ++ u16Bytes 0 ++ u16Bytes 0 ++ u16Bytes 1 ++ u16Bytes 1 ++ u16Bytes 5 ++ u16Bytes 0 ++ u16Bytes 65535
-    ++ u32Bytes 0 ++ u32Bytes 0 ++ map01 ++ entry THINGS 0 0 ++ entry LINEDEFS 12 14 ++ entry SIDEDEFS 26 30
-    ++ entry VERTEXES 56 4 ++ entry SEGS 60 12 ++ entry SSECTORS 72 (4 * subsectors) ++ entry NODES at (length nodes)
-    ++ entry SECTORS end 26 ++ entry REJECT (end + 26) 1 ++ entry BLOCKMAP (end + 27) 14
+    ++ u32Bytes 0 ++ u32Bytes 0 ++ map01 ++ entry THINGS 0 0 ++ entry LINEDEFS 12 size ++ entry SIDEDEFS (12 + size) 30
+    ++ entry VERTEXES (42 + size) 4 ++ entry SEGS (46 + size) 12 ++ entry SSECTORS (58 + size) (4 * subsectors)
+    ++ entry NODES at (length nodes) ++ entry SECTORS end 26 ++ entry REJECT (end + 26) 1 ++ entry BLOCKMAP (end + 27) 14
+    ++ more
+
+-- Doom's, and an entry that makes it Hexen's
+abbrev mapOf : ℕ → List ℕ → List ℕ
+mapOf subsectors nodes = mapWith 14 [] subsectors nodes
+
+abbrev behaviorEntry : List ℕ
+behaviorEntry = u32Bytes 0 ++ u32Bytes 0 ++ behavior
 
 -- what the map check answers a caller on that map
 abbrev mapJudged : ℕ → List ℕ → List ℕ → MapAnswer
@@ -97,6 +107,16 @@ twoNodes = node 0 0x8000 ++ node 0x8000 0x8001
 
 abbrev threeNodes : List ℕ
 threeNodes = node 1 0x8002 ++ node 0x8000 0x8001 ++ node 0 0x8003
+
+-- W-205: on a map of two subsectors and one node, with four words
+abbrev judgedWith : ℕ → List ℕ → MapAnswer
+judgedWith size more = mapOut (verdict (mapWith size more 2 oneNode) map01 (replicate 4 7))
+
+abbrev gameWith : ℕ → List ℕ → ℕ → GameAnswer
+gameWith size more marker = gameOut (gameAnswer (mapWith size more 2 oneNode) marker)
+
+abbrev gameIs : Bool → GameAnswer
+gameIs hexen = record { status = record { number = 0; place = 0; «record» = 0 }; hexen = hexen }
 
 -- a BLOCKMAP of two cells, whose lists are `0 65535` at word 6 and `0 330 331 333 65535` at word 8
 abbrev blockmap : List ℕ
@@ -167,6 +187,16 @@ pub record Examples : Type 0 where
   pub l-accepted : paintCheck picture 3 3 ≡ Pass
   pub l-colour : planeOf byColour picture ≡ 0 ∷ 7 ∷ 0 ∷ []
   pub l-cover : planeOf byCover picture ≡ 0 ∷ 1 ∷ 0 ∷ []
+  -- W-205: with BEHAVIOR after the ten a linedef has 16 bytes, without it 14; either map is accepted with the depth of its nodes
+  pub hexen-accepted : judgedWith 16 behaviorEntry ≡ acceptedAt 1
+  pub hexen-size : judgedWith 14 behaviorEntry ≡ refusedAs 20 2
+  pub doom-accepted : judgedWith 14 [] ≡ acceptedAt 1
+  pub doom-size : judgedWith 16 [] ≡ refusedAs 20 2
+  -- the game is told by the marker's entry alone, whatever the lumps hold; the entry after the marker has no eleventh one
+  pub game-hexen : gameWith 14 behaviorEntry 0 ≡ gameIs true
+  pub game-doom : gameWith 16 [] 0 ≡ gameIs false
+  pub game-later : gameWith 16 behaviorEntry 1 ≡ gameIs false
+  pub game-past : gameWith 16 behaviorEntry 12 ≡ record { status = record { number = 7; place = 0; «record» = 0 }; hexen = false }
   -- W-214: lines up, down, to the east and to the west; points on either side of each and on it, wherever along it
   pub up : (y : ℤ) → byUpright y (pos 64) ≡ Left ∷ Left ∷ Right ∷ []
   pub down : (y : ℤ) → byUpright y (negsuc 63) ≡ Right ∷ Right ∷ Left ∷ []
