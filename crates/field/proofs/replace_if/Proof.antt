@@ -1,5 +1,5 @@
 -- `field::replace_if` meets its contract, by whether the fields are good. Assumes nothing.
-use mathlib.Core.Path.{_≡_, sym, ap, _∙_}
+use mathlib.Core.Path.{_∙_}
 use borrow.Author.Needs.{needs}
 use Rattle.refusal.proofs.Checks.{before-pass}
 use Rattle.field.proofs.replace_if.Statement.{statement}

@@ -1,5 +1,4 @@
 -- `record::linedef::Linedef::parse` meets its contract, by the game. Assumes nolinedef.
-use borrow.Author.Needs.{needs}
 use Rattle.record.proofs.linedef.Linedef.parse.Statement.{statement}
 use Rattle.record.proofs.linedef.Linedef.parse.Tie as tie
 

@@ -1,5 +1,4 @@
 -- `record::thing::Thing::parse` meets its contract, by the game. Assumes nothing.
-use borrow.Author.Needs.{needs}
 use Rattle.record.proofs.thing.Thing.parse.Statement.{statement}
 use Rattle.record.proofs.thing.Thing.parse.Tie as tie
 
