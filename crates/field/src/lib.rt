@@ -2,7 +2,7 @@
 // are no single numbers. specs/ has the definitions.
 ghost use mathlib.Core.Path.{_≡_};
 ghost use Prim.Native.Nat.{_+_, _≤_, _<_, _/_};
-ghost use lib.ListN.{length, set};
+ghost use lib.ListN.{length, take, set};
 ghost use lib.Seq.{paste};
 ghost use Rattle.field.specs.Fields.{nameAt, fourAt, putFour, argsAt, argsZero, putAction};
 ghost use Rattle.field.specs.Records.{insideCheck, bytesOr, Written, WrittenIf};
@@ -17,16 +17,16 @@ pub fn inside_check(lump: &[u8], size: usize, index: usize) -> Check
     refusal::pass_if(index < lump.len() / size, Refusal::RecordBounds)
 }
 
-// The record's bytes, or the zeros that the caller gives where it is not wholly inside.
+// The record's bytes, or as many of the zeros that the caller gives where it is not wholly inside.
 pub fn bytes_or_zeros<'a>(lump: &'a [u8], size: usize, index: usize, zeros: &'a [u8]) -> &'a [u8]
-    requires { ⌜ (0 < size) × (length (now zeros) ≡ size) ⌝ }
-    ensures { λ r. ⌜ (length (now r) ≡ size) × (now r ≡ bytesOr (now (lump .entry)) size index (now (zeros .entry))) ⌝ }
+    requires { ⌜ (0 < size) × (size ≤ length (now zeros)) ⌝ }
+    ensures { λ r. ⌜ (length (now r) ≡ size) × (now r ≡ bytesOr (now (lump .entry)) size index (take size (now (zeros .entry)))) ⌝ }
 {
     if index < lump.len() / size {
         let at = size * index;
         return &lump[at..at + size];
     }
-    zeros
+    &zeros[0..size]
 }
 
 // The record's bytes replaced, or 60 and nothing written.

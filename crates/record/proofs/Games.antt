@@ -1,44 +1,27 @@
--- What holds of a record's size in both games, which reading by the game relies on. Assumes nothing.
+-- Sizes by the game, of which Hexen's is never the smaller: what reading by the game relies on, said once of every such pair,
+-- and where a linedef's fields stand. Assumes nothing.
 use Prim.Native.Nat.{ℕ, _+_, _≤_, _<_}
-use mathlib.Core.Bool.{Bool, true, false, _&&_}
-use mathlib.Core.Path.{_≡_, refl}
+use mathlib.Core.Bool.{Bool, true, false, _&&_, cond}
+use native.Mathlib.Nat.{le-refl}
 use native.Mathlib.Omega.{arith}
-use lib.ListN.{take, replicate}
-use Rattle.record.specs.Things.{thingSize}
 use Rattle.record.specs.Linedefs.{linedefSize, rightPlace, leftPlace}
 
-pub thing-positive : (hexen : Bool) → 0 < thingSize hexen
-thing-positive true = omega arith
-thing-positive false = omega arith
+module _ (doom hexen : ℕ) (some : 0 < doom) (less : doom ≤ hexen) where
+  pub size-positive : (game : Bool) → 0 < cond game hexen doom
+  size-positive true = omega arith
+  size-positive false = some
 
-pub thing-most : (hexen : Bool) → thingSize hexen ≤ 20
-thing-most true = omega arith
-thing-most false = omega arith
+  pub size-most : (game : Bool) → cond game hexen doom ≤ hexen
+  size-most true = le-refl hexen
+  size-most false = less
 
--- a record that is not there is read as Doom's
-pub thing-less : (hexen found : Bool) → thingSize (hexen && found) ≤ thingSize hexen
-thing-less true found = thing-most found
-thing-less false found = omega arith
-
-pub thing-zeros : (hexen : Bool) → take {A = ℕ} (thingSize hexen) (replicate 20 0) ≡ replicate (thingSize hexen) 0
-thing-zeros true = refl
-thing-zeros false = refl
+  -- a record that is not there is read as Doom's
+  pub size-found : (game found : Bool) → cond (game && found) hexen doom ≤ cond game hexen doom
+  size-found true found = size-most found
+  size-found false found = le-refl doom
 
 pub linedef-positive : (hexen : Bool) → 0 < linedefSize hexen
-linedef-positive true = omega arith
-linedef-positive false = omega arith
-
-pub linedef-most : (hexen : Bool) → linedefSize hexen ≤ 16
-linedef-most true = omega arith
-linedef-most false = omega arith
-
-pub linedef-less : (hexen found : Bool) → linedefSize (hexen && found) ≤ linedefSize hexen
-linedef-less true found = linedef-most found
-linedef-less false found = omega arith
-
-pub linedef-zeros : (hexen : Bool) → take {A = ℕ} (linedefSize hexen) (replicate 16 0) ≡ replicate (linedefSize hexen) 0
-linedef-zeros true = refl
-linedef-zeros false = refl
+linedef-positive = size-positive 14 16 (omega arith) (omega arith)
 
 -- its fields lie inside it
 pub linedef-right : (hexen : Bool) → rightPlace hexen + 1 < linedefSize hexen

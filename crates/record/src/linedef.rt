@@ -165,7 +165,7 @@ impl Linedef {
         LinedefRead {
             check: field::inside_check(lump, size, index),
             linedef: Linedef::parse(
-                field::bytes_or_zeros(lump, size, index, &zeros[0..size]),
+                field::bytes_or_zeros(lump, size, index, &zeros),
                 hexen & found,
             ),
         }

@@ -149,7 +149,7 @@ impl Thing {
         ThingRead {
             check: field::inside_check(lump, size, index),
             thing: Thing::parse(
-                field::bytes_or_zeros(lump, size, index, &zeros[0..size]),
+                field::bytes_or_zeros(lump, size, index, &zeros),
                 hexen & found,
             ),
         }

@@ -36,10 +36,13 @@ returns c =
     rw e (length-take-le (a .size) (drop n (now (a .lump))) l, simp (lt-ltb _ _ (c .before .if1 .taken)))
 
 returns-2 : tie.Need-returns-2
-returns-2 c = (search needs, simp (le-ltb _ _ (c .if1 .left)))
+returns-2 c =
+    let e = c .before .before in
+    let all : e .args .size - 0 ≡ e .args .size = omega arith in
+    rw all (length-take-le (e .args .size) (now (e .args .zeros)) (e .pre .1), simp (le-ltb _ _ (c .before .if1 .left)))
 
 pub bytes-or-zeros-spec : {M : Type 1} → statement M
 bytes-or-zeros-spec =
     tie.close
     (tie.spec (λ c. search needs) mul-at add-result (λ c. search needs) (λ c. search needs)
-    part-result-end returns returns-2)
+    part-result-end returns (λ c. search needs) (λ c. search needs) (λ c. search needs) returns-2)
