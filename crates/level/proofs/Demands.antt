@@ -1,10 +1,11 @@
--- Demand 2's frame and demand 3. The frame is a matter of rewriting, since the definitions take only what they may depend
+-- Demand 2's frame, demand 3 and W-205's game. The frame is a matter of rewriting, since the definitions take only what they may depend
 -- on; demand 3 is the node graph's theorems, carried to the verdict. Assumes nothing.
 use Prim.Native.Nat.{ℕ, _+_, _/_, _≤_, _<_}
 use mathlib.Core.Bool.{Bool}
 use mathlib.Core.List.{List}
 use mathlib.Core.Path.{_≡_, refl, sym, ap, _∙_, subst}
 use native.Mathlib.Omega.{arith}
+use borrow.Author.Tests.{lt-ltb}
 use lib.IntN.{ℤ}
 use lib.ListN.{length}
 use Rattle.refusal.specs.declared.Refusal.{Refusal}
@@ -46,9 +47,9 @@ use Rattle.level.specs.Games.{gameAt}
 use Rattle.level.specs.Sizes.{sizesCheck}
 use Rattle.level.specs.References.{referencesCheck}
 use Rattle.level.specs.Verdict.{lumpsCheck, mapCheck, graphAnswer, judged, checkAt, nodesAt, subsectorsAt, verdictBy, verdict}
-use Rattle.level.specs.Demands.{MapAt, SameMap, SameShortage, Frame, Below31, HandedOver, Demand3}
+use Rattle.level.specs.Demands.{MapAt, SameMap, SameShortage, Frame, Below31, HandedOver, Demand3, GameTold}
 use Rattle.level.proofs.Passing.{run-long, passed}
-use Rattle.level.proofs.Answers.{marker-known}
+use Rattle.level.proofs.Answers.{marker-known, game-by}
 use Rattle.level.proofs.Numbers.{map-atMost}
 
 -- ---- demand 2
@@ -239,3 +240,10 @@ module _ (wad name words : List ℕ) where
             let k = known d m e in
             descent-holds (nodesAt wad m) (subsectorsAt wad m) (known-passed d m k) d (k .deep) x y;
       }
+
+-- ---- W-205
+
+pub game-told : GameTold
+game-told wad name words d m e =
+    let p = marker-known wad name (known wad name words d m e .below .marks) in
+    sym (game-by wad m (p .0) (lt-ltb m (entryCount (headOf wad)) (p .1)) refl)

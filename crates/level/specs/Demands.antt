@@ -1,4 +1,4 @@
--- Demand 2's frame and demand 3, of any file, any asked name, any work words and any point. The proofs are in
+-- Demand 2's frame, demand 3, and W-205's game, of any file, any asked name, any work words and any point. The proofs are in
 -- proofs/Demands.antt. Assumes nothing.
 use Prim.Native.Nat.{ℕ, _+_, _*_, _/_}
 use mathlib.Core.List.{List}
@@ -24,6 +24,7 @@ use Rattle.bsp.specs.Promises.{Descends}
 use Rattle.level.specs.declared.Verdict.the-variants.{Accepted, Refused}
 use Rattle.level.specs.Lumps.{mapLumps}
 use Rattle.level.specs.Run.{runCheck}
+use Rattle.level.specs.Games.{gameAt, gameBy, gameAnswer}
 use Rattle.level.specs.Verdict.{checkAt, nodesAt, subsectorsAt, verdict}
 
 -- ---- demand 2: what alters a verdict
@@ -97,3 +98,11 @@ pub record Demand3 (wad name words : List ℕ) : Type 0 where
   -- on every accepted map every point's descent is not refused, and is its plain walk, with a count of at most the depth
   pub descends : (depth marker : ℕ) → verdict wad name words ≡ Accepted depth marker
       → (x y : ℤ) → Descends (nodesAt wad marker) (subsectorsAt wad marker) x y depth
+
+-- ---- W-205: the game
+
+-- the game that is told of an accepted map, by its marker, is the one that it was judged by
+abbrev pub GameTold : Type 0
+GameTold =
+    (wad name words : List ℕ) (depth marker : ℕ) → verdict wad name words ≡ Accepted depth marker
+    → gameAnswer wad marker ≡ gameBy Pass (gameAt (directoryOf wad) (entryCount (headOf wad)) marker)
