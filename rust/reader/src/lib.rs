@@ -19,6 +19,7 @@
 mod blockmap;
 mod bytes;
 mod descent;
+mod game;
 mod graph;
 mod map;
 mod picture;
@@ -28,9 +29,10 @@ mod refusal;
 mod wad;
 
 pub use descent::{descend, Found};
-pub use map::{judge_map, reject_size, Accepted};
+pub use game::{Linedef, Thing};
+pub use map::{judge_map, map_game, reject_size, Accepted};
 pub use picture::{judge_picture, paint_picture, Picture};
-pub use record::{Linedef, Node, Sector, Seg, Sidedef, Subsector, Thing, Vertex};
+pub use record::{Node, Sector, Seg, Sidedef, Subsector, Vertex};
 pub use refusal::Refusal;
 pub use wad::{directory, entry, find_map, is_map_name, is_name, lump, name_of, Directory, Search};
 

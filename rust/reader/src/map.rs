@@ -1,7 +1,8 @@
 //! The map check: the marker's run of lumps, their sizes, and then everything inside them.
 
-use crate::wad::{entries, find_marker, Directory, Entry};
+use crate::wad::{self, entries, find_marker, Directory, Entry};
 use crate::{blockmap, graph, reference, Refusal};
+use std::ops::RangeInclusive;
 
 /// A map that passed every check.
 #[derive(Clone, Copy, Debug, PartialEq, Eq)]
@@ -15,33 +16,50 @@ pub struct Accepted {
 /// A row of the table of map lumps.
 struct Row {
     name: &'static [u8],
-    /// Bytes of a record, with the least and the largest count; `None` for REJECT and BLOCKMAP.
-    records: Option<(usize, usize, usize)>,
+    /// The records' rule; `None` for REJECT and BLOCKMAP.
+    records: Option<Records>,
 }
 
-const fn row(name: &'static [u8], size: usize, least: usize, most: usize) -> Row {
-    Row { name, records: Some((size, least, most)) }
+/// Bytes of a record, in Doom and in Hexen, with the least and the largest count.
+struct Records {
+    sizes: [usize; 2],
+    counts: RangeInclusive<usize>,
+}
+
+impl Records {
+    fn size(&self, hexen: bool) -> usize {
+        self.sizes[usize::from(hexen)]
+    }
+}
+
+const fn row(name: &'static [u8], sizes: [usize; 2], counts: RangeInclusive<usize>) -> Row {
+    Row { name, records: Some(Records { sizes, counts }) }
 }
 
 /// Places 1 to 10.
 const TABLE: [Row; 10] = [
-    row(b"THINGS", 10, 0, 65_535),
-    row(b"LINEDEFS", 14, 1, 65_535),
-    row(b"SIDEDEFS", 30, 1, 65_535),
-    row(b"VERTEXES", 4, 1, 65_535),
-    row(b"SEGS", 12, 1, 65_535),
-    row(b"SSECTORS", 4, 1, 32_767),
-    row(b"NODES", 28, 0, 32_767),
-    row(b"SECTORS", 26, 1, 65_535),
+    row(b"THINGS", [10, 20], 0..=65_535),
+    row(b"LINEDEFS", [14, 16], 1..=65_535),
+    row(b"SIDEDEFS", [30; 2], 1..=65_535),
+    row(b"VERTEXES", [4; 2], 1..=65_535),
+    row(b"SEGS", [12; 2], 1..=65_535),
+    row(b"SSECTORS", [4; 2], 1..=32_767),
+    row(b"NODES", [28; 2], 0..=32_767),
+    row(b"SECTORS", [26; 2], 1..=65_535),
     Row { name: b"REJECT", records: None },
     Row { name: b"BLOCKMAP", records: None },
 ];
 
-const HEXEN: &[u8] = b"BEHAVIOR";
+/// The lump behind the ten that makes a Hexen map.
+const BEHAVIOR: &[u8] = b"BEHAVIOR";
+/// How far it stands behind the marker.
+const BEHAVIOR_PLACE: usize = 11;
 
 /// The ten lumps of a map, in place order.
 pub(crate) struct Lumps<'a> {
     parts: [&'a [u8]; 10],
+    /// Whether they are Hexen's.
+    pub(crate) hexen: bool,
 }
 
 impl<'a> Lumps<'a> {
@@ -52,11 +70,11 @@ impl<'a> Lumps<'a> {
 
     /// How many records the lump at `place`, 1 to 8, has.
     pub(crate) fn count(&self, place: usize) -> usize {
-        TABLE[place - 1].records.map_or(0, |(size, _, _)| self.at(place).len() / size)
+        TABLE[place - 1].records.as_ref().map_or(0, |records| self.at(place).len() / records.size(self.hexen))
     }
 }
 
-/// Judges the last map called `name`: refusals 1 to 6 and 10 to 32.
+/// Judges the last map called `name`, of either game: refusals 1 to 6, 10 to 12 and 20 to 32.
 ///
 /// `words` must be at least four for each node. A refusal below 31 leaves them as found; 31, 32
 /// and acceptance leave the first four for each node zero and the later ones as found.
@@ -83,9 +101,24 @@ pub fn reject_size(sectors: usize) -> usize {
     (sectors * sectors).div_ceil(8)
 }
 
-/// The ten lumps after the marker: refusals 12 and 13.
+/// Whether the map whose marker is entry `marker` is Hexen's: refusals 1 to 7. Nothing else is asked of the entry.
+pub fn map_game(wad: &[u8], marker: usize) -> Result<bool, Refusal> {
+    let directory = wad::directory(wad)?;
+    if marker < directory.count {
+        Ok(is_hexen(wad, directory, marker))
+    } else {
+        Err(Refusal::plain(7))
+    }
+}
+
+/// Whether the eleventh entry after the marker is there and is BEHAVIOR.
+fn is_hexen(wad: &[u8], directory: Directory, marker: usize) -> bool {
+    entries(wad, directory).nth(marker + BEHAVIOR_PLACE).is_some_and(|entry| entry.name == BEHAVIOR)
+}
+
+/// The ten lumps after the marker: refusal 12.
 fn run_of(wad: &[u8], directory: Directory, marker: usize) -> Result<Lumps<'_>, Refusal> {
-    let run: Vec<Entry> = entries(wad, directory).skip(marker).take(12).collect();
+    let run: Vec<Entry> = entries(wad, directory).skip(marker).take(11).collect();
     if run[0].size != 0 {
         return Err(Refusal::new(12, 0, 0));
     }
@@ -94,22 +127,20 @@ fn run_of(wad: &[u8], directory: Directory, marker: usize) -> Result<Lumps<'_>, 
             return Err(Refusal::new(12, place, 0));
         }
     }
-    if run.get(11).map(|entry| entry.name) == Some(HEXEN) {
-        return Err(Refusal::plain(13));
-    }
-    Ok(Lumps { parts: std::array::from_fn(|index| run[index + 1].lump(wad)) })
+    let parts = std::array::from_fn(|index| run[index + 1].lump(wad));
+    Ok(Lumps { parts, hexen: is_hexen(wad, directory, marker) })
 }
 
 /// Whole records, and as many as the table allows, lump by lump: refusals 20 and 21.
 fn judge_sizes(lumps: &Lumps) -> Result<(), Refusal> {
     for (place, row) in (1..).zip(&TABLE) {
-        let Some((size, least, most)) = row.records else { continue };
-        if !lumps.at(place).len().is_multiple_of(size) {
+        let Some(records) = &row.records else { continue };
+        if !lumps.at(place).len().is_multiple_of(records.size(lumps.hexen)) {
             return Err(Refusal::new(20, place, 0));
         }
         let count = lumps.count(place);
         let lone = place != 7 || count > 0 || lumps.count(6) == 1;
-        if !(least..=most).contains(&count) || !lone {
+        if !records.counts.contains(&count) || !lone {
             return Err(Refusal::new(21, place, 0));
         }
     }

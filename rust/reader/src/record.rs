@@ -1,10 +1,13 @@
-//! The eight kinds of map record, field by field as in document 004's tables.
+//! The kinds of map record that both games share, field by field as in document 004's tables. Things and linedefs are in `game`.
 
 use crate::Refusal;
 use std::ops::Range;
 
 /// A field's form in the bytes of a record.
-trait Field {
+pub(crate) trait Field {
+    /// How many bytes it has.
+    const SIZE: usize;
+
     /// Reads the field from the first bytes.
     fn take(bytes: &[u8]) -> Self;
     /// Writes the field over the first bytes.
@@ -12,6 +15,7 @@ trait Field {
 }
 
 impl Field for u16 {
+    const SIZE: usize = 2;
     fn take(bytes: &[u8]) -> Self {
         Self::from_le_bytes([bytes[0], bytes[1]])
     }
@@ -21,6 +25,7 @@ impl Field for u16 {
 }
 
 impl Field for i16 {
+    const SIZE: usize = 2;
     fn take(bytes: &[u8]) -> Self {
         Self::from_le_bytes([bytes[0], bytes[1]])
     }
@@ -29,16 +34,28 @@ impl Field for i16 {
     }
 }
 
-impl Field for [u8; 8] {
+impl Field for u8 {
+    const SIZE: usize = 1;
+    fn take(bytes: &[u8]) -> Self {
+        bytes[0]
+    }
+    fn put(&self, bytes: &mut [u8]) {
+        bytes[0] = *self;
+    }
+}
+
+impl<const N: usize> Field for [u8; N] {
+    const SIZE: usize = N;
     fn take(bytes: &[u8]) -> Self {
         std::array::from_fn(|at| bytes[at])
     }
     fn put(&self, bytes: &mut [u8]) {
-        bytes[..8].copy_from_slice(self);
+        bytes[..N].copy_from_slice(self);
     }
 }
 
 impl Field for [i16; 4] {
+    const SIZE: usize = 8;
     fn take(bytes: &[u8]) -> Self {
         std::array::from_fn(|side| i16::take(&bytes[2 * side..]))
     }
@@ -50,7 +67,7 @@ impl Field for [i16; 4] {
 }
 
 /// The bytes of record `index`, if they lie wholly inside `length` bytes; otherwise 60.
-fn range_of(length: usize, size: usize, index: usize) -> Result<Range<usize>, Refusal> {
+pub(crate) fn range_of(length: usize, size: usize, index: usize) -> Result<Range<usize>, Refusal> {
     let end = index.checked_add(1).and_then(|next| next.checked_mul(size));
     match end {
         Some(end) if end <= length => Ok(end - size..end),
@@ -96,28 +113,6 @@ macro_rules! record {
             }
         }
     };
-}
-
-record! {
-    /// An object placed on the map.
-    Thing, "THINGS", place 1, size 10;
-    0 x: i16, "Position, eastward.";
-    2 y: i16, "Position, northward.";
-    4 angle: u16, "Degrees: 0 is east, 90 is north.";
-    6 kind: u16, "The DoomEd number.";
-    8 flags: u16, "Skill and multiplayer bits.";
-}
-
-record! {
-    /// A line between two vertices, with a side or two.
-    Linedef, "LINEDEFS", place 2, size 14;
-    0 start: u16, "The vertex it starts from.";
-    2 end: u16, "The vertex it ends at.";
-    4 flags: u16, "Bits; 0x0004 is two-sided.";
-    6 special: u16, "The action.";
-    8 tag: u16, "The tag of the sectors acted on.";
-    10 right: u16, "The right sidedef.";
-    12 left: u16, "The left sidedef, 65,535 for none.";
 }
 
 record! {

@@ -26,7 +26,7 @@ pub(crate) fn judge(lumps: &Lumps) -> Result<(), Refusal> {
         nodes: lumps.count(7),
         sectors: lumps.count(8),
     };
-    let linedefs: Vec<Linedef> = Linedef::all(lumps.at(2)).collect();
+    let linedefs: Vec<Linedef> = Linedef::all(lumps.at(2), lumps.hexen).collect();
     each(23, 2, linedefs.iter(), |linedef| linedef_is_good(linedef, &counts))?;
     each(24, 3, Sidedef::all(lumps.at(3)), |sidedef| below(sidedef.sector, counts.sectors))?;
     each(25, 5, Seg::all(lumps.at(5)), |seg| seg_is_good(&seg, &linedefs, &counts))?;
