@@ -17,8 +17,18 @@ pub fn ordinary_map() -> Vec<u8> {
 
 /// A file with a map that has `scale` times the records of an ordinary one, up to 60 times.
 pub fn map_of(scale: usize) -> Vec<u8> {
+    ordinary_of(false, scale)
+}
+
+/// The same of Hexen.
+pub fn hexen_map_of(scale: usize) -> Vec<u8> {
+    ordinary_of(true, scale)
+}
+
+fn ordinary_of(hexen: bool, scale: usize) -> Vec<u8> {
     let mut rng = Rng::new(1);
     let sizes = Sizes {
+        hexen,
         things: 143 * scale,
         linedefs: 486 * scale,
         sidedefs: 666 * scale,
@@ -41,9 +51,19 @@ pub fn largest_map() -> Vec<u8> {
 
 /// A map with so many quarters of the largest map's records and bytes, 1 to 4.
 pub fn largest_map_of(quarters: usize) -> Vec<u8> {
+    largest_of(false, quarters)
+}
+
+/// The same of Hexen.
+pub fn largest_hexen_map_of(quarters: usize) -> Vec<u8> {
+    largest_of(true, quarters)
+}
+
+fn largest_of(hexen: bool, quarters: usize) -> Vec<u8> {
     let mut rng = Rng::new(2);
     let (most, fewer) = (65_535 * quarters / 4, 32_767 * quarters / 4);
     let sizes = Sizes {
+        hexen,
         things: most,
         linedefs: most,
         sidedefs: most,

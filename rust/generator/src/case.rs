@@ -31,6 +31,11 @@ pub enum Question {
         /// The asked name, eight bytes if it is good.
         name: Vec<u8>,
     },
+    /// The game of a map.
+    MapGame {
+        /// The marker's entry number.
+        marker: usize,
+    },
     /// Judge a map.
     JudgeMap {
         /// The asked name.
@@ -87,6 +92,8 @@ pub enum Expected {
     Found(Found),
     /// A search that ends so, found or not.
     Search(Search),
+    /// A map of Hexen, or not.
+    Hexen(bool),
 }
 
 impl Case {

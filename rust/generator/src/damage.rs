@@ -4,9 +4,12 @@
 
 use crate::damage_graph::GRAPH_DAMAGES;
 use crate::damage_records::RECORD_DAMAGES;
+use crate::game::{is_hexen, BEHAVIOR_PLACE};
 use crate::name::cut;
-use crate::{EntryPlan, MapSpec, Plan, Rng, LUMP_NAMES};
-use reader::Refusal;
+use crate::plan::BEHAVIOR;
+use crate::record::{any_linedef, any_thing};
+use crate::{EntryPlan, Kind, MapSpec, Plan, Rng, LUMP_NAMES};
+use reader::{Linedef, Refusal};
 
 /// One way to spoil a good file.
 #[derive(Clone, Copy)]
@@ -94,16 +97,19 @@ const RUN_DAMAGES: &[Damage] = &[
         plan.entries.truncate(plan.marker + 10);
         Refusal::new(12, 10, 0)
     }),
-    damage(13, "Hexen map", |plan, rng| {
-        let mut entry = EntryPlan::empty(*b"BEHAVIOR");
-        entry.padding = vec![7; rng.below(2)];
-        plan.entries.insert(plan.marker + 11, entry);
-        Refusal::plain(13)
-    }),
     damage(20, "part of a record", |plan, rng| {
         let place = rng.between(1, 8);
-        plan.entry_at(place).padding = vec![0; rng.between(1, SIZES[place] - 1)];
+        let size = Kind::at(place, plan.map.hexen).size();
+        let bytes = match (place, rng.between(1, size - 1)) {
+            (1, 10) => 9,
+            (_, bytes) => bytes,
+        };
+        plan.entry_at(place).padding = vec![0; bytes];
         Refusal::new(20, place, 0)
+    }),
+    damage(20, "records of the other game", |plan, rng| match plan.map.hexen {
+        true => without_behavior(plan, rng),
+        false => with_behavior(plan, rng),
     }),
     damage(21, "no record", |plan, rng| {
         let place = rng.pick(&[2, 3, 4, 5, 6, 8]);
@@ -131,8 +137,28 @@ const RUN_DAMAGES: &[Damage] = &[
     }),
 ];
 
-/// Bytes of a record by place.
-const SIZES: [usize; 9] = [1, 10, 14, 30, 4, 12, 4, 28, 26];
+/// Puts BEHAVIOR behind a Doom map with an odd number of things: a thing of Hexen has the bytes of two.
+fn with_behavior(plan: &mut Plan, rng: &mut Rng) -> Refusal {
+    if plan.map.things.len().is_multiple_of(2) {
+        plan.map.things.push(any_thing(false, rng));
+    }
+    let mut entry = EntryPlan::empty(BEHAVIOR);
+    entry.padding = vec![7; rng.below(2)];
+    plan.entries.insert(plan.marker + BEHAVIOR_PLACE, entry);
+    Refusal::new(20, 1, 0)
+}
+
+/// Takes BEHAVIOR from a Hexen map whose LINEDEFS are no multiple of Doom's size; its THINGS always are.
+fn without_behavior(plan: &mut Plan, rng: &mut Rng) -> Refusal {
+    let part = plan.entry_at(2).padding.len();
+    while (Linedef::HEXEN_SIZE * plan.map.linedefs.len() + part).is_multiple_of(Linedef::SIZE) {
+        plan.map.linedefs.push(any_linedef(true, rng));
+    }
+    if is_hexen(plan, plan.marker) {
+        plan.entries.remove(plan.marker + BEHAVIOR_PLACE);
+    }
+    Refusal::new(20, 2, 0)
+}
 
 /// Takes all records at `place`, 1 to 8, away.
 pub(crate) fn clear(map: &mut MapSpec, place: usize) {

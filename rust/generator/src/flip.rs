@@ -61,9 +61,10 @@ pub fn random_file_case(rng: &mut Rng) -> Case {
     if bytes.len() >= 12 && !rng.once_in(8) {
         header(&mut bytes, rng);
     }
-    let question = match rng.below(4) {
+    let question = match rng.below(5) {
         0 => Question::Directory,
         1 => Question::Entry { number },
+        4 => Question::MapGame { marker: number },
         2 => Question::FindMap { name },
         _ => Question::JudgeMap { name, words: vec![7; rng.below(4)] },
     };

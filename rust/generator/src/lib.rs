@@ -34,6 +34,7 @@ mod damage_records;
 mod descent;
 mod family;
 mod flip;
+mod game;
 mod graph;
 mod limit;
 mod limit_graph;
@@ -56,9 +57,9 @@ mod shrink;
 mod valid;
 
 pub use bench::{
-    balanced, chain, directory_of, doublings, halving_nodes, hostile_blockmap, hostile_blockmap_of, hostile_picture,
-    hostile_picture_of, largest_map, largest_map_of, littered_directory_of, map_of, mixed_nodes, ordinary_map, picture,
-    shared_subsector, MOST_BYTES,
+    balanced, chain, directory_of, doublings, halving_nodes, hexen_map_of, hostile_blockmap, hostile_blockmap_of,
+    hostile_picture, hostile_picture_of, largest_hexen_map_of, largest_map, largest_map_of, littered_directory_of, map_of,
+    mixed_nodes, ordinary_map, picture, shared_subsector, MOST_BYTES,
 };
 pub use blockmap::{BlockmapSpec, Layout};
 pub use case::{Case, Expected, Question};
@@ -73,11 +74,11 @@ pub use name::littered;
 pub use order::{apply, damaged_case, directory_case, order_of, pair, pair_case, pair_count, single_case};
 pub use picture::{picture_case, PictureSpec, Post};
 pub use picture_damage::{all_picture_damages, damaged_picture_case, picture_damage_case, PictureDamage, PICTURE_DAMAGES};
-pub use plan::{Content, EntryPlan, Plan, LUMP_NAMES, MAP_NAME};
+pub use plan::{Content, EntryPlan, Plan, BEHAVIOR, LUMP_NAMES, MAP_NAME};
 pub use record::{Encode, Kind, Record};
 pub use record_case::record_case;
 pub use rng::Rng;
-pub use rooms::rooms;
+pub use rooms::{hexen_rooms, rooms};
 pub use sample::{samples, Sample};
 pub use search::{named_entries, search_case, search_in_vain, search_to_the_first};
 pub use shrink::shrink;

@@ -1,10 +1,12 @@
 //! Both sides of every limit: the file, the directory and its entries.
 
+use crate::game::game_limits;
 use crate::limit_graph::graph_limits;
 use crate::limit_lump::lump_limits;
 use crate::limit_map::map_limits;
 use crate::limit_run::run_limits;
 use crate::name::name_limits;
+use crate::record_case::record_limits;
 use crate::search::search_limits;
 use crate::{directory_of, map_case, Case, Expected, Plan, Question, MOST_BYTES};
 use crate::{Content, EntryPlan, MapSpec, Rng, Sizes, MAP_NAME};
@@ -21,9 +23,11 @@ pub fn limits() -> Vec<Build> {
     all.extend(name_limits());
     all.extend(search_limits());
     all.extend(run_limits());
+    all.extend(game_limits());
     all.extend(map_limits());
     all.extend(graph_limits());
     all.extend(lump_limits());
+    all.extend(record_limits());
     all
 }
 

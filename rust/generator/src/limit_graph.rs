@@ -12,7 +12,8 @@ const MOST_SUBSECTORS: usize = 32_767;
 pub(crate) fn graph_limits() -> Vec<Build> {
     let mut all = shape_limits();
     all.extend(subsector_count_limits());
-    all.extend([TREES, SHARED, UNREACHED, LOOPS, FAR].concat().into_iter().map(drawn));
+    let drawings = [TREES, SHARED, UNREACHED, LOOPS, FAR].concat();
+    all.extend(drawings.into_iter().flat_map(|drawing| [drawn(drawing, false), drawn(drawing, true)]));
     all.push(Box::new(one_unreached_case));
     all
 }
@@ -25,7 +26,9 @@ fn shape_limits() -> Vec<Build> {
         for nodes in [1, 2, 3, 30, 32_766, 32_767] {
             for spare in [-1, 0, 1] {
                 let subsectors = MOST_SUBSECTORS.min(nodes + 1);
-                all.push(Box::new(move || shape_case(shape, nodes, subsectors, spare)));
+                all.push(Box::new(move || shape_case(shape, Sizes { nodes, subsectors, ..Sizes::LEAST }, spare)));
+                let hexen = Sizes { hexen: true, nodes, subsectors, ..Sizes::LEAST };
+                all.extend((spare < 1).then(|| -> Build { Box::new(move || shape_case(shape, hexen, spare)) }));
             }
         }
     }
@@ -38,20 +41,22 @@ fn subsector_count_limits() -> Vec<Build> {
     for shape in [Shape::Chain, Shape::Rising, Shape::Balanced, Shape::Falling, Shape::Shuffled] {
         for nodes in [1, 2, 3, 30, 32_765] {
             for subsectors in [nodes, nodes + 1, nodes + 2] {
-                all.push(Box::new(move || shape_case(shape, nodes, subsectors, 0)));
+                all.push(Box::new(move || shape_case(shape, Sizes { nodes, subsectors, ..Sizes::LEAST }, 0)));
             }
         }
     }
-    all.push(drawn(("no node, one subsector", 1, &[], Depth(0))));
-    all.push(Box::new(|| {
-        let refused = Expected::Refused(Refusal::new(21, 7, 0));
-        map_case("no node, two subsectors", &plan_of(2, &[]), refused)
-    }));
+    for hexen in [false, true] {
+        all.push(drawn(("no node, one subsector", 1, &[], Depth(0)), hexen));
+        all.push(Box::new(move || {
+            let refused = Expected::Refused(Refusal::new(21, 7, 0));
+            map_case("no node, two subsectors", &plan_of(2, &[], hexen), refused)
+        }));
+    }
     all
 }
 
-fn shape_case(shape: Shape, nodes: usize, subsectors: usize, spare: isize) -> Case {
-    let sizes = Sizes { nodes, subsectors, ..Sizes::LEAST };
+fn shape_case(shape: Shape, sizes: Sizes, spare: isize) -> Case {
+    let Sizes { nodes, subsectors, .. } = sizes;
     let (map, truth) = MapSpec::new(sizes, shape, Layout::Empty, &mut Rng::new(nodes as u64));
     let mut plan = Plan::new(map, MAP_NAME);
     (plan.spare_words, plan.fill) = (spare, 0xA5A5);
@@ -65,7 +70,7 @@ fn one_unreached_case() -> Case {
     let chain = |node: u16| [node - 1, SUBSECTOR_BIT | (node - 1)];
     let mut children: Vec<[u16; 2]> = vec![[0, 0], [SUBSECTOR_BIT, SUBSECTOR_BIT | 32_766]];
     children.extend((2..=32_766).map(chain));
-    let plan = plan_of(MOST_SUBSECTORS, &children);
+    let plan = plan_of(MOST_SUBSECTORS, &children, false);
     map_case("32,767 nodes, one of them unreached", &plan, verdict(Depth(32_766), 0))
 }
 
@@ -141,17 +146,17 @@ const FAR: &[Drawing] = &[
     ("subsector 16,384 twice", 32_767, &[[s(16_384), s(0)], [0, s(16_384)]], Shared),
 ];
 
-fn drawn((label, subsectors, children, truth): Drawing) -> Build {
+fn drawn((label, subsectors, children, truth): Drawing, hexen: bool) -> Build {
     Box::new(move || {
-        let mut plan = plan_of(subsectors, children);
+        let mut plan = plan_of(subsectors, children, hexen);
         (plan.spare_words, plan.fill) = (1, 0xA5A5);
         map_case(label, &plan, verdict(truth, 0))
     })
 }
 
-/// A small map with these nodes.
-fn plan_of(subsectors: usize, children: &[[u16; 2]]) -> Plan {
-    let mut map = MapSpec::plain(Sizes { subsectors, ..Sizes::LEAST }, &mut Rng::new(15));
+/// A small map of a game with these nodes.
+fn plan_of(subsectors: usize, children: &[[u16; 2]], hexen: bool) -> Plan {
+    let mut map = MapSpec::plain(Sizes { hexen, subsectors, ..Sizes::LEAST }, &mut Rng::new(15));
     map.nodes = children.iter().map(|&[right, left]| Node { right, left, ..Node::default() }).collect();
     Plan::new(map, MAP_NAME)
 }

@@ -1,4 +1,4 @@
-//! Both sides of the limits inside a map: counts, references and REJECT. The graph and its work words are in `limit_graph`.
+//! Both sides of the limits inside a map of either game: counts, references and REJECT. The graph and its work words are in `limit_graph`.
 
 use crate::damage::clear;
 use crate::limit::Build;
@@ -8,12 +8,19 @@ use reader::{Linedef, Node, Refusal, Sector, Seg, Subsector, NO_SIDEDEF, SUBSECT
 
 /// All of them.
 pub(crate) fn map_limits() -> Vec<Build> {
-    let mut all = count_limits();
-    all.extend(reject_limits());
-    all.extend(linedef_limits());
-    all.extend(seg_limits());
-    all.extend(subsector_limits());
-    all.extend(child_limits());
+    let mut all = limits_of(false);
+    all.extend(limits_of(true));
+    all
+}
+
+fn limits_of(hexen: bool) -> Vec<Build> {
+    let least = Sizes::LEAST.of(hexen);
+    let mut all = count_limits(Sizes::tree(1).of(hexen));
+    all.extend(reject_limits(least));
+    all.extend(linedef_limits(least));
+    all.extend(seg_limits(least));
+    all.extend(subsector_limits(least));
+    all.extend(child_limits(least));
     all
 }
 
@@ -33,8 +40,7 @@ pub(crate) fn edited(
 }
 
 /// Counts at both ends of the table's ranges.
-fn count_limits() -> Vec<Build> {
-    let least = Sizes::tree(1);
+fn count_limits(least: Sizes) -> Vec<Build> {
     let mut all = Vec::new();
     for (place, set) in (1..).zip(SETTERS) {
         for (count, refusal) in [(1, None), (65_535, None), (65_536, Some(Refusal::new(21, place, 0)))] {
@@ -70,11 +76,11 @@ const SETTERS: [fn(&mut Sizes, usize); 5] = [
 ];
 
 /// REJECT a byte short, right, and a byte long.
-fn reject_limits() -> Vec<Build> {
+fn reject_limits(least: Sizes) -> Vec<Build> {
     let mut all: Vec<Build> = Vec::new();
     for sectors in [1, 2, 3, 4, 5, 8, 9, 10, 16, 17, 255, 256, 257, 1000, 5000] {
         for change in [-1, 0, 1] {
-            let sizes = Sizes { sectors, ..Sizes::LEAST };
+            let sizes = Sizes { sectors, ..least };
             let edit = move |map: &mut MapSpec| {
                 let size = map.reject.len() as isize + change;
                 map.reject.resize(size as usize, 0);
@@ -86,9 +92,9 @@ fn reject_limits() -> Vec<Build> {
     all
 }
 
-fn linedef_limits() -> Vec<Build> {
-    let sizes = Sizes { linedefs: 3, vertices: 300, sidedefs: 400, ..Sizes::LEAST };
-    let good = Linedef { left: NO_SIDEDEF, ..Linedef::default() };
+fn linedef_limits(least: Sizes) -> Vec<Build> {
+    let sizes = Sizes { linedefs: 3, vertices: 300, sidedefs: 400, ..least };
+    let good = Linedef { hexen: least.hexen, left: NO_SIDEDEF, ..Linedef::default() };
     let cases = [
         (Linedef { start: 299, end: 299, right: 399, left: 399, flags: 0xFFFF, ..good }, true),
         (Linedef { left: 0, flags: !TWO_SIDED, ..good }, true),
@@ -107,7 +113,7 @@ fn linedef_limits() -> Vec<Build> {
     };
     let mut all: Vec<Build> = cases.into_iter().map(build).collect();
     for (sector, fine) in [(299, true), (300, false), (0xFFFF, false)] {
-        let sizes = Sizes { sectors: 300, sidedefs: 3, ..Sizes::LEAST };
+        let sizes = Sizes { sectors: 300, sidedefs: 3, ..least };
         let refusal = (!fine).then_some(Refusal::new(24, 3, 1));
         all.push(edited("sidedef", sizes, move |map| map.sidedefs[1].sector = sector, refusal));
     }
@@ -115,8 +121,8 @@ fn linedef_limits() -> Vec<Build> {
 }
 
 /// Linedef 0 has one side, linedef 1 has two.
-fn seg_limits() -> Vec<Build> {
-    let sizes = Sizes { linedefs: 2, vertices: 300, segs: 5, ..Sizes::LEAST };
+fn seg_limits(least: Sizes) -> Vec<Build> {
+    let sizes = Sizes { linedefs: 2, vertices: 300, segs: 5, ..least };
     let cases = [
         (Seg { start: 299, end: 299, linedef: 1, direction: 1, ..Seg::default() }, true),
         (Seg { linedef: 0, direction: 0, ..Seg::default() }, true),
@@ -135,7 +141,7 @@ fn seg_limits() -> Vec<Build> {
     cases.into_iter().map(build).collect()
 }
 
-fn subsector_limits() -> Vec<Build> {
+fn subsector_limits(least: Sizes) -> Vec<Build> {
     let mut all: Vec<Build> = Vec::new();
     for segs in [1, 2, 300, 65_535] {
         let last = segs as u16;
@@ -150,7 +156,7 @@ fn subsector_limits() -> Vec<Build> {
             (0xFFFF, 1, false),
         ];
         for (first, number, fine) in sums {
-            let sizes = Sizes { segs, subsectors: 3, nodes: 1, ..Sizes::LEAST };
+            let sizes = Sizes { segs, subsectors: 3, nodes: 1, ..least };
             let refusal = (!fine).then_some(Refusal::new(26, 6, 1));
             let edit = move |map: &mut MapSpec| map.subsectors[1] = Subsector { number, first };
             all.push(edited("subsector", sizes, edit, refusal));
@@ -160,7 +166,7 @@ fn subsector_limits() -> Vec<Build> {
 }
 
 /// Children of node 0, which no route reaches, so that it may share its children with the root.
-fn child_limits() -> Vec<Build> {
+fn child_limits(least: Sizes) -> Vec<Build> {
     let mut all: Vec<Build> = Vec::new();
     for count in [2u16, 300, 32_767] {
         let children = [
@@ -175,7 +181,7 @@ fn child_limits() -> Vec<Build> {
         for (child, fine) in children {
             for right in [false, true] {
                 let size = usize::from(count);
-                let sizes = Sizes { nodes: size, subsectors: size, ..Sizes::LEAST };
+                let sizes = Sizes { nodes: size, subsectors: size, ..least };
                 let refusal = (!fine).then_some(Refusal::new(27, 7, 0));
                 let edit = move |map: &mut MapSpec| unreached_child(map, child, right);
                 all.push(edited("child", sizes, edit, refusal));

@@ -1,6 +1,6 @@
 //! A map from named records, and good maps of any size.
 
-use crate::record::{any_node, any_sector, any_sidedef, any_thing, any_vertex};
+use crate::record::{any_linedef, any_node, any_sector, any_sidedef, any_thing, any_vertex};
 use crate::{BlockmapSpec, Encode, Layout, Rng, Shape, Truth};
 use reader::{Linedef, Node, Sector, Seg, Sidedef, Subsector, Thing, Vertex};
 use reader::{NO_SIDEDEF, TWO_SIDED};
@@ -9,6 +9,8 @@ use reader::{NO_SIDEDEF, TWO_SIDED};
 #[derive(Clone, Debug, PartialEq, Eq)]
 #[allow(missing_docs)]
 pub struct MapSpec {
+    /// Whether it is Hexen's, and BEHAVIOR follows the ten lumps; things and linedefs must be of the same game.
+    pub hexen: bool,
     pub things: Vec<Thing>,
     pub linedefs: Vec<Linedef>,
     pub sidedefs: Vec<Sidedef>,
@@ -21,10 +23,11 @@ pub struct MapSpec {
     pub blockmap: BlockmapSpec,
 }
 
-/// How many records of each kind a map has, and how many cells its blockmap.
+/// The game of a map, how many records of each kind it has, and how many cells its blockmap.
 #[derive(Clone, Copy, Debug, PartialEq, Eq)]
 #[allow(missing_docs)]
 pub struct Sizes {
+    pub hexen: bool,
     pub things: usize,
     pub linedefs: usize,
     pub sidedefs: usize,
@@ -38,8 +41,9 @@ pub struct Sizes {
 }
 
 impl Sizes {
-    /// Everything once and no thing and no node.
+    /// Of Doom, everything once and no thing and no node.
     pub const LEAST: Self = Self {
+        hexen: false,
         things: 0,
         linedefs: 1,
         sidedefs: 1,
@@ -57,10 +61,16 @@ impl Sizes {
         Self { nodes, subsectors: nodes + 1, ..Self::LEAST }
     }
 
-    /// A few of everything; at least two of all but things, so that any damage finds its place.
+    /// The same of Hexen, if so.
+    pub const fn of(self, hexen: bool) -> Self {
+        Self { hexen, ..self }
+    }
+
+    /// A few of everything, of either game; at least two of all but things, so that any damage finds its place.
     pub fn few(rng: &mut Rng) -> Self {
         let nodes = rng.between(2, 9);
         Self {
+            hexen: rng.once_in(3),
             things: rng.between(0, 3),
             linedefs: rng.between(2, 8),
             sidedefs: rng.between(2, 6),
@@ -77,7 +87,7 @@ impl Sizes {
     /// Counts near the least ones, or a few, or some dozens. Now and then the subsectors are too few for a tree of all nodes.
     pub fn any(rng: &mut Rng) -> Self {
         let nodes = match rng.below(4) {
-            0 => return Self { things: rng.below(2), ..Self::tree(rng.below(3)) },
+            0 => return Self { hexen: rng.once_in(3), things: rng.below(2), ..Self::tree(rng.below(3)) },
             1 => rng.between(10, 60),
             _ => rng.between(1, 9),
         };
@@ -94,7 +104,8 @@ impl MapSpec {
         let (nodes, truth) = nodes(shape, &sizes, rng);
         let Sizes { columns, rows, .. } = sizes;
         let map = Self {
-            things: repeat(sizes.things, || any_thing(rng)),
+            hexen: sizes.hexen,
+            things: repeat(sizes.things, || any_thing(sizes.hexen, rng)),
             sidedefs: repeat(sizes.sidedefs, || sidedef(&sizes, rng)),
             vertices: repeat(sizes.vertices, || any_vertex(rng)),
             segs: repeat(sizes.segs, || seg(&linedefs, &sizes, rng)),
@@ -154,10 +165,9 @@ fn linedef(index: usize, sizes: &Sizes, rng: &mut Rng) -> Linedef {
         start: rng.below(sizes.vertices) as u16,
         end: rng.below(sizes.vertices) as u16,
         flags,
-        special: rng.u16(),
-        tag: rng.u16(),
         right: rng.below(sizes.sidedefs) as u16,
         left: if has_left { left } else { NO_SIDEDEF },
+        ..any_linedef(sizes.hexen, rng)
     }
 }
 

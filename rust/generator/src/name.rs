@@ -180,16 +180,16 @@ fn littered_runs() -> Vec<Build> {
     let mut all = Vec::new();
     for (place, name) in (0..).zip([MAP_NAME].into_iter().chain(LUMP_NAMES)) {
         let length = length_of(&name);
-        for byte in RUBBISH {
+        for (byte, hexen) in RUBBISH.into_iter().flat_map(|byte| [(byte, false), (byte, true)]) {
             let behind = move |plan: &mut Plan| plan.entries[place].name = with_rubbish(name, &[byte; 8]);
-            all.push(planned("rubbish behind a name of the map", behind, Ok(0)));
+            all.push(planned(hexen, "rubbish behind a name of the map", behind, Ok(0)));
         }
         if length < 8 && place > 0 {
             let on_it = move |plan: &mut Plan| plan.entries[place].name[length] = b'A';
-            all.push(planned("rubbish in the zero's place", on_it, Err(Refusal::new(12, place, 0))));
+            all.push(planned(false, "rubbish in the zero's place", on_it, Err(Refusal::new(12, place, 0))));
         }
     }
     let asked = |plan: &mut Plan| plan.name = with_rubbish(MAP_NAME, &[b'z'; 8]).to_vec();
-    all.push(planned("rubbish behind the asked name", asked, Ok(0)));
+    all.push(planned(false, "rubbish behind the asked name", asked, Ok(0)));
     all
 }

@@ -1,5 +1,6 @@
 //! Single damages and pairs of damages, with the refusal that 01's order gives.
 
+use crate::game::is_hexen;
 use crate::{damages, map_case, sound_plan, Case, Damage, Expected, Plan, Question, Rng};
 use reader::{Refusal, Search};
 
@@ -84,7 +85,7 @@ fn unsearched(refusal: Refusal) -> Expected {
 /// A question, and what is due in a good directory.
 fn directory_question(plan: &Plan, rng: &mut Rng) -> (Question, Expected) {
     let count = plan.entries.len();
-    match rng.below(5) {
+    match rng.below(7) {
         0 => (Question::Directory, Expected::Accepted),
         1 | 2 => {
             let any = rng.below(count);
@@ -93,9 +94,15 @@ fn directory_question(plan: &Plan, rng: &mut Rng) -> (Question, Expected) {
         }
         3 => {
             let number = rng.pick(&[count, count + 1, usize::MAX, 1 << 31, 1 << 32]);
-            (Question::Entry { number }, Expected::Refused(Refusal::plain(7)))
+            let question = if rng.once_in(2) { Question::Entry { number } } else { Question::MapGame { marker: number } };
+            (question, Expected::Refused(Refusal::plain(7)))
         }
-        _ => find_question(plan, rng),
+        4 => find_question(plan, rng),
+        5 => (Question::MapGame { marker: plan.marker }, Expected::Hexen(plan.map.hexen)),
+        _ => {
+            let marker = rng.below(count);
+            (Question::MapGame { marker }, Expected::Hexen(is_hexen(plan, marker)))
+        }
     }
 }
 

@@ -12,6 +12,12 @@ pub const LUMP_NAMES: [[u8; 8]; 10] = [
     *b"REJECT\0\0", *b"BLOCKMAP",
 ];
 
+/// The lump that follows the ten of a Hexen map.
+pub const BEHAVIOR: [u8; 8] = *b"BEHAVIOR";
+
+/// What it holds at least: its mark, and where it counts its scripts and its strings, none of either.
+const NO_SCRIPTS: &[u8; 16] = b"ACS\0\x08\0\0\0\0\0\0\0\0\0\0\0";
+
 /// A file with one map in it, and the questions' parameters.
 #[derive(Clone, Debug)]
 pub struct Plan {
@@ -85,6 +91,9 @@ impl Plan {
         let mut entries = vec![EntryPlan::empty(name)];
         for (place, name) in (1..).zip(LUMP_NAMES) {
             entries.push(EntryPlan::new(name, Content::Place(place)));
+        }
+        if map.hexen {
+            entries.push(EntryPlan::new(BEHAVIOR, Content::Bytes(NO_SCRIPTS.to_vec())));
         }
         Self {
             mark: *b"PWAD",

@@ -1,4 +1,4 @@
-//! The eight record kinds as bytes, written field by field from document 004's tables, without
+//! The eight record kinds as bytes, things and linedefs in both games' forms, written field by field from document 004's tables, without
 //! the reader's own writers.
 
 use crate::Rng;
@@ -21,14 +21,22 @@ fn signed(numbers: &[i16]) -> Vec<u8> {
 
 impl Encode for Thing {
     fn encode(&self) -> Vec<u8> {
-        [signed(&[self.x, self.y]), words(&[self.angle, self.kind, self.flags])].concat()
+        let Self { hexen, id, x, y, height, angle, kind, flags, action, args } = *self;
+        let known = words(&[angle, kind, flags]);
+        match hexen {
+            false => [signed(&[x, y]), known].concat(),
+            true => [signed(&[id, x, y, height]), known, vec![action], args.to_vec()].concat(),
+        }
     }
 }
 
 impl Encode for Linedef {
     fn encode(&self) -> Vec<u8> {
-        let Self { start, end, flags, special, tag, right, left } = *self;
-        words(&[start, end, flags, special, tag, right, left])
+        let Self { hexen, start, end, flags, special, tag, args, right, left } = *self;
+        match hexen {
+            false => words(&[start, end, flags, special, tag, right, left]),
+            true => [words(&[start, end, flags]), vec![special as u8], args.to_vec(), words(&[right, left])].concat(),
+        }
     }
 }
 
@@ -80,7 +88,9 @@ impl Encode for Sector {
 #[allow(missing_docs)]
 pub enum Kind {
     Thing,
+    HexenThing,
     Linedef,
+    HexenLinedef,
     Sidedef,
     Vertex,
     Seg,
@@ -104,20 +114,43 @@ pub enum Record {
 }
 
 impl Kind {
-    /// All kinds, in place order: `ALL[place - 1]` for places 1 to 8.
-    pub const ALL: [Self; 8] =
-        [Self::Thing, Self::Linedef, Self::Sidedef, Self::Vertex, Self::Seg, Self::Subsector, Self::Node, Self::Sector];
+    /// All kinds, in place order, Doom's before Hexen's.
+    pub const ALL: [Self; 10] = [
+        Self::Thing,
+        Self::HexenThing,
+        Self::Linedef,
+        Self::HexenLinedef,
+        Self::Sidedef,
+        Self::Vertex,
+        Self::Seg,
+        Self::Subsector,
+        Self::Node,
+        Self::Sector,
+    ];
 
     /// Bytes of one record.
     pub fn size(self) -> usize {
-        [10, 14, 30, 4, 12, 4, 28, 26][self as usize]
+        [10, 20, 14, 16, 30, 4, 12, 4, 28, 26][self as usize]
+    }
+
+    /// The kind of the records at `place`, 1 to 8, of a game's map.
+    pub fn at(place: usize, hexen: bool) -> Self {
+        match (place, hexen) {
+            (1, false) => Self::Thing,
+            (1, true) => Self::HexenThing,
+            (2, false) => Self::Linedef,
+            (2, true) => Self::HexenLinedef,
+            _ => Self::ALL[place + 1],
+        }
     }
 
     /// A record of this kind with any fields.
     pub fn any(self, rng: &mut Rng) -> Record {
         match self {
-            Self::Thing => Record::Thing(any_thing(rng)),
-            Self::Linedef => Record::Linedef(any_linedef(rng)),
+            Self::Thing => Record::Thing(any_thing(false, rng)),
+            Self::HexenThing => Record::Thing(any_thing(true, rng)),
+            Self::Linedef => Record::Linedef(any_linedef(false, rng)),
+            Self::HexenLinedef => Record::Linedef(any_linedef(true, rng)),
             Self::Sidedef => Record::Sidedef(any_sidedef(rng)),
             Self::Vertex => Record::Vertex(any_vertex(rng)),
             Self::Seg => Record::Seg(any_seg(rng)),
@@ -147,14 +180,28 @@ fn any_name(rng: &mut Rng) -> [u8; 8] {
     rng.word().to_le_bytes()
 }
 
-/// A thing with any fields.
-pub(crate) fn any_thing(rng: &mut Rng) -> Thing {
-    Thing { x: rng.i16(), y: rng.i16(), angle: rng.u16(), kind: rng.u16(), flags: rng.u16() }
+fn any_args(rng: &mut Rng) -> [u8; 5] {
+    std::array::from_fn(|_| rng.byte())
 }
 
-fn any_linedef(rng: &mut Rng) -> Linedef {
-    let (start, end, flags, special) = (rng.u16(), rng.u16(), rng.u16(), rng.u16());
-    Linedef { start, end, flags, special, tag: rng.u16(), right: rng.u16(), left: rng.u16() }
+/// A thing with any fields that its game has.
+pub(crate) fn any_thing(hexen: bool, rng: &mut Rng) -> Thing {
+    let (x, y, angle, kind, flags) = (rng.i16(), rng.i16(), rng.u16(), rng.u16(), rng.u16());
+    let thing = Thing { hexen, x, y, angle, kind, flags, ..Thing::default() };
+    match hexen {
+        false => thing,
+        true => Thing { id: rng.i16(), height: rng.i16(), action: rng.byte(), args: any_args(rng), ..thing },
+    }
+}
+
+/// A linedef with any fields that its game has.
+pub(crate) fn any_linedef(hexen: bool, rng: &mut Rng) -> Linedef {
+    let (start, end, flags, right, left) = (rng.u16(), rng.u16(), rng.u16(), rng.u16(), rng.u16());
+    let linedef = Linedef { hexen, start, end, flags, right, left, ..Linedef::default() };
+    match hexen {
+        false => Linedef { special: rng.u16(), tag: rng.u16(), ..linedef },
+        true => Linedef { special: rng.byte().into(), args: any_args(rng), ..linedef },
+    }
 }
 
 /// A sidedef with any fields.

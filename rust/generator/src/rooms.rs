@@ -16,6 +16,11 @@ const CELL: i16 = 128;
 const MARGIN: i16 = 8;
 /// Linedef flag: nothing passes.
 const BLOCKING: u16 = 1;
+/// Flags of a Hexen thing that is there at every skill, for every class and in every kind of game.
+const EVERYWHERE: u16 = 0x07E7;
+/// Hexen's specials: a door with a tag, a speed and a delay, and a script.
+const DOOR_RAISE: u16 = 12;
+const ACS_EXECUTE: u8 = 80;
 /// Angles of a seg: a full turn is 65,536, and 0 is east.
 const EAST: u16 = 0;
 const NORTH: u16 = 0x4000;
@@ -29,7 +34,8 @@ pub fn rooms() -> MapSpec {
     (0..ROOMS).for_each(|room| drawing.room(room));
     let vertices: Vec<Vertex> = (0..=ROOMS as i16).flat_map(|x| [0, SIDE].map(|y| Vertex { x: x * SIDE, y })).collect();
     MapSpec {
-        things: vec![Thing { x: SIDE / 2, y: SIDE / 2, angle: 0, kind: 1, flags: 7 }],
+        hexen: false,
+        things: vec![Thing { x: SIDE / 2, y: SIDE / 2, kind: 1, flags: 7, ..Thing::default() }],
         blockmap: blockmap(&drawing.linedefs, &vertices),
         linedefs: drawing.linedefs,
         sidedefs: drawing.sidedefs,
@@ -40,6 +46,31 @@ pub fn rooms() -> MapSpec {
         sectors: (0..ROOMS).map(sector).collect(),
         reject: vec![0; reject_size(usize::from(ROOMS))],
     }
+}
+
+/// The same rooms as a map of Hexen, with a bell in the last room and a door's special on the first opening.
+pub fn hexen_rooms() -> MapSpec {
+    let mut map = rooms();
+    map.hexen = true;
+    map.things[0].flags = EVERYWHERE;
+    map.things.push(Thing {
+        id: 7,
+        x: 7 * SIDE / 2,
+        y: SIDE / 2,
+        height: 48,
+        angle: 90,
+        kind: 8065,
+        flags: EVERYWHERE,
+        ..Thing::default()
+    });
+    map.things[1].action = ACS_EXECUTE;
+    map.things[1].args = [1, 0, 0, 0, 0];
+    map.things.iter_mut().for_each(|thing| thing.hexen = true);
+    map.linedefs.iter_mut().for_each(|linedef| linedef.hexen = true);
+    if let Some(opening) = map.linedefs.iter_mut().find(|linedef| linedef.left != NO_SIDEDEF) {
+        (opening.special, opening.args) = (DOOR_RAISE, [0, 16, 150, 0, 0]);
+    }
+    map
 }
 
 /// The vertex at the south or the north end of the line west of a room.

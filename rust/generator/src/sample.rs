@@ -1,8 +1,8 @@
-//! The small files of samples/: one good map, one whose names have rubbish behind them, one whose nodes turn back, one whose nodes
+//! The small files of samples/: one good map of each game, one whose names have rubbish behind them, one whose nodes turn back, one whose nodes
 //! are shared, one with a bad reference, and one picture.
 
 use crate::name::length_of;
-use crate::{rooms, Content, EntryPlan, PictureSpec, Plan, Post, MAP_NAME};
+use crate::{hexen_rooms, rooms, Content, EntryPlan, PictureSpec, Plan, Post, MAP_NAME};
 use reader::{Node, SUBSECTOR_BIT};
 
 /// A file's name and its bytes.
@@ -33,6 +33,7 @@ const PAINTS: [(u8, u8, [u8; 3]); 8] = [
 pub fn samples() -> Vec<Sample> {
     vec![
         ("accepted.wad", accepted()),
+        ("hexen.wad", Plan::wad_of(hexen_rooms())),
         ("leftover.wad", leftover()),
         ("loop.wad", turning_back()),
         ("shared.wad", shared()),

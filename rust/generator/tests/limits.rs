@@ -4,7 +4,7 @@ mod common;
 
 use common::check;
 use generator::*;
-use reader::{descend, directory, find_map, judge_map, judge_picture, Accepted, Found, Refusal, Search};
+use reader::{descend, directory, find_map, judge_map, judge_picture, map_game, Accepted, Found, Refusal, Search};
 
 #[test]
 fn both_sides_of_every_limit() {
@@ -34,6 +34,11 @@ fn large_inputs_are_good() {
     let largest = largest_map();
     assert!((MOST_BYTES - 1..=MOST_BYTES).contains(&largest.len()));
     assert_eq!(judged(&largest).depth, 15);
+    let hexen = largest_hexen_map_of(4);
+    assert!((MOST_BYTES - 1..=MOST_BYTES).contains(&hexen.len()));
+    for (wad, depth) in [(hexen, 15), (hexen_map_of(1), 8)] {
+        assert_eq!((judged(&wad).depth, map_game(&wad, 0)), (depth, Ok(true)));
+    }
 }
 
 #[test]

@@ -10,6 +10,7 @@ enum Answer {
     Map(Accepted),
     Found(Found),
     Search(Search),
+    Hexen(bool),
 }
 
 /// Checks one case; answers its refusal number, 0 for none.
@@ -22,6 +23,7 @@ pub fn check(case: &Case) -> u32 {
         Expected::Map(accepted) => answer == Ok(Answer::Map(accepted)),
         Expected::Found(found) => answer == Ok(Answer::Found(found)),
         Expected::Search(search) => answer == Ok(Answer::Search(search)),
+        Expected::Hexen(hexen) => answer == Ok(Answer::Hexen(hexen)),
     };
     assert!(good, "{}: {:?}, not {:?}", case.label, answer, case.expected);
     match answer {
@@ -36,6 +38,7 @@ fn ask(case: &Case) -> Result<Answer, Refusal> {
         Question::Directory => directory(bytes).map(|_| Answer::Good),
         Question::Entry { number } => ask_entry(bytes, *number),
         Question::FindMap { name } => Ok(Answer::Search(find_map(bytes, name))),
+        Question::MapGame { marker } => map_game(bytes, *marker).map(Answer::Hexen),
         Question::JudgeMap { name, words } => ask_map(bytes, name, words),
         Question::Descend { subsectors, x, y } => descend(bytes, *subsectors, *x, *y).map(Answer::Found),
         Question::JudgePicture => judge_picture(bytes).map(|_| Answer::Good),
@@ -97,8 +100,10 @@ fn ask_write(lump: &[u8], record: &Record, index: usize) -> Result<Answer, Refus
 
 fn read(kind: Kind, lump: &[u8], index: usize) -> Result<Record, Refusal> {
     match kind {
-        Kind::Thing => Thing::read(lump, index).map(Record::Thing),
-        Kind::Linedef => Linedef::read(lump, index).map(Record::Linedef),
+        Kind::Thing => Thing::read(lump, index, false).map(Record::Thing),
+        Kind::HexenThing => Thing::read(lump, index, true).map(Record::Thing),
+        Kind::Linedef => Linedef::read(lump, index, false).map(Record::Linedef),
+        Kind::HexenLinedef => Linedef::read(lump, index, true).map(Record::Linedef),
         Kind::Sidedef => Sidedef::read(lump, index).map(Record::Sidedef),
         Kind::Vertex => Vertex::read(lump, index).map(Record::Vertex),
         Kind::Seg => Seg::read(lump, index).map(Record::Seg),
