@@ -41,6 +41,10 @@ AT(marker_answer, status, 0);
 AT(marker_answer, marker, 24);
 AT(marker_answer, compared, 32);
 
+SIZE(game_answer, 32);
+AT(game_answer, status, 0);
+AT(game_answer, hexen, 24);
+
 SIZE(map_answer, 40);
 AT(map_answer, status, 0);
 AT(map_answer, depth, 24);
@@ -223,6 +227,27 @@ static void markers(void)
 
 /* ---- maps ---- */
 
+/* The twelfth of so many entries that are called BLOCKMAP is BEHAVIOR: it stands eleven behind the first. */
+static void games(void)
+{
+    wad_len = 0;
+    const uint8_t header[] = {'P', 'W', 'A', 'D', L(13), L(12)}, part[] = {L(0), L(0)};
+    put(header, sizeof header);
+    for (size_t i = 0; i < 13; i++) {
+        put(part, sizeof part);
+        put(i == 11 ? "BEHAVIOR" : "BLOCKMAP", 8);
+    }
+    meshpigeon_game_answer g = meshpigeon_map_game(wad, wad_len, 0);
+    EXPECT(accepted(g.status) && g.hexen);
+    g = meshpigeon_map_game(wad, wad_len, 1);
+    EXPECT(accepted(g.status) && !g.hexen);
+    g = meshpigeon_map_game(wad, wad_len, 13);
+    EXPECT(status_is(g.status, 7, 0, 0) && !g.hexen);
+    wad[12 + 16 * 3 + 8] = 'b';
+    g = meshpigeon_map_game(wad, wad_len, 0);
+    EXPECT(status_is(g.status, 6, 0, 3) && !g.hexen);
+}
+
 static void maps(void)
 {
     uint16_t words[4 * NODES + 1];
@@ -315,16 +340,51 @@ static void paintings(void)
 }
 
 /* ---- records ----
- * The fields of each kind: form, name, and offset, which is the same in the lump's record and in the struct. */
+ * The fields of each kind: form, name, and offset in the lump's record. It is the same in the struct, but for things and linedefs, whose
+ * structs serve two games. */
 
-#define THING_FIELDS(FIELD)                                                                                                        \
+SIZE(thing, 22);
+AT(thing, hexen, 0);
+AT(thing, id, 2);
+AT(thing, x, 4);
+AT(thing, y, 6);
+AT(thing, height, 8);
+AT(thing, angle, 10);
+AT(thing, kind, 12);
+AT(thing, flags, 14);
+AT(thing, action, 16);
+AT(thing, args, 17);
+
+SIZE(linedef, 22);
+AT(linedef, hexen, 0);
+AT(linedef, start, 2);
+AT(linedef, end, 4);
+AT(linedef, flags, 6);
+AT(linedef, special, 8);
+AT(linedef, tag, 10);
+AT(linedef, args, 12);
+AT(linedef, right, 18);
+AT(linedef, left, 20);
+
+#define DOOM_THING_FIELDS(FIELD)                                                                                                   \
     FIELD(thing, SIGNED, x, 0)                                                                                                     \
     FIELD(thing, SIGNED, y, 2)                                                                                                     \
     FIELD(thing, UNSIGNED, angle, 4)                                                                                               \
     FIELD(thing, UNSIGNED, kind, 6)                                                                                                \
     FIELD(thing, UNSIGNED, flags, 8)
 
-#define LINEDEF_FIELDS(FIELD)                                                                                                      \
+#define HEXEN_THING_FIELDS(FIELD)                                                                                                  \
+    FIELD(thing, SIGNED, id, 0)                                                                                                    \
+    FIELD(thing, SIGNED, x, 2)                                                                                                     \
+    FIELD(thing, SIGNED, y, 4)                                                                                                     \
+    FIELD(thing, SIGNED, height, 6)                                                                                                \
+    FIELD(thing, UNSIGNED, angle, 8)                                                                                               \
+    FIELD(thing, UNSIGNED, kind, 10)                                                                                               \
+    FIELD(thing, UNSIGNED, flags, 12)                                                                                              \
+    FIELD(thing, BYTE, action, 14)                                                                                                 \
+    FIELD(thing, ARGS, args, 15)
+
+#define DOOM_LINEDEF_FIELDS(FIELD)                                                                                                 \
     FIELD(linedef, UNSIGNED, start, 0)                                                                                             \
     FIELD(linedef, UNSIGNED, end, 2)                                                                                               \
     FIELD(linedef, UNSIGNED, flags, 4)                                                                                             \
@@ -332,6 +392,15 @@ static void paintings(void)
     FIELD(linedef, UNSIGNED, tag, 8)                                                                                               \
     FIELD(linedef, UNSIGNED, right, 10)                                                                                            \
     FIELD(linedef, UNSIGNED, left, 12)
+
+#define HEXEN_LINEDEF_FIELDS(FIELD)                                                                                                \
+    FIELD(linedef, UNSIGNED, start, 0)                                                                                             \
+    FIELD(linedef, UNSIGNED, end, 2)                                                                                               \
+    FIELD(linedef, UNSIGNED, flags, 4)                                                                                             \
+    FIELD(linedef, BYTE, special, 6)                                                                                               \
+    FIELD(linedef, ARGS, args, 7)                                                                                                  \
+    FIELD(linedef, UNSIGNED, right, 12)                                                                                            \
+    FIELD(linedef, UNSIGNED, left, 14)
 
 #define SIDEDEF_FIELDS(FIELD)                                                                                                      \
     FIELD(sidedef, SIGNED, x_offset, 0)                                                                                            \
@@ -390,6 +459,10 @@ static int16_t signed_at(const uint8_t *bytes, size_t offset)
 /* Whether a read field is what the bytes of its record say. */
 #define SEEN_UNSIGNED(field, bytes, offset) EXPECT((field) == word_at(bytes, offset));
 #define SEEN_SIGNED(field, bytes, offset) EXPECT((field) == signed_at(bytes, offset));
+#define SEEN_BYTE(field, bytes, offset) EXPECT((field) == (bytes)[offset]);
+#define SEEN_ARGS(field, bytes, offset)                                                                                            \
+    for (size_t i = 0; i < 5; i++)                                                                                                 \
+        EXPECT((field)[i] == (bytes)[(offset) + i]);
 #define SEEN_NAME(field, bytes, offset)                                                                                            \
     for (size_t i = 0; i < 8; i++)                                                                                                 \
         EXPECT((field)[i] == (bytes)[(offset) + i]);
@@ -400,6 +473,10 @@ static int16_t signed_at(const uint8_t *bytes, size_t offset)
 /* Gives a field what the bytes of its record say. */
 #define GIVE_UNSIGNED(field, bytes, offset) (field) = word_at(bytes, offset);
 #define GIVE_SIGNED(field, bytes, offset) (field) = signed_at(bytes, offset);
+#define GIVE_BYTE(field, bytes, offset) (field) = (bytes)[offset];
+#define GIVE_ARGS(field, bytes, offset)                                                                                            \
+    for (size_t i = 0; i < 5; i++)                                                                                                 \
+        (field)[i] = (bytes)[(offset) + i];
 #define GIVE_NAME(field, bytes, offset)                                                                                            \
     for (size_t i = 0; i < 8; i++)                                                                                                 \
         (field)[i] = (bytes)[(offset) + i];
@@ -432,31 +509,28 @@ static int all_are(const void *bytes, size_t size, uint8_t value)
     return 1;
 }
 
-/* Record 1 of a lump of two is read, and written; records that are not there are tried, and must leave everything as it was. */
-#define KIND(kind, FIELDS, bytes_of_one)                                                                                           \
-    SIZE(kind, bytes_of_one);                                                                                                      \
-    SIZE(kind##_answer, (24 + (bytes_of_one) + 7) / 8 * 8);                                                                        \
-    AT(kind##_answer, status, 0);                                                                                                  \
-    AT(kind##_answer, kind, 24);                                                                                                   \
-    FIELDS(AT_ITS_OFFSET)                                                                                                          \
-                                                                                                                                   \
-    static void read_##kind(const uint8_t *bytes)                                                                                  \
+/* Record 1 of a lump of two is read, and written; records that are not there are tried, and must leave everything as it was. A trial has
+ * the name of its kind, or its own where the kind has two; READ is the call, BEGIN the record before any field is given, END what is
+ * expected of a read besides the fields, NOTHING what holds of a refused one. */
+#define TRIAL(kind, trial, FIELDS, bytes_of_one, READ, BEGIN, END, NOTHING)                                                        \
+    static void read_##trial(const uint8_t *bytes)                                                                                 \
     {                                                                                                                              \
         uint8_t lump[2 * (bytes_of_one)];                                                                                          \
         memset(lump, 0xA5, bytes_of_one);                                                                                          \
         memcpy(lump + (bytes_of_one), bytes, bytes_of_one);                                                                        \
-        meshpigeon_##kind##_answer answer = meshpigeon_read_##kind(lump, sizeof lump, 1);                                          \
+        meshpigeon_##kind##_answer answer = READ(lump, sizeof lump, 1);                                                            \
         EXPECT(accepted(answer.status));                                                                                           \
         FIELDS(SEEN)                                                                                                               \
-        answer = meshpigeon_read_##kind(lump, sizeof lump, 2);                                                                     \
-        EXPECT(status_is(answer.status, 60, 0, 0) && all_are(&answer.kind, sizeof answer.kind, 0));                                \
+        EXPECT(END(answer.kind));                                                                                                  \
+        answer = READ(lump, sizeof lump, 2);                                                                                       \
+        EXPECT(status_is(answer.status, 60, 0, 0) && NOTHING(answer.kind));                                                        \
     }                                                                                                                              \
                                                                                                                                    \
-    static void write_##kind(const uint8_t *bytes)                                                                                 \
+    static void write_##trial(const uint8_t *bytes)                                                                                \
     {                                                                                                                              \
         uint8_t lump[2 * (bytes_of_one)];                                                                                          \
         memset(lump, 0xA5, sizeof lump);                                                                                           \
-        meshpigeon_##kind given;                                                                                                   \
+        meshpigeon_##kind given = BEGIN;                                                                                           \
         FIELDS(GIVE)                                                                                                               \
         EXPECT(status_is(meshpigeon_write_##kind(lump, sizeof lump, 2, given), 60, 0, 0));                                         \
         EXPECT(status_is(meshpigeon_write_##kind(lump, sizeof lump, (size_t)-1, given), 60, 0, 0));                                \
@@ -466,19 +540,86 @@ static int all_are(const void *bytes, size_t size, uint8_t value)
         EXPECT(memcmp(lump + (bytes_of_one), bytes, bytes_of_one) == 0);                                                           \
     }                                                                                                                              \
                                                                                                                                    \
-    static void try_##kind(void)                                                                                                   \
+    static void try_##trial(void)                                                                                                  \
     {                                                                                                                              \
         uint8_t bytes[bytes_of_one];                                                                                               \
         count_up(bytes, sizeof bytes);                                                                                             \
-        read_##kind(bytes);                                                                                                        \
-        write_##kind(bytes);                                                                                                       \
+        read_##trial(bytes);                                                                                                       \
+        write_##trial(bytes);                                                                                                      \
         count_down(bytes, sizeof bytes);                                                                                           \
-        read_##kind(bytes);                                                                                                        \
-        write_##kind(bytes);                                                                                                       \
+        read_##trial(bytes);                                                                                                       \
+        write_##trial(bytes);                                                                                                      \
     }
 
-KIND(thing, THING_FIELDS, 10)
-KIND(linedef, LINEDEF_FIELDS, 14)
+/* A kind whose struct is laid out as its record. */
+#define NO_FIELD {0}
+#define NO_MORE(record) 1
+#define NO_BYTES(record) all_are(&(record), sizeof(record), 0)
+#define KIND(kind, FIELDS, bytes_of_one)                                                                                           \
+    SIZE(kind, bytes_of_one);                                                                                                      \
+    SIZE(kind##_answer, (24 + (bytes_of_one) + 7) / 8 * 8);                                                                        \
+    AT(kind##_answer, status, 0);                                                                                                  \
+    AT(kind##_answer, kind, 24);                                                                                                   \
+    FIELDS(AT_ITS_OFFSET)                                                                                                          \
+    TRIAL(kind, kind, FIELDS, bytes_of_one, meshpigeon_read_##kind, NO_FIELD, NO_MORE, NO_BYTES)
+
+/* Things and linedefs: a read in the game's form says the game, and 0 for what it lacks. */
+#define DOOM_THING(lump, len, index) meshpigeon_read_thing(lump, len, index, false)
+#define HEXEN_THING(lump, len, index) meshpigeon_read_thing(lump, len, index, true)
+#define DOOM_LINEDEF(lump, len, index) meshpigeon_read_linedef(lump, len, index, false)
+#define HEXEN_LINEDEF(lump, len, index) meshpigeon_read_linedef(lump, len, index, true)
+#define OF_DOOM {.hexen = false}
+#define OF_HEXEN {.hexen = true}
+#define IS_HEXEN(record) ((record).hexen)
+#define DOOM_THING_END(t) (!(t).hexen && (t).id == 0 && (t).height == 0 && (t).action == 0 && all_are((t).args, 5, 0))
+#define DOOM_LINEDEF_END(l) (!(l).hexen && all_are((l).args, 5, 0))
+#define HEXEN_LINEDEF_END(l) ((l).hexen && (l).tag == 0)
+
+static int no_thing(meshpigeon_thing t)
+{
+    return DOOM_THING_END(t) && t.x == 0 && t.y == 0 && t.angle == 0 && t.kind == 0 && t.flags == 0;
+}
+
+static int no_linedef(meshpigeon_linedef l)
+{
+    return DOOM_LINEDEF_END(l) && l.start == 0 && l.end == 0 && l.flags == 0 && l.special == 0 && l.tag == 0 && l.right == 0 && l.left == 0;
+}
+
+SIZE(thing_answer, 48);
+AT(thing_answer, status, 0);
+AT(thing_answer, thing, 24);
+SIZE(linedef_answer, 48);
+AT(linedef_answer, status, 0);
+AT(linedef_answer, linedef, 24);
+TRIAL(thing, doom_thing, DOOM_THING_FIELDS, 10, DOOM_THING, OF_DOOM, DOOM_THING_END, no_thing)
+TRIAL(thing, hexen_thing, HEXEN_THING_FIELDS, 20, HEXEN_THING, OF_HEXEN, IS_HEXEN, no_thing)
+TRIAL(linedef, doom_linedef, DOOM_LINEDEF_FIELDS, 14, DOOM_LINEDEF, OF_DOOM, DOOM_LINEDEF_END, no_linedef)
+TRIAL(linedef, hexen_linedef, HEXEN_LINEDEF_FIELDS, 16, HEXEN_LINEDEF, OF_HEXEN, HEXEN_LINEDEF_END, no_linedef)
+
+/* A record with one field that its game lacks: 61 where there is room for the record, 60 where there is none, and nothing written. */
+#define LACKS(kind, ...)                                                                                                           \
+    do {                                                                                                                           \
+        const meshpigeon_##kind given = __VA_ARGS__;                                                                               \
+        uint8_t lump[20];                                                                                                          \
+        memset(lump, 0xA5, sizeof lump);                                                                                           \
+        EXPECT(status_is(meshpigeon_write_##kind(lump, sizeof lump, 0, given), 61, 0, 0));                                         \
+        EXPECT(status_is(meshpigeon_write_##kind(lump, sizeof lump, 2, given), 60, 0, 0));                                         \
+        EXPECT(all_are(lump, sizeof lump, 0xA5));                                                                                  \
+    } while (0)
+
+static void try_what_a_game_lacks(void)
+{
+    LACKS(thing, {.id = -1});
+    LACKS(thing, {.height = 1});
+    LACKS(thing, {.action = 1});
+    LACKS(thing, {.args = {1}});
+    LACKS(thing, {.args = {0, 0, 0, 0, 1}});
+    LACKS(linedef, {.args = {1}});
+    LACKS(linedef, {.args = {0, 0, 0, 0, 1}});
+    LACKS(linedef, {.hexen = true, .tag = 1});
+    LACKS(linedef, {.hexen = true, .special = 256});
+}
+
 KIND(sidedef, SIDEDEF_FIELDS, 30)
 KIND(vertex, VERTEX_FIELDS, 4)
 KIND(seg, SEG_FIELDS, 12)
@@ -488,8 +629,11 @@ KIND(sector, SECTOR_FIELDS, 26)
 
 static void records(void)
 {
-    try_thing();
-    try_linedef();
+    try_doom_thing();
+    try_hexen_thing();
+    try_doom_linedef();
+    try_hexen_linedef();
+    try_what_a_game_lacks();
     try_sidedef();
     try_vertex();
     try_seg();
@@ -504,6 +648,7 @@ int main(void)
     directories();
     entries();
     markers();
+    games();
     maps();
     graphs();
     points();

@@ -47,6 +47,9 @@ macro_rules! asker {
                     outcome.compared = search.compared;
                     outcome
                 }
+                Question::MapGame { marker } => {
+                    Outcome::new($side::map_game(bytes, *marker).map(|hexen| vec![i64::from(hexen)]).map_err(refused))
+                }
                 Question::JudgeMap { name, words } => {
                     let mut words = words.clone();
                     let judged = $side::$judge_map(bytes, name, &mut words);
@@ -94,13 +97,25 @@ macro_rules! fields {
     }};
 }
 
+macro_rules! thing {
+    ($it:expr) => {
+        fields!($it; hexen id x y height angle kind flags action; args)
+    };
+}
+
+macro_rules! linedef {
+    ($it:expr) => {
+        fields!($it; hexen start end flags special tag right left; args)
+    };
+}
+
 macro_rules! read {
     ($side:ident, $kind:expr, $lump:expr, $index:expr) => {
         match $kind {
-            Kind::Thing => $side::Thing::read($lump, $index).map(|it| fields!(it; x y angle kind flags;)),
-            Kind::Linedef => {
-                $side::Linedef::read($lump, $index).map(|it| fields!(it; start end flags special tag right left;))
-            }
+            Kind::Thing => $side::Thing::read($lump, $index, false).map(|it| thing!(it)),
+            Kind::HexenThing => $side::Thing::read($lump, $index, true).map(|it| thing!(it)),
+            Kind::Linedef => $side::Linedef::read($lump, $index, false).map(|it| linedef!(it)),
+            Kind::HexenLinedef => $side::Linedef::read($lump, $index, true).map(|it| linedef!(it)),
             Kind::Sidedef => {
                 $side::Sidedef::read($lump, $index).map(|it| fields!(it; x_offset y_offset sector; upper lower middle))
             }
@@ -126,8 +141,12 @@ macro_rules! same {
 macro_rules! write {
     ($side:ident, $record:expr, $lump:expr, $index:expr) => {
         match $record {
-            Record::Thing(it) => same!($side, Thing, it; x y angle kind flags).write($lump, $index),
-            Record::Linedef(it) => same!($side, Linedef, it; start end flags special tag right left).write($lump, $index),
+            Record::Thing(it) => {
+                same!($side, Thing, it; hexen id x y height angle kind flags action args).write($lump, $index)
+            }
+            Record::Linedef(it) => {
+                same!($side, Linedef, it; hexen start end flags special tag args right left).write($lump, $index)
+            }
             Record::Sidedef(it) => same!($side, Sidedef, it; x_offset y_offset upper lower middle sector).write($lump, $index),
             Record::Vertex(it) => same!($side, Vertex, it; x y).write($lump, $index),
             Record::Seg(it) => same!($side, Seg, it; start end angle linedef direction offset).write($lump, $index),

@@ -4,8 +4,8 @@ use meshpigeon::Refusal;
 use std::collections::HashSet;
 
 const NUMBERS: [u32; 34] = [
-    1, 2, 3, 4, 5, 6, 7, 10, 11, 12, 13, 20, 21, 22, 23, 24, 25, 26, 27, 28, 30, 31, 32, 40, 41, 42, 43, 50, 51, 52, 53, 54, 55,
-    60,
+    1, 2, 3, 4, 5, 6, 7, 10, 11, 12, 20, 21, 22, 23, 24, 25, 26, 27, 28, 30, 31, 32, 40, 41, 42, 43, 50, 51, 52, 53, 54, 55, 60,
+    61,
 ];
 
 #[test]
@@ -13,6 +13,11 @@ fn every_number_says_what_is_wrong() {
     let said: HashSet<String> = NUMBERS.iter().map(|&number| Refusal { number, place: 3, record: 4 }.to_string()).collect();
     assert_eq!(said.len(), NUMBERS.len());
     assert!(said.iter().all(|text| !text.starts_with("refused with number")));
+}
+
+#[test]
+fn a_number_that_was_withdrawn_says_nothing() {
+    assert_eq!(Refusal { number: 13, place: 0, record: 0 }.to_string(), "refused with number 13");
 }
 
 #[test]
@@ -27,9 +32,13 @@ fn the_lump_is_named_where_a_place_is() {
 
 #[test]
 fn the_record_has_a_size_where_the_lump_has_records() {
-    let size = |number, place| Refusal { number, place, record: 0 }.record_size();
-    assert_eq!((1..=8).map(|place| size(20, place)).collect::<Vec<_>>(), [10, 14, 30, 4, 12, 4, 28, 26].map(Some));
-    assert_eq!([size(12, 0), size(22, 9), size(28, 10), size(5, 0), size(7, 3)], [None; 5]);
+    let size = |number, place, hexen| Refusal { number, place, record: 0 }.record_size(hexen);
+    let sizes = |hexen| (1..=8).map(|place| size(20, place, hexen)).collect::<Vec<_>>();
+    assert_eq!(sizes(false), [10, 14, 30, 4, 12, 4, 28, 26].map(Some));
+    assert_eq!(sizes(true), [20, 16, 30, 4, 12, 4, 28, 26].map(Some));
+    for hexen in [false, true] {
+        assert_eq!([(12, 0), (22, 9), (28, 10), (5, 0), (7, 3)].map(|(number, place)| size(number, place, hexen)), [None; 5]);
+    }
 }
 
 #[test]
@@ -47,7 +56,9 @@ fn the_whereabouts_are_lump_and_record() {
 #[test]
 fn sizes_are_told_lump_by_lump() {
     let said = |number, place| Refusal { number, place, record: 0 }.to_string();
-    assert!(said(20, 7).contains("NODES") && said(20, 7).contains("28 bytes"));
+    assert!(said(20, 7).contains("NODES") && said(20, 7).ends_with("28 bytes"));
+    assert!(said(20, 1).ends_with("10 bytes, or of 20 in a Hexen map"));
+    assert!(said(20, 2).ends_with("14 bytes, or of 16 in a Hexen map"));
     assert!(said(21, 1).contains("0 to 65,535"));
     assert!(said(21, 4).contains("VERTEXES") && said(21, 4).contains("1 to 65,535"));
     assert!(said(21, 6).contains("1 to 32,767"));

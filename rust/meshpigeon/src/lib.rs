@@ -11,11 +11,13 @@
 //! ```
 #![deny(missing_docs)]
 
+mod game;
 mod raw;
 mod record;
 mod refusal;
 
-pub use record::{Linedef, Node, Sector, Seg, Sidedef, Subsector, Thing, Vertex};
+pub use game::{Linedef, Thing};
+pub use record::{Node, Sector, Seg, Sidedef, Subsector, Vertex};
 pub use refusal::Refusal;
 
 /// As many work words as any map needs: four for each of 32,767 nodes.
@@ -107,12 +109,29 @@ pub fn find_map(wad: &[u8], name: &[u8]) -> Search {
     raw::find_map(wad, name)
 }
 
-/// Judges one map, with work words of its own.
+/// Whether the map whose marker is that entry is Hexen's: 1 to 7. It is exactly if the eleventh entry after the marker is called
+/// BEHAVIOR; nothing else is asked of any entry.
+///
+/// ```
+/// # let entry = |name: &[u8; 8]| [&[0; 8][..], name].concat();
+/// let mut names = [b"BLOCKMAP"; 12];
+/// names[11] = b"BEHAVIOR";
+/// # let directory: Vec<u8> = names.into_iter().flat_map(entry).collect();
+/// # let wad = [&b"PWAD\x0C\0\0\0\x0C\0\0\0"[..], &directory].concat();
+/// assert_eq!(meshpigeon::map_game(&wad, 0), Ok(true));
+/// assert_eq!(meshpigeon::map_game(&wad, 1), Ok(false));
+/// assert_eq!(meshpigeon::map_game(&wad, 12).unwrap_err().number, 7);
+/// ```
+pub fn map_game(wad: &[u8], marker: usize) -> Result<bool, Refusal> {
+    raw::map_game(wad, marker).map(|answer| answer.hexen)
+}
+
+/// Judges one map of either game, with work words of its own.
 pub fn judge_map(wad: &[u8], name: &[u8]) -> Result<Accepted, Refusal> {
     judge_map_with(wad, name, &mut vec![0; MOST_WORDS])
 }
 
-/// Judges one map over lent work words, four for each node. A refusal below 31 leaves them as found; 31, 32 and acceptance leave
+/// Judges one map of either game over lent work words, four for each node. A refusal below 31 leaves them as found; 31, 32 and acceptance leave
 /// the first four for each node zero and the others as found.
 pub fn judge_map_with(wad: &[u8], name: &[u8], words: &mut [u16]) -> Result<Accepted, Refusal> {
     raw::judge_map(wad, name, words).map(|answer| Accepted { depth: answer.depth, marker: answer.marker })

@@ -3,7 +3,8 @@
 
 mod layout;
 
-use crate::record::{Linedef, Node, Sector, Seg, Sidedef, Subsector, Thing, Vertex};
+use crate::game::{Linedef, Thing};
+use crate::record::{Node, Sector, Seg, Sidedef, Subsector, Vertex};
 use crate::{Picture, Refusal, Search};
 
 /// What every answer begins with; number 0 is accepted.
@@ -50,6 +51,8 @@ answers! {
     EntryAnswer { offset: usize, size: usize }
     /// A map's marker, and how many names were compared.
     MarkerAnswer { marker: usize, compared: usize }
+    /// A map's game.
+    GameAnswer { hexen: bool }
     /// An accepted map.
     MapAnswer { depth: usize, marker: usize }
     /// Where a descent ends.
@@ -65,6 +68,7 @@ extern "C" {
     fn meshpigeon_directory(wad: Bytes, wad_len: usize) -> DirectoryAnswer;
     fn meshpigeon_entry(wad: Bytes, wad_len: usize, number: usize) -> EntryAnswer;
     fn meshpigeon_find_map(wad: Bytes, wad_len: usize, name: Bytes, name_len: usize) -> MarkerAnswer;
+    fn meshpigeon_map_game(wad: Bytes, wad_len: usize, marker: usize) -> GameAnswer;
     fn meshpigeon_judge_map(
         wad: Bytes,
         wad_len: usize,
@@ -100,6 +104,10 @@ pub(crate) fn find_map(wad: &[u8], name: &[u8]) -> Search {
     Search { marker: answer.checked().map(|answer| answer.marker), compared }
 }
 
+pub(crate) fn map_game(wad: &[u8], marker: usize) -> Result<GameAnswer, Refusal> {
+    unsafe { meshpigeon_map_game(wad.as_ptr(), wad.len(), marker) }.checked()
+}
+
 pub(crate) fn judge_map(wad: &[u8], name: &[u8], words: &mut [u16]) -> Result<MapAnswer, Refusal> {
     unsafe { meshpigeon_judge_map(wad.as_ptr(), wad.len(), name.as_ptr(), name.len(), words.as_mut_ptr(), words.len()) }.checked()
 }
@@ -118,8 +126,9 @@ pub(crate) fn paint_picture(lump: &[u8], colour: &mut [u8], cover: &mut [u8]) ->
         .checked()
 }
 
+/// Each kind with its functions; a read of the two that games have in forms of their own is told the game.
 macro_rules! kinds {
-    ($($kind:ident $read:ident $write:ident $c_read:ident $c_write:ident $answer:ident;)*) => {$(
+    ($($kind:ident $read:ident $write:ident $c_read:ident $c_write:ident $answer:ident $(of $hexen:ident)?;)*) => {$(
         #[repr(C)]
         struct $answer {
             status: Status,
@@ -127,12 +136,12 @@ macro_rules! kinds {
         }
 
         extern "C" {
-            fn $c_read(lump: Bytes, lump_len: usize, index: usize) -> $answer;
+            fn $c_read(lump: Bytes, lump_len: usize, index: usize $(, $hexen: bool)?) -> $answer;
             fn $c_write(lump: BytesMut, lump_len: usize, index: usize, record: $kind) -> Status;
         }
 
-        pub(crate) fn $read(lump: &[u8], index: usize) -> Result<$kind, Refusal> {
-            let answer = unsafe { $c_read(lump.as_ptr(), lump.len(), index) };
+        pub(crate) fn $read(lump: &[u8], index: usize $(, $hexen: bool)?) -> Result<$kind, Refusal> {
+            let answer = unsafe { $c_read(lump.as_ptr(), lump.len(), index $(, $hexen)?) };
             answer.status.check().map(|()| answer.record)
         }
 
@@ -143,8 +152,8 @@ macro_rules! kinds {
 }
 
 kinds! {
-    Thing read_thing write_thing meshpigeon_read_thing meshpigeon_write_thing ThingAnswer;
-    Linedef read_linedef write_linedef meshpigeon_read_linedef meshpigeon_write_linedef LinedefAnswer;
+    Thing read_thing write_thing meshpigeon_read_thing meshpigeon_write_thing ThingAnswer of hexen;
+    Linedef read_linedef write_linedef meshpigeon_read_linedef meshpigeon_write_linedef LinedefAnswer of hexen;
     Sidedef read_sidedef write_sidedef meshpigeon_read_sidedef meshpigeon_write_sidedef SidedefAnswer;
     Vertex read_vertex write_vertex meshpigeon_read_vertex meshpigeon_write_vertex VertexAnswer;
     Seg read_seg write_seg meshpigeon_read_seg meshpigeon_write_seg SegAnswer;

@@ -1,4 +1,4 @@
-//! The eight kinds of map record.
+//! The kinds of map record that both games share. Things and linedefs are in `game`.
 
 use crate::{raw, Refusal};
 
@@ -29,40 +29,6 @@ macro_rules! record {
             }
         }
     };
-}
-
-record! {
-    /// An object placed on the map.
-    Thing, "THINGS", place 1, size 10, read_thing, write_thing;
-    /// Position, eastward.
-    x: i16,
-    /// Position, northward.
-    y: i16,
-    /// Degrees, 0 is east.
-    angle: u16,
-    /// The DoomEd number.
-    kind: u16,
-    /// Skill and multiplayer bits.
-    flags: u16,
-}
-
-record! {
-    /// A line between two vertices.
-    Linedef, "LINEDEFS", place 2, size 14, read_linedef, write_linedef;
-    /// Its start vertex.
-    start: u16,
-    /// Its end vertex.
-    end: u16,
-    /// Flags; 0x0004 is two-sided.
-    flags: u16,
-    /// Its action.
-    special: u16,
-    /// The tag of the sectors it acts on.
-    tag: u16,
-    /// Its right sidedef.
-    right: u16,
-    /// Its left sidedef; 65,535 is none.
-    left: u16,
 }
 
 record! {

@@ -8,14 +8,16 @@ use std::fmt;
 const LUMPS: [&str; 11] =
     ["the marker", "THINGS", "LINEDEFS", "SIDEDEFS", "VERTEXES", "SEGS", "SSECTORS", "NODES", "SECTORS", "REJECT", "BLOCKMAP"];
 
-/// Bytes of a record by place, for the lumps that hold records.
-const SIZES: [usize; 9] =
-    [0, Thing::SIZE, Linedef::SIZE, Sidedef::SIZE, Vertex::SIZE, Seg::SIZE, Subsector::SIZE, Node::SIZE, Sector::SIZE];
+/// Bytes of a record by place, in a game, for the lumps that hold records.
+const fn sizes(hexen: bool) -> [usize; 9] {
+    let (thing, linedef) = (Thing::size(hexen), Linedef::size(hexen));
+    [0, thing, linedef, Sidedef::SIZE, Vertex::SIZE, Seg::SIZE, Subsector::SIZE, Node::SIZE, Sector::SIZE]
+}
 
 /// Why something was refused.
 #[derive(Clone, Copy, Debug, PartialEq, Eq)]
 pub struct Refusal {
-    /// The number in the table of refusals, 1 to 60.
+    /// The number in the table of refusals, 1 to 61.
     pub number: u32,
     /// The map lump concerned, 0 (the marker) to 10 (BLOCKMAP); 0 where none is.
     pub place: usize,
@@ -32,9 +34,9 @@ impl Refusal {
         }
     }
 
-    /// Bytes of one record of the lump concerned, for the numbers that name a lump of records.
-    pub fn record_size(&self) -> Option<usize> {
-        self.lump().and(SIZES.get(self.place).copied()).filter(|&size| size > 0)
+    /// Bytes of one record of the lump concerned, in a game, for the numbers that name a lump of records.
+    pub fn record_size(&self, hexen: bool) -> Option<usize> {
+        self.lump().and(sizes(hexen).get(self.place).copied()).filter(|&size| size > 0)
     }
 
     /// Whether the record part has a meaning for this number.
@@ -54,9 +56,9 @@ impl Refusal {
     }
 
     /// Whether the caller's loan or question is at fault, and not the file: too few words, a short buffer, a number or a name that
-    /// cannot be asked for.
+    /// cannot be asked for, a record that cannot be written.
     pub fn is_callers(&self) -> bool {
-        matches!(self.number, 7 | 10 | 30 | 41 | 55 | 60)
+        matches!(self.number, 7 | 10 | 30 | 41 | 55 | 60 | 61)
     }
 
     fn say_of_file(&self, out: &mut fmt::Formatter<'_>) -> fmt::Result {
@@ -87,21 +89,24 @@ impl Refusal {
             10 => write!(out, "that is no map's name: maps are called E1M1 to E9M9, or MAP01 to MAP99"),
             11 => write!(out, "the file has no map of that name"),
             12 if self.place == 0 => write!(out, "the map's marker is not empty: a marker has size 0"),
-            12 => write!(
+            _ => write!(
                 out,
                 "{} is missing or misnamed: after the marker come THINGS, LINEDEFS, SIDEDEFS, VERTEXES, SEGS, SSECTORS, NODES, \
                  SECTORS, REJECT and BLOCKMAP, in this order",
                 self.lump().unwrap_or("a lump")
             ),
-            _ => write!(out, "this is a Hexen map, as BEHAVIOR follows its ten lumps: only Doom maps are judged"),
         }
     }
 
     fn say_of_sizes(&self, out: &mut fmt::Formatter<'_>) -> fmt::Result {
         let lump = self.lump().unwrap_or("a lump");
-        let size = self.record_size().unwrap_or_default();
+        let [doom, hexen] = [false, true].map(|hexen| self.record_size(hexen).unwrap_or_default());
         match (self.number, self.place) {
-            (20, _) => write!(out, "{lump} is cut off inside a record: its size must be a multiple of {size} bytes"),
+            (20, _) if doom != hexen => write!(
+                out,
+                "{lump} is cut off inside a record: its size must be a multiple of {doom} bytes, or of {hexen} in a Hexen map"
+            ),
+            (20, _) => write!(out, "{lump} is cut off inside a record: its size must be a multiple of {doom} bytes"),
             (21, 1) => write!(out, "there are too many things: a map has 0 to 65,535"),
             (21, 6) => write!(out, "there are too few or too many subsectors: a map has 1 to 32,767"),
             (21, 7) => {
@@ -182,7 +187,7 @@ impl fmt::Display for Refusal {
     fn fmt(&self, out: &mut fmt::Formatter<'_>) -> fmt::Result {
         match self.number {
             1..=7 => self.say_of_file(out),
-            10..=13 => self.say_of_marker(out),
+            10..=12 => self.say_of_marker(out),
             20..=22 => self.say_of_sizes(out),
             23..=27 => self.say_of_reference(out),
             28 => self.say_of_blockmap(out),
@@ -199,6 +204,11 @@ impl fmt::Display for Refusal {
             40..=43 => self.say_of_descent(out),
             50..=55 => self.say_of_picture(out),
             60 => write!(out, "that record does not lie wholly inside the lump"),
+            61 => write!(
+                out,
+                "that record holds what its game has no room for: a Doom thing has no id, height, action or arguments, a Doom linedef \
+                 no arguments, and a Hexen linedef no tag and no special above 255"
+            ),
             number => write!(out, "refused with number {number}"),
         }
     }

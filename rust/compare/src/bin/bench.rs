@@ -93,6 +93,13 @@ fn inputs() -> Vec<Input> {
     vec![
         Input { name: "map of ordinary size", sized: |n| given::map_of(n), library: library_map, reader: reader_map },
         Input { name: "largest map in 16 MiB", sized: given::largest_map_of, library: library_map, reader: reader_map },
+        Input { name: "Hexen map of ordinary size", sized: |n| given::hexen_map_of(n), library: library_map, reader: reader_map },
+        Input {
+            name: "largest Hexen map in 16 MiB",
+            sized: given::largest_hexen_map_of,
+            library: library_map,
+            reader: reader_map,
+        },
         Input {
             name: "4,096 directory entries",
             sized: |n| given::directory_of(1_024 * n),

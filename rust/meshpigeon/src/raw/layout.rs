@@ -23,6 +23,7 @@ layout! {
     DirectoryAnswer 40 { status 0, count 24, start 32 }
     EntryAnswer 40 { status 0, offset 24, size 32 }
     MarkerAnswer 40 { status 0, marker 24, compared 32 }
+    GameAnswer 32 { status 0, hexen 24 }
     MapAnswer 40 { status 0, depth 24, marker 32 }
     DescentAnswer 40 { status 0, subsector 24, count 32 }
     Picture 24 { width 0, height 8, left 16, top 18 }
@@ -30,8 +31,8 @@ layout! {
 }
 
 layout! {
-    Thing 10 { x 0, y 2, angle 4, kind 6, flags 8 }
-    Linedef 14 { start 0, end 2, flags 4, special 6, tag 8, right 10, left 12 }
+    Thing 22 { hexen 0, id 2, x 4, y 6, height 8, angle 10, kind 12, flags 14, action 16, args 17 }
+    Linedef 22 { hexen 0, start 2, end 4, flags 6, special 8, tag 10, args 12, right 18, left 20 }
     Sidedef 30 { x_offset 0, y_offset 2, upper 4, lower 12, middle 20, sector 28 }
     Vertex 4 { x 0, y 2 }
     Seg 12 { start 0, end 2, angle 4, linedef 6, direction 8, offset 10 }
@@ -41,8 +42,8 @@ layout! {
 }
 
 layout! {
-    ThingAnswer 40 { status 0, record 24 }
-    LinedefAnswer 40 { status 0, record 24 }
+    ThingAnswer 48 { status 0, record 24 }
+    LinedefAnswer 48 { status 0, record 24 }
     SidedefAnswer 56 { status 0, record 24 }
     VertexAnswer 32 { status 0, record 24 }
     SegAnswer 40 { status 0, record 24 }
