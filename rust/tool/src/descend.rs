@@ -24,6 +24,7 @@ pub fn run(file: &OsStr, map: &OsStr, point: (i16, i16), report: &mut Report) {
             report.verdict(&Verdict {
                 file: file.to_string(),
                 subject: Subject::Map(name),
+                game: None,
                 outcome: Outcome::Refused(refusal, None),
             });
         }

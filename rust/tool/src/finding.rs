@@ -57,7 +57,10 @@ impl Finding {
         match (refusal.number, refusal.place) {
             (20, place) => Some(Self::Size(size(place))),
             (21, NODES) => Some(Self::Nodes(size(NODES) / Node::SIZE, size(SSECTORS) / Subsector::SIZE)),
-            (21, place) => Some(Self::Records(size(place) / refusal.record_size()?)),
+            (21, place) => {
+                let hexen = meshpigeon::map_game(wad.bytes(), marker).ok()?;
+                Some(Self::Records(size(place) / refusal.record_size(hexen)?))
+            }
             _ => Some(Self::Reject(size(REJECT), reject_size(size(SECTORS) / Sector::SIZE))),
         }
     }

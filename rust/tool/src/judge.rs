@@ -30,11 +30,12 @@ fn judge_file(file: &OsStr, wad: &Wad, asked: &[Vec<u8>], words: &mut [u16], rep
     let maps = if asked.is_empty() { wad.maps() } else { asked.to_vec() };
     let file = file.to_string_lossy();
     if maps.is_empty() {
-        report.verdict(&Verdict { file: file.to_string(), subject: Subject::File, outcome: Outcome::NoMap });
+        report.verdict(&Verdict { file: file.to_string(), subject: Subject::File, game: None, outcome: Outcome::NoMap });
     }
     for map in maps {
         let outcome = outcome_of(wad, &map, meshpigeon::judge_map_with(wad.bytes(), &map, words));
-        report.verdict(&Verdict { file: file.to_string(), subject: Subject::Map(name::text(&map)), outcome });
+        let game = if outcome.has_lumps() { wad.game(&map) } else { None };
+        report.verdict(&Verdict { file: file.to_string(), subject: Subject::Map(name::text(&map)), game, outcome });
     }
 }
 

@@ -37,7 +37,7 @@ pub fn run(file: &OsStr, lump: &OsStr, output: &OsStr, report: &mut Report) {
     match meshpigeon::paint_picture(lump, &mut colour, &mut cover) {
         Err(refusal) => {
             let outcome = Outcome::Refused(refusal, Finding::in_picture(refusal, lump));
-            report.verdict(&Verdict { file: file.to_string(), subject: Subject::Lump(name), outcome });
+            report.verdict(&Verdict { file: file.to_string(), subject: Subject::Lump(name), game: None, outcome });
         }
         Ok(picture) => {
             let pixels = pixels(&colour, &cover, &palette(&wad));

@@ -70,7 +70,7 @@ impl Report {
             }
             Fault::Refused(refusal, found) => {
                 let file = file.to_string_lossy().into_owned();
-                self.verdict(&Verdict { file, subject: Subject::File, outcome: Outcome::Refused(refusal, found) });
+                self.verdict(&Verdict { file, subject: Subject::File, game: None, outcome: Outcome::Refused(refusal, found) });
             }
         }
     }

@@ -11,8 +11,29 @@ pub struct Verdict {
     pub file: String,
     /// What in the file.
     pub subject: Subject,
+    /// The game of a map whose ten lumps are there.
+    pub game: Option<Game>,
     /// What came of it.
     pub outcome: Outcome,
+}
+
+/// Whose records a map has.
+#[derive(Clone, Copy, Debug, PartialEq, Eq)]
+pub enum Game {
+    /// Doom's.
+    Doom,
+    /// Hexen's.
+    Hexen,
+}
+
+impl Game {
+    /// Its name.
+    fn name(self) -> &'static str {
+        match self {
+            Self::Doom => "Doom",
+            Self::Hexen => "Hexen",
+        }
+    }
 }
 
 /// What in a file was judged.
@@ -35,6 +56,17 @@ pub enum Outcome {
     NoMap,
 }
 
+impl Outcome {
+    /// Whether the map's ten lumps are there: the first refusal that needs them is 20.
+    pub fn has_lumps(&self) -> bool {
+        match self {
+            Self::Accepted(..) => true,
+            Self::Refused(refusal, _) => refusal.number >= 20,
+            Self::NoMap => false,
+        }
+    }
+}
+
 /// `1 node`, `2 nodes`.
 pub fn counted(count: usize, thing: &str) -> String {
     format!("{count} {thing}{}", if count == 1 { "" } else { "s" })
@@ -53,7 +85,7 @@ impl Verdict {
             Outcome::Refused(refusal, _) => {
                 let refused = painted(&format!("refused {}", refusal.number), 31, colour);
                 let at = refusal.whereabouts().map_or(String::new(), |place| format!(" at {place}"));
-                format!("{refused}{at}: {}", self.text())
+                format!("{refused}{at}{}: {}", self.hexen(), self.text())
             }
             Outcome::NoMap => self.text(),
         };
@@ -83,6 +115,7 @@ impl Verdict {
             .object("found", found.map(Finding::json))
             .count("depth", accepted.map(|it| it.depth))
             .count("marker", accepted.map(|it| it.marker))
+            .text("game", self.game.map(Game::name))
             .text("text", self.text().as_str())
             .close()
     }
@@ -95,12 +128,20 @@ impl Verdict {
         }
     }
 
+    /// That a map is Hexen's, where it is.
+    fn hexen(&self) -> &'static str {
+        match self.game {
+            Some(Game::Hexen) => " (Hexen)",
+            _ => "",
+        }
+    }
+
     /// What came of it, without number and place.
     fn text(&self) -> String {
         match &self.outcome {
             Outcome::Accepted(accepted, nodes, subsectors) => {
                 let (nodes, subsectors) = (counted(*nodes, "node"), counted(*subsectors, "subsector"));
-                format!("accepted, depth {}, {nodes}, {subsectors}", accepted.depth)
+                format!("accepted{}, depth {}, {nodes}, {subsectors}", self.hexen(), accepted.depth)
             }
             Outcome::Refused(refusal, None) => refusal.to_string(),
             Outcome::Refused(refusal, Some(found)) => format!("{refusal}; {found}"),
@@ -123,15 +164,17 @@ mod tests {
 
     fn refused(number: u32, place: usize, record: usize, subject: Subject) -> Verdict {
         let refusal = Refusal { number, place, record };
-        Verdict { file: "a.wad".into(), subject, outcome: Outcome::Refused(refusal, None) }
+        Verdict { file: "a.wad".into(), subject, game: None, outcome: Outcome::Refused(refusal, None) }
     }
 
     #[test]
     fn colour_is_around_the_verdict_only() {
         let map = || Subject::Map("MAP01".into());
         let outcome = Outcome::Accepted(Accepted { depth: 1, marker: 0 }, 1, 2);
-        let good = Verdict { file: "accepted.wad".into(), subject: map(), outcome };
+        let mut good = Verdict { file: "accepted.wad".into(), subject: map(), game: Some(Game::Doom), outcome };
         assert_eq!(good.line(true), "accepted.wad:MAP01: \x1b[32maccepted\x1b[0m, depth 1, 1 node, 2 subsectors");
+        good.game = Some(Game::Hexen);
+        assert_eq!(good.line(true), "accepted.wad:MAP01: \x1b[32maccepted\x1b[0m (Hexen), depth 1, 1 node, 2 subsectors");
         assert!(refused(31, 7, 0, map()).line(true).starts_with("a.wad:MAP01: \x1b[31mrefused 31\x1b[0m at NODES: "));
     }
 
@@ -141,6 +184,6 @@ mod tests {
         assert!(refused(1, 0, 0, Subject::File).line(false).starts_with("a.wad: refused 1: "));
         assert!(refused(53, 0, 4, Subject::Lump("P".into())).line(false).starts_with("a.wad:P: refused 53 at column 4: "));
         assert!(refused(23, 2, 17, Subject::Map("E1M1".into())).json().contains(r#""place":2,"lump":"LINEDEFS","record":17"#));
-        assert!(refused(13, 0, 0, Subject::Map("E1M1".into())).json().contains(r#""place":null,"lump":null,"record":null"#));
+        assert!(refused(11, 0, 0, Subject::Map("E1M1".into())).json().contains(r#""place":null,"lump":null,"record":null"#));
     }
 }

@@ -3,6 +3,7 @@
 use crate::finding::Finding;
 use crate::input::{self, Fault};
 use crate::name;
+use crate::verdict::Game;
 use meshpigeon::Directory;
 use std::ffi::OsStr;
 
@@ -79,6 +80,13 @@ impl Wad {
     /// An entry's bytes; none for a number past the last.
     pub fn lump(&self, number: usize) -> &[u8] {
         meshpigeon::lump(&self.bytes, number).unwrap_or_default()
+    }
+
+    /// The game of the map of a name, if it is there.
+    pub fn game(&self, map: &[u8]) -> Option<Game> {
+        let marker = meshpigeon::find_map(&self.bytes, map).marker.ok()?;
+        let hexen = meshpigeon::map_game(&self.bytes, marker).ok()?;
+        Some(if hexen { Game::Hexen } else { Game::Doom })
     }
 
     /// The names of all maps, each once, where it first stands in the directory, zero-padded to eight bytes.

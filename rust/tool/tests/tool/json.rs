@@ -2,10 +2,10 @@
 
 use crate::json_reader::{object, Value};
 use crate::support::{changed, good, lumps, Folder, Said};
-use generator::{rooms, PictureSpec, Plan, MAP_NAME};
+use generator::{hexen_rooms, rooms, PictureSpec, Plan, MAP_NAME};
 use std::ffi::OsStr;
 
-const KEYS: [&str; 10] = ["file", "map", "number", "place", "lump", "record", "found", "depth", "marker", "text"];
+const KEYS: [&str; 11] = ["file", "map", "number", "place", "lump", "record", "found", "depth", "marker", "game", "text"];
 
 /// The values of a verdict by its keys; its text is left out, but not empty.
 fn verdict(line: &str) -> Vec<Value> {
@@ -31,7 +31,7 @@ fn an_accepted_map_has_depth_and_marker() {
     let mut plan = Plan::new(rooms(), MAP_NAME);
     plan.entries.insert(0, generator::EntryPlan::empty(*b"OTHER\0\0\0"));
     let said = Folder::with("a.wad", &plan.wad()).run(&["judge", "a.wad", "--json"]);
-    let expected = vec![text("a.wad"), text("MAP01"), Number(0), Null, Null, Null, Null, Number(2), Number(1)];
+    let expected = vec![text("a.wad"), text("MAP01"), Number(0), Null, Null, Null, Null, Number(2), Number(1), text("Doom")];
     assert_eq!((verdicts(&said), said.status), (vec![expected], 0));
 }
 
@@ -44,20 +44,39 @@ fn a_refusal_has_place_lump_and_record_where_they_mean_something() {
         .and("none.wad", &lumps(&[]));
     let said = folder.run(&["judge", "--json", "loop.wad", "shared.wad", "seg.wad", "name.wad", "none.wad"]);
     let expected = vec![
-        vec![text("loop.wad"), text("MAP01"), Number(31), Number(7), text("NODES"), Null, Null, Null, Null],
-        vec![text("shared.wad"), text("MAP01"), Number(32), Number(7), text("NODES"), Null, Null, Null, Null],
-        vec![text("seg.wad"), text("MAP01"), Number(25), Number(5), text("SEGS"), Number(0), Null, Null, Null],
-        vec![text("name.wad"), Null, Number(6), Null, Null, Number(1), Null, Null, Null],
-        vec![text("none.wad"), Null, Null, Null, Null, Null, Null, Null, Null],
+        vec![text("loop.wad"), text("MAP01"), Number(31), Number(7), text("NODES"), Null, Null, Null, Null, text("Doom")],
+        vec![text("shared.wad"), text("MAP01"), Number(32), Number(7), text("NODES"), Null, Null, Null, Null, text("Doom")],
+        vec![text("seg.wad"), text("MAP01"), Number(25), Number(5), text("SEGS"), Number(0), Null, Null, Null, text("Doom")],
+        vec![text("name.wad"), Null, Number(6), Null, Null, Number(1), Null, Null, Null, Null],
+        vec![text("none.wad"), Null, Null, Null, Null, Null, Null, Null, Null, Null],
     ];
     assert_eq!((verdicts(&said), said.status), (expected, 1));
+}
+
+#[test]
+fn the_game_is_said_where_the_ten_lumps_are_there() {
+    let spoilt = |spoil: fn(&mut Plan)| {
+        let mut plan = Plan::new(hexen_rooms(), MAP_NAME);
+        spoil(&mut plan);
+        plan.wad()
+    };
+    let folder = Folder::with("good.wad", &spoilt(|_| ()))
+        .and("size.wad", &spoilt(|plan| plan.entry_at(1).padding = vec![0; 10]))
+        .and("doom.wad", &spoilt(|plan| plan.entries.truncate(11)))
+        .and("name.wad", &spoilt(|plan| plan.entry_at(3).name = *b"OTHER\0\0\0"));
+    let said = folder.run(&["judge", "--json", "good.wad", "size.wad", "doom.wad", "name.wad"]);
+    let last = |values: Vec<Value>| values.into_iter().last();
+    let games: Vec<Option<Value>> = verdicts(&said).into_iter().map(last).collect();
+    assert_eq!(games, [Some(text("Hexen")), Some(text("Hexen")), Some(text("Doom")), Some(Null)], "{said:?}");
+    assert!(said.out.lines().next().is_some_and(|line| line.contains(r#""text":"accepted (Hexen), depth 2"#)), "{said:?}");
 }
 
 #[test]
 fn quiet_leaves_the_refusals() {
     let folder = Folder::with("a.wad", &good()).and("b.wad", &changed(|map| map.segs[0].linedef = 99));
     let said = folder.run(&["judge", "--json", "--quiet", "a.wad", "b.wad"]);
-    let expected = vec![text("b.wad"), text("MAP01"), Number(25), Number(5), text("SEGS"), Number(0), Null, Null, Null];
+    let expected =
+        vec![text("b.wad"), text("MAP01"), Number(25), Number(5), text("SEGS"), Number(0), Null, Null, Null, text("Doom")];
     assert_eq!(verdicts(&said), [expected]);
 }
 
@@ -67,7 +86,7 @@ fn a_refused_picture_is_the_lump() {
     picture.offsets[2] = 0;
     let folder = Folder::with("a.wad", &lumps(&[(b"BAD\0\0\0\0\0", picture.encode())]));
     let said = folder.run(&["picture", "a.wad", "BAD", "-o", "out.png", "--json"]);
-    assert_eq!(verdicts(&said), [vec![text("a.wad"), Null, Number(53), Null, text("BAD"), Number(2), Null, Null, Null]]);
+    assert_eq!(verdicts(&said), [vec![text("a.wad"), Null, Number(53), Null, text("BAD"), Number(2), Null, Null, Null, Null]]);
 }
 
 #[test]

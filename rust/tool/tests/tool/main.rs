@@ -3,6 +3,7 @@
 
 mod descend;
 mod found;
+mod hexen;
 mod input;
 mod json;
 mod json_reader;

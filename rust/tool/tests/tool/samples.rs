@@ -9,15 +9,17 @@ fn folder() -> Folder {
 
 #[test]
 fn each_sample_is_what_its_name_says() {
-    let said = folder().run(&["judge", "accepted.wad", "leftover.wad", "loop.wad", "picture.wad", "reference.wad", "shared.wad"]);
+    let said = folder()
+        .run(&["judge", "accepted.wad", "hexen.wad", "leftover.wad", "loop.wad", "picture.wad", "reference.wad", "shared.wad"]);
     let lines: Vec<&str> = said.out.lines().collect();
     assert_eq!(lines[0], format!("accepted.wad:MAP01: {GOOD}"));
-    assert_eq!(lines[1], format!("leftover.wad:MAP01: {GOOD}"));
-    assert!(lines[2].starts_with("loop.wad:MAP01: refused 31 at NODES: "), "{said:?}");
-    assert_eq!(lines[3], "picture.wad: no map");
-    assert!(lines[4].starts_with("reference.wad:MAP01: refused 23 at LINEDEFS 5: "), "{said:?}");
-    assert!(lines[5].starts_with("shared.wad:MAP01: refused 32 at NODES: "), "{said:?}");
-    assert_eq!(lines[6..], ["6 files: 2 maps accepted, 3 maps refused, 1 file without a map"]);
+    assert_eq!(lines[1], "hexen.wad:MAP01: accepted (Hexen), depth 2, 3 nodes, 4 subsectors");
+    assert_eq!(lines[2], format!("leftover.wad:MAP01: {GOOD}"));
+    assert!(lines[3].starts_with("loop.wad:MAP01: refused 31 at NODES: "), "{said:?}");
+    assert_eq!(lines[4], "picture.wad: no map");
+    assert!(lines[5].starts_with("reference.wad:MAP01: refused 23 at LINEDEFS 5: "), "{said:?}");
+    assert!(lines[6].starts_with("shared.wad:MAP01: refused 32 at NODES: "), "{said:?}");
+    assert_eq!(lines[7..], ["7 files: 3 maps accepted, 3 maps refused, 1 file without a map"]);
     assert_eq!((said.status, said.err.as_str()), (1, ""));
 }
 
