@@ -1,5 +1,5 @@
 // The node graph of a map, and the descent of a point to its subsector. The definitions are in specs/.
-mod side;
+pub mod side;
 
 use built::Node;
 use refusal::Refusal;
@@ -52,13 +52,13 @@ pub fn descend(nodes: &[u8], subsectors: usize, x: i16, y: i16) -> Descent
     descend_from_root(nodes, count, subsectors, x, y)
 }
 
-fn nodes_ok(nodes: &[u8]) -> bool
+pub fn nodes_ok(nodes: &[u8]) -> bool
     ensures { λ r. ⌜ r ≡ nodesOk (now (nodes .entry)) ⌝ }
 {
     (nodes.len() % Node::SIZE == 0) & (nodes.len() / Node::SIZE <= MOST)
 }
 
-fn subsectors_ok(count: usize, subsectors: usize) -> bool
+pub fn subsectors_ok(count: usize, subsectors: usize) -> bool
     ensures { λ r. ⌜ r ≡ subsectorsOk count subsectors ⌝ }
 {
     (1 <= subsectors) & (subsectors <= MOST) & ((0 < count) | (subsectors == 1))
@@ -122,7 +122,7 @@ fn word_at(nodes: &[u8], at: usize) -> usize
 }
 
 // A child's word is in range: a node of the lump, or one of the subsectors.
-fn child_ok(count: usize, subsectors: usize, word: usize) -> bool
+pub fn child_ok(count: usize, subsectors: usize, word: usize) -> bool
     ensures { λ r. ⌜ r ≡ childOk count subsectors word ⌝ }
 {
     if word < SUBSECTOR_BIT {

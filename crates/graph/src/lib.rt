@@ -55,7 +55,7 @@ pub fn judge(nodes: &[u8], count: usize, words: &mut [u16]) -> Graph
 }
 
 // The first n words as zeros.
-fn clear(words: &mut [u16], n: usize)
+pub fn clear(words: &mut [u16], n: usize)
     requires { ⌜ n ≤ length (now words) ⌝ }
     ensures { λ _. ⌜ now (words .exit) ≡ cleared (now (words .entry)) n ⌝ }
 {

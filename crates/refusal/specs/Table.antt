@@ -11,6 +11,7 @@ use Rattle.refusal.specs.declared.Refusal.the-variants.{LinedefReference
 use Rattle.refusal.specs.declared.Refusal.the-variants.{SubsectorReference, NodeReference, Blockmap}
 use Rattle.refusal.specs.declared.Refusal.the-variants.{WorkWords, NodeLoop, NodeShared}
 use Rattle.refusal.specs.declared.Refusal.the-variants.{DescentNodes, DescentSubsectors, DescentChild, DescentLoop}
+use Rattle.refusal.specs.declared.Refusal.the-variants.{OrderDepth, OrderWords, OrderLength}
 use Rattle.refusal.specs.declared.Refusal.the-variants.{PictureLength, PictureSize, PictureOffsets}
 use Rattle.refusal.specs.declared.Refusal.the-variants.{PostBounds, PostRows, PixelBuffer}
 use Rattle.refusal.specs.declared.Refusal.the-variants.{RecordBounds, RecordFields}
@@ -47,6 +48,9 @@ rowOf DescentNodes = row 40 0 0
 rowOf DescentSubsectors = row 41 0 0
 rowOf (DescentChild node) = row 42 0 node
 rowOf DescentLoop = row 43 0 0
+rowOf OrderDepth = row 44 0 0
+rowOf OrderWords = row 45 0 0
+rowOf OrderLength = row 46 0 0
 rowOf PictureLength = row 50 0 0
 rowOf PictureSize = row 51 0 0
 rowOf PictureOffsets = row 52 0 0

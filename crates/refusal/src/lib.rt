@@ -54,6 +54,12 @@ pub enum Refusal {
     DescentChild(usize),
     // 43: descent, as many choices as nodes and still on a node
     DescentLoop,
+    // 44: draw order, choices from the root about to pass more than 256 nodes
+    OrderDepth,
+    // 45: draw order, fewer than nodes + 1 words
+    OrderWords,
+    // 46: draw order, a list about to pass nodes + 1 entries
+    OrderLength,
     // 50: a picture under 8 bytes
     PictureLength,
     // 51: a picture's width or height
@@ -112,6 +118,9 @@ pub fn row_of(r: Refusal) -> Row
         Refusal::DescentSubsectors => Row(41, 0, 0),
         Refusal::DescentChild(node) => Row(42, 0, node),
         Refusal::DescentLoop => Row(43, 0, 0),
+        Refusal::OrderDepth => Row(44, 0, 0),
+        Refusal::OrderWords => Row(45, 0, 0),
+        Refusal::OrderLength => Row(46, 0, 0),
         Refusal::PictureLength => Row(50, 0, 0),
         Refusal::PictureSize => Row(51, 0, 0),
         Refusal::PictureOffsets => Row(52, 0, 0),

@@ -1,0 +1,4 @@
+-- The laws of the draw order. Assumes nothing.
+
+pub mod Lists
+pub mod Words

@@ -1,0 +1,23 @@
+-- Not for the reader of promises: what only contracts of inner functions cite. Assumes nothing.
+use Prim.Native.Nat.{ℕ, _+_, _*_, _≤_}
+use mathlib.Core.List.{List}
+use mathlib.Core.Path.{_≡_}
+use lib.ListN.{length}
+use lib.Seq.{sets}
+use Rattle.built.specs.Nodes.{nodeSize}
+use Rattle.draw.specs.declared.Order.{Order}
+use Rattle.draw.specs.declared.Order.the-variants.{Listed, Refused}
+use Rattle.draw.specs.Lists.{Listing, listed, stopped}
+
+-- what a walk is given: whole nodes, no more than a word can name, and one word more
+pub record Walkable (nodes : List ℕ) (count : ℕ) (words : List ℕ) : Type 0 where
+  pub whole : nodeSize * count ≡ length nodes
+  pub most : count ≤ 32767
+  pub enough : length words ≡ count + 1
+
+-- what a walk that begins at place `at` answers and leaves in the words: the place behind the list, and the list; of the words
+-- that a refusal leaves nothing is said
+abbrev pub Walked : Listing → ℕ → List ℕ → Order → List ℕ → Type 0
+Walked (listed xs) at before answer after =
+    (answer ≡ Listed (at + length xs)) × (after ≡ sets before at xs) × (at + length xs ≤ length before)
+Walked (stopped r) at before answer after = answer ≡ Refused r

@@ -1,0 +1,33 @@
+-- What is promised of the draw order: the answer, and the words afterwards. Assumes nothing.
+use Prim.Native.Nat.{ℕ, _+_}
+use mathlib.Core.List.{List, _++_}
+use mathlib.Core.Path.{_≡_}
+use lib.IntN.{ℤ}
+use lib.ListN.{length, drop}
+use Rattle.refusal.specs.declared.Check.{Check}
+use Rattle.refusal.specs.declared.Check.the-variants.{Pass, Refused}
+use Rattle.bsp.specs.Nodes.{nodesOf}
+use Rattle.graph.specs.Judging.{cleared}
+use Rattle.draw.specs.declared.Order.{Order}
+use Rattle.draw.specs.declared.Order.the-variants.{Listed, Refused as NotListed}
+use Rattle.draw.specs.Lists.{Listing, listed, stopped, rootOrder, orderCheck, drawOrder}
+
+-- how many are listed, or the refusal
+abbrev pub answerOf : Listing → Order
+answerOf (listed xs) = Listed (length xs)
+answerOf (stopped r) = NotListed r
+
+-- the words after the walk: the list, and the others as found; after a refusal the first nodes + 1 are zero
+abbrev pub wordsOf : List ℕ → Listing → List ℕ → List ℕ
+wordsOf nodes (listed xs) words = xs ++ drop (length xs) words
+wordsOf nodes (stopped r) words = cleared words (nodesOf nodes + 1)
+
+-- and where 40, 41 or 45 is met before the walk, as found
+abbrev pub wordsBy : Check → List ℕ → Listing → List ℕ → List ℕ
+wordsBy Pass nodes listing words = wordsOf nodes listing words
+wordsBy (Refused r) nodes listing words = words
+
+-- the answer, and the words afterwards
+pub record Drawn (nodes : List ℕ) (subsectors : ℕ) (x y : ℤ) (before : List ℕ) (answer : Order) (after : List ℕ) : Type 0 where
+  pub answers : answer ≡ answerOf (drawOrder nodes subsectors x y (length before))
+  pub leaves : after ≡ wordsBy (orderCheck nodes subsectors (length before)) nodes (rootOrder nodes subsectors x y) before

@@ -1,0 +1,190 @@
+// The draw order: for a camera point the subsectors of a node graph, front first (W-208). The walk of a child and the walk of a
+// node call each other, and the nodes that may still be passed fall with each node.
+use bsp::Choice;
+use built::Node;
+use refusal::Check;
+use refusal::Refusal;
+ghost use mathlib.Core.Path.{_≡_};
+ghost use Prim.Native.Nat.{_+_, _*_, _<_, _≤_};
+ghost use lib.ListN.{length};
+ghost use Rattle.built.specs.Nodes.{nodeSize};
+ghost use Rattle.draw.specs.Lists.{other, nodeOrder, childOrder, rootOrder, orderCheck};
+ghost use Rattle.draw.specs.Promises.{answerOf, wordsOf, Drawn};
+ghost use Rattle.draw.specs.Inner.{Walkable, Walked};
+
+// The most nodes that choices from the root may pass.
+const MOST_PASSED: usize = 256;
+
+// What the draw order answers.
+pub enum Order {
+    // how many subsectors are listed
+    Listed(usize),
+    Refused(Refusal),
+}
+
+// The subsectors for the point (x, y), front first, over any NODES lump and for any count of subsectors. 40, 41 and 45 leave the
+// words as found; 42, 44 and 46 leave the first nodes + 1 zero.
+pub fn draw_order(nodes: &[u8], subsectors: usize, x: i16, y: i16, words: &mut [u16]) -> Order
+    ensures { λ r. ⌜ Drawn (now (nodes .entry)) subsectors x y (now (words .entry)) r (now (words .exit)) ⌝ }
+{
+    let count = nodes.len() / Node::SIZE;
+    if let Check::Refused(r) = check_lent(nodes, subsectors, words.len()) {
+        return Order::Refused(r);
+    }
+    list_all(nodes, count, subsectors, x, y, words)
+}
+
+// 40, 41 and 45.
+fn check_lent(nodes: &[u8], subsectors: usize, lent: usize) -> Check
+    ensures { λ r. ⌜ r ≡ orderCheck (now (nodes .entry)) subsectors lent ⌝ }
+{
+    let count = nodes.len() / Node::SIZE;
+    refusal::then(
+        refusal::pass_if(bsp::nodes_ok(nodes), Refusal::DescentNodes),
+        refusal::then(
+            refusal::pass_if(
+                bsp::subsectors_ok(count, subsectors),
+                Refusal::DescentSubsectors,
+            ),
+            refusal::pass_if(count + 1 <= lent, Refusal::OrderWords),
+        ),
+    )
+}
+
+// The list in the first words, and these zero where it is refused.
+fn list_all(
+    nodes: &[u8],
+    count: usize,
+    subsectors: usize,
+    x: i16,
+    y: i16,
+    words: &mut [u16],
+) -> Order
+    requires { ⌜ (nodeSize * count ≡ length (now nodes)) × (count ≤ 32767) × (count + 1 ≤ length (now words)) ⌝ }
+    ensures { λ r. ⌜ r ≡ answerOf (rootOrder (now (nodes .entry)) subsectors x y) ⌝ }
+    ensures { λ _. ⌜ now (words .exit) ≡ wordsOf (now (nodes .entry)) (rootOrder (now (nodes .entry)) subsectors x y) (now (words .entry)) ⌝ }
+{
+    let used = count + 1;
+    match walk_root(nodes, count, subsectors, x, y, &mut words[..used]) {
+        Order::Listed(listed) => Order::Listed(listed),
+        Order::Refused(r) => {
+            graph::clear(words, used);
+            Order::Refused(r)
+        }
+    }
+}
+
+// The walk of the root. Without nodes subsector 0 is alone.
+fn walk_root(
+    nodes: &[u8],
+    count: usize,
+    subsectors: usize,
+    x: i16,
+    y: i16,
+    words: &mut [u16],
+) -> Order
+    requires { ⌜ Walkable (now nodes) count (now words) ⌝ }
+    ensures { λ r. ⌜ Walked (rootOrder (now (nodes .entry)) subsectors x y) 0 (now (words .entry)) r (now (words .exit)) ⌝ }
+{
+    if count == 0 {
+        words[0] = 0;
+        return Order::Listed(1);
+    }
+    walk_node(
+        nodes,
+        count,
+        subsectors,
+        x,
+        y,
+        words,
+        0,
+        MOST_PASSED,
+        count - 1,
+    )
+}
+
+// The walk of a node, where it and the nodes below it may be `more`: the child on the point's side, then the other one.
+fn walk_node(
+    nodes: &[u8],
+    count: usize,
+    subsectors: usize,
+    x: i16,
+    y: i16,
+    words: &mut [u16],
+    at: usize,
+    more: usize,
+    node: usize,
+) -> Order
+    requires { ⌜ Walkable (now nodes) count (now words) × (node < count) ⌝ }
+    ensures { λ r. ⌜ Walked (nodeOrder (now (nodes .entry)) subsectors x y more at node) at (now (words .entry)) r (now (words .exit)) ⌝ }
+{
+    if more == 0 {
+        return Order::Refused(Refusal::OrderDepth);
+    }
+    let side = bsp::side::side_at(nodes, x, y, node);
+    match walk_child(
+        nodes,
+        count,
+        subsectors,
+        x,
+        y,
+        words,
+        at,
+        more - 1,
+        node,
+        side,
+    ) {
+        Order::Refused(r) => Order::Refused(r),
+        Order::Listed(next) => walk_child(
+            nodes,
+            count,
+            subsectors,
+            x,
+            y,
+            words,
+            next,
+            more - 1,
+            node,
+            other(side),
+        ),
+    }
+}
+
+// The walk of the child that a choice at a node leads to. It is judged when the walk comes to it.
+fn walk_child(
+    nodes: &[u8],
+    count: usize,
+    subsectors: usize,
+    x: i16,
+    y: i16,
+    words: &mut [u16],
+    at: usize,
+    more: usize,
+    node: usize,
+    choice: Choice,
+) -> Order
+    requires { ⌜ Walkable (now nodes) count (now words) × (node < count) ⌝ }
+    ensures { λ r. ⌜ Walked (childOrder (now (nodes .entry)) subsectors x y more at node choice) at (now (words .entry)) r (now (words .exit)) ⌝ }
+{
+    let child = bsp::child_of(nodes, node, choice);
+    if !bsp::child_ok(count, subsectors, child) {
+        return Order::Refused(Refusal::DescentChild(node));
+    }
+    if child < bsp::SUBSECTOR_BIT {
+        return walk_node(nodes, count, subsectors, x, y, words, at, more, child);
+    }
+    if words.len() <= at {
+        return Order::Refused(Refusal::OrderLength);
+    }
+    words[at] = (child - bsp::SUBSECTOR_BIT) as u16;
+    Order::Listed(at + 1)
+}
+
+fn other(choice: Choice) -> Choice
+    ensures { λ r. ⌜ r ≡ other choice ⌝ }
+{
+    match choice {
+        Choice::Right => Choice::Left,
+        Choice::Left => Choice::Right,
+    }
+}
