@@ -49,13 +49,13 @@ alone-ok count subsectors one = by (decLt 0 count)
         either false = refl
 
 module _ (nodes : List ℕ) (subsectors : ℕ) where
-  nodes-ok : Passed nodes subsectors → nodesOk nodes ≡ true
+  pub nodes-ok : Passed nodes subsectors → nodesOk nodes ≡ true
   nodes-ok p =
       let whole = p .whole in
       let even : length nodes % 28 ≡ 0 = omega arith in
       rw (eq-eqb (length nodes % 28) 0 even, le-leb (nodesOf nodes) 32767 (p .few))
 
-  subsectors-ok : Passed nodes subsectors → subsectorsOk (nodesOf nodes) subsectors ≡ true
+  pub subsectors-ok : Passed nodes subsectors → subsectorsOk (nodesOf nodes) subsectors ≡ true
   subsectors-ok p =
       rw (le-leb 1 subsectors (p .least), le-leb subsectors 32767 (p .most)) (alone-ok (nodesOf nodes) subsectors (p .alone))
 

@@ -117,13 +117,13 @@ at-most (suc n) xs e h =
 
 module _ (nodes : List ℕ) where
   -- the nodes, and the subsectors, among the words from `w` on
-  abbrev nodesIn : ℕ → ℕ → List ℕ
+  abbrev pub nodesIn : ℕ → ℕ → List ℕ
   nodesIn k w = kept isNode (wordsFrom nodes k w)
 
   abbrev endsIn : ℕ → ℕ → List ℕ
   endsIn k w = kept (λ v. not (isNode v)) (wordsFrom nodes k w)
 
-  kept-length : (test : ℕ → Bool) (xs ys : List ℕ) → length (kept test (xs ++ ys)) ≡ length (kept test xs) + length (kept test ys)
+  pub kept-length : (test : ℕ → Bool) (xs ys : List ℕ) → length (kept test (xs ++ ys)) ≡ length (kept test xs) + length (kept test ys)
   kept-length test xs ys = ap length (kept-append test xs ys) ∙ length-append (kept test xs) (kept test ys)
 
   pub counted : (k w : ℕ) → stands nodes k w ≡ false → length (endsIn k w) ≡ length (nodesIn k w) + 1
@@ -170,22 +170,25 @@ module _ (nodes : List ℕ) where
           once = kept-once test words alone;
         }
 
+    pub nodes-held : HoldsOnce (λ v. Reached nodes v × (v < subsectorBit)) (nodesIn (nodesOf nodes) (root (nodesOf nodes)))
+    nodes-held = held isNode (λ v. v < subsectorBit) (λ v h. lt-ltb v subsectorBit h) (λ v e. ltb-true v subsectorBit e)
+
+    pub nodes-few : length (nodesIn (nodesOf nodes) (root (nodesOf nodes))) ≤ nodesOf nodes
+    nodes-few =
+        at-most (nodesOf nodes) (nodesIn (nodesOf nodes) (root (nodesOf nodes))) (nodes-held .once)
+        (λ v m.
+        let p = nodes-held .only v m in
+        in-range inside (p .0 .choices) (root (nodesOf nodes)) v (root-node (nodesOf nodes)) (p .0 .leads) (p .1))
+
     pub one-more : OneMore nodes
     one-more =
-        let words = wordsFrom nodes (nodesOf nodes) (root (nodesOf nodes)) in
-        let those =
-        held isNode (λ v. v < subsectorBit) (λ v h. lt-ltb v subsectorBit h) (λ v e. ltb-true v subsectorBit e) in
         record {
-          nodeWords = kept isNode words;
-          subsectorWords = kept (λ v. not (isNode v)) words;
-          reachedNodes = those;
+          nodeWords = nodesIn (nodesOf nodes) (root (nodesOf nodes));
+          subsectorWords = endsIn (nodesOf nodes) (root (nodesOf nodes));
+          reachedNodes = nodes-held;
           reachedSubsectors =
               held (λ v. not (isNode v)) (λ v. subsectorBit ≤ v)
               (λ v h. ap not (le-ltb v subsectorBit h)) (λ v e. ltb-false v subsectorBit (not-true (isNode v) e));
           oneMore = counted (nodesOf nodes) (root (nodesOf nodes)) off;
-          few =
-              at-most (nodesOf nodes) (kept isNode words) (those .once)
-              (λ v m.
-              let p = those .only v m in
-              in-range inside (p .0 .choices) (root (nodesOf nodes)) v (root-node (nodesOf nodes)) (p .0 .leads) (p .1));
+          few = nodes-few;
         }

@@ -30,7 +30,7 @@ module _ (nodes : List ℕ) where
   words-more k w = refl
 
   -- the words below a node
-  abbrev below : ℕ → ℕ → List ℕ
+  abbrev pub below : ℕ → ℕ → List ℕ
   below k w = wordsFrom nodes k (childOf nodes w Right) ++ wordsFrom nodes k (childOf nodes w Left)
 
   pub words-node : (k : ℕ) {w : ℕ} → w < subsectorBit → wordsFrom nodes (suc k) w ≡ w ∷ below k w
@@ -49,7 +49,7 @@ module _ (nodes : List ℕ) where
   no-choice-left : (w : ℕ) → stands nodes 0 w ≡ false → w < subsectorBit → ⊥
   no-choice-left w e h = let end : subsectorBit ≤ w = ltb-false w subsectorBit (sym (stands-none nodes w) ∙ e) in omega arith
 
-  member-below : (k w v : ℕ) (c : Choice) → member v (wordsFrom nodes k (childOf nodes w c)) ≡ true → member v (below k w) ≡ true
+  pub member-below : (k w v : ℕ) (c : Choice) → member v (wordsFrom nodes k (childOf nodes w c)) ≡ true → member v (below k w) ≡ true
   member-below k w v Right e = member-left v (wordsFrom nodes k (childOf nodes w Right)) (wordsFrom nodes k (childOf nodes w Left)) e
   member-below k w v Left e = member-right v (wordsFrom nodes k (childOf nodes w Right)) (wordsFrom nodes k (childOf nodes w Left)) e
 
@@ -177,7 +177,7 @@ module _ (nodes : List ℕ) where
       (λ (h : subsectorBit ≤ w). absurd (once w (rw (words-end (suc k) h) at e)))
       (node-or-end w)
 
-  repeats-below : (k w : ℕ) (c : Choice) → repeats (wordsFrom nodes k (childOf nodes w c)) ≡ true → repeats (below k w) ≡ true
+  pub repeats-below : (k w : ℕ) (c : Choice) → repeats (wordsFrom nodes k (childOf nodes w c)) ≡ true → repeats (below k w) ≡ true
   repeats-below k w Right e = repeats-left (wordsFrom nodes k (childOf nodes w Right)) (wordsFrom nodes k (childOf nodes w Left)) e
   repeats-below k w Left e = repeats-right (wordsFrom nodes k (childOf nodes w Right)) (wordsFrom nodes k (childOf nodes w Left)) e
 

@@ -139,9 +139,9 @@ module _ (wad name words : List ℕ) where
   graphs m b =
       ap (verdictBy wad words) (b .marks) ∙ ap (λ (c : Check). judged c (graphVerdict (nodesAt wad m)) m) (b .passes)
 
-  record Known (d m : ℕ) : Type 0 where
-    below : Below31 wad name words m
-    deep : graphVerdict (nodesAt wad m) ≡ HasDepth d
+  pub record Known (d m : ℕ) : Type 0 where
+    pub below : Below31 wad name words m
+    pub deep : graphVerdict (nodesAt wad m) ≡ HasDepth d
 
   known-by : (a : Marker) {d m : ℕ} → markerAnswer wad name ≡ a → verdictBy wad words a ≡ Accepted d m → Known d m
   known-by (NoMarker r) e q = let z : _≡_ {A = ℕ} 0 1 = cc in absurd (omega arith)
@@ -150,7 +150,7 @@ module _ (wad name words : List ℕ) where
       subst (λ (n : ℕ). Known d n) (p .1 .1) (record { below = record { marks = e; passes = p .0 }; deep = p .1 .0 })
 
   -- an accepted map passes every check below 31, and its graph has that depth
-  known : (d m : ℕ) → verdict wad name words ≡ Accepted d m → Known d m
+  pub known : (d m : ℕ) → verdict wad name words ≡ Accepted d m → Known d m
   known d m q = known-by (markerAnswer wad name) refl q
 
   -- a map that is refused with a number above 30 passes every check below it, and is refused for its graph
@@ -178,7 +178,7 @@ module _ (wad name words : List ℕ) where
       (m, (b, (none, holds .shared none .0 is)))
 
   -- what the descent and the count of subsectors rely on
-  known-passed : (d m : ℕ) → Known d m → Passed (nodesAt wad m) (subsectorsAt wad m)
+  pub known-passed : (d m : ℕ) → Known d m → Passed (nodesAt wad m) (subsectorsAt wad m)
   known-passed d m k =
       let dir = directoryOf wad in
       let lumps = mapLumps wad dir m in
