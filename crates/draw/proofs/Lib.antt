@@ -2,3 +2,5 @@
 
 pub mod Lists
 pub mod Words
+pub mod Fronts
+pub mod Draws

@@ -2,4 +2,5 @@
 
 pub mod Lists
 pub mod Promises
+pub mod Accepted
 pub mod Inner

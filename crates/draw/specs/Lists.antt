@@ -7,8 +7,7 @@ use lib.Dec.{leb, ltb}
 use lib.IntN.{ℤ}
 use lib.ListN.{length}
 use Rattle.refusal.specs.declared.Refusal.{Refusal}
-use Rattle.refusal.specs.declared.Refusal.the-variants.{DescentNodes, DescentSubsectors, DescentChild}
-use Rattle.refusal.specs.declared.Refusal.the-variants.{OrderDepth, OrderWords, OrderLength}
+use Rattle.refusal.specs.declared.Refusal.the-variants.{DescentNodes, DescentSubsectors, DescentChild, OrderDepth, OrderWords, OrderLength}
 use Rattle.refusal.specs.declared.Check.{Check}
 use Rattle.refusal.specs.declared.Check.the-variants.{Pass, Refused}
 use Rattle.refusal.specs.Checks.{unless, _andThen_}

@@ -1,9 +1,8 @@
 -- The proof of the cycle of calls {walk_child, walk_node}: each answer is a case of the list of a child or of a node. A child's walk
 -- calls a node's with as many nodes left, a node's walk a child's with one less: the measures are 2 × more + 1 and 2 × more.
 -- Assumes nothing.
-use Prim.Native.Nat.{ℕ, suc, _+_, _-_, _*_, _≤_, _<_}
-use mathlib.Core.Bool.{true, false}
-use mathlib.Core.List.{List}
+use Prim.Native.Nat.{ℕ, suc, _+_, _-_, _≤_, _<_}
+use mathlib.Core.Bool.{true}
 use mathlib.Core.Path.{_≡_, refl, sym, ap, _∙_, subst}
 use native.Mathlib.Omega.{arith}
 use borrow.Author.Needs.{needs}
@@ -11,7 +10,7 @@ use borrow.Author.Tests.{not-true, not-false}
 use borrow.Fn.Kinds.{In}
 use borrow.Fn.PlainCycle.{Measures, is, falls, and}
 use denote.Ref.{now}
-use lib.ListN.{length, set}
+use lib.ListN.{set}
 use mir.Syntax.{w16}
 use mir.ValLaws.{toZ-ofZ}
 use Rattle.bsp.specs.Nodes.{nodesOf, childOf, childOk}
@@ -28,10 +27,10 @@ use Rattle.draw.proofs.+walk_child+walk_node.Lts-walk_child as walk-chi
 use Rattle.draw.proofs.walk_node.Reads as walk-node
 use Rattle.draw.proofs.walk_node.Kinds as walk-node-kinds
 use Rattle.draw.proofs.+walk_child+walk_node.Lts-walk_node as walk-node-lts
-use Rattle.bsp.proofs.child_of.Reads as child-of-reads
-use Rattle.bsp.proofs.child_ok.Reads as child-ok-reads
-use Rattle.bsp.proofs.side.side_at.Reads as side-at-reads
-use Rattle.draw.proofs.other.Reads as other-reads
+use Rattle.bsp.proofs.child_of.Reads as child-of
+use Rattle.bsp.proofs.child_ok.Reads as child-ok
+use Rattle.bsp.proofs.side.side_at.Reads as side-at
+use Rattle.draw.proofs.other.Reads as other-choice
 use Rattle.draw.proofs.+walk_child+walk_node.{statement}
 use Rattle.draw.proofs.+walk_child+walk_node.Tie.{close}
 
@@ -56,11 +55,11 @@ walk-node-below t = and 2 walk-node-kinds.ps (falls 2 walk-node-kinds.ps _<_ μ-
 -- what is known of the functions that each calls
 abbrev child-calls : ℕ → walk-child-lts.Claims
 child-calls t =
-    (child-of-reads.Asked, child-of-reads.Learnt, child-ok-reads.Asked, child-ok-reads.Learnt, walk-node-below t, walk-node.Post)
+    (child-of.Asked, child-of.Learnt, child-ok.Asked, child-ok.Learnt, walk-node-below t, walk-node.Post)
 
 abbrev node-calls : ℕ → walk-node-lts.Claims
 node-calls t =
-    (side-at-reads.Asked, side-at-reads.Learnt, walk-child-below t, walk-child.Post, other-reads.Asked, other-reads.Learnt)
+    (side-at.Asked, side-at.Learnt, walk-child-below t, walk-child.Post, other-choice.Asked, other-choice.Learnt)
 
 walk-child-child-of-requires : (t : ℕ) → walk-child-lts.Need-child-of-requires (child-calls t) (walk-child-at t) walk-child.Post
 walk-child-child-of-requires t c κs =

@@ -1,9 +1,7 @@
 -- `draw::list_all` meets its contract: the walk is lent the first words, and these are cleared where it is refused.
 -- Assumes nothing.
 use Prim.Native.Nat.{_+_}
-use mathlib.Core.List.{List}
-use mathlib.Core.Path.{_≡_, sym, ap, _∙_, subst}
-use native.Mathlib.Omega.{arith}
+use mathlib.Core.Path.{_≡_, sym, _∙_, subst}
 use borrow.Author.Needs.{needs}
 use denote.Ref.{now}
 use lib.ListN.{take}
