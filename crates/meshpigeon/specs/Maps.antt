@@ -1,8 +1,10 @@
--- Answers on a map, on its game, and on a point's descent. Assumes nothing.
+-- Answers on a map, on its game, on a point's descent, and on its draw order. Assumes nothing.
 use mathlib.Core.Bool.{true, false}
 use mathlib.Core.List.{List}
 use mathlib.Core.Path.{_≡_}
 use Prim.Native.Nat.{ℕ}
+use lib.IntN.{ℤ}
+use lib.ListN.{length}
 use Rattle.level.specs.declared.Verdict.{Verdict}
 use Rattle.level.specs.declared.Verdict.the-variants.{Accepted, Refused as NotAccepted}
 use Rattle.level.specs.declared.Game.{Game}
@@ -10,9 +12,14 @@ use Rattle.level.specs.declared.Game.the-variants.{Doom, Hexen, Refused as NoGa
 use Rattle.level.specs.Verdict.{verdict, wordsAfter}
 use Rattle.bsp.specs.declared.Descent.{Descent}
 use Rattle.bsp.specs.declared.Descent.the-variants.{Found, Refused as NotFound}
+use Rattle.draw.specs.declared.Order.{Order}
+use Rattle.draw.specs.declared.Order.the-variants.{Listed, Refused as NotListed}
+use Rattle.draw.specs.Lists.{drawOrder}
+use Rattle.draw.specs.Promises.{answerOf, wordsDrawn}
 use Rattle.meshpigeon.specs.declared.maps.MapAnswer.{MapAnswer}
 use Rattle.meshpigeon.specs.declared.maps.GameAnswer.{GameAnswer}
 use Rattle.meshpigeon.specs.declared.maps.DescentAnswer.{DescentAnswer}
+use Rattle.meshpigeon.specs.declared.maps.OrderAnswer.{OrderAnswer}
 use Rattle.meshpigeon.specs.Status.{accepted, refused}
 
 -- depth and marker of an accepted map
@@ -35,3 +42,13 @@ gameOut (NoGame r) = record { status = refused r; hexen = false }
 abbrev pub descentOut : Descent → DescentAnswer
 descentOut (Found subsector count) = record { status = accepted; subsector = subsector; count = count }
 descentOut (NotFound r) = record { status = refused r; subsector = 0; count = 0 }
+
+-- how many subsectors are listed
+abbrev pub orderOut : Order → OrderAnswer
+orderOut (Listed count) = record { status = accepted; count = count }
+orderOut (NotListed r) = record { status = refused r; count = 0 }
+
+-- the draw order's answer, and the words afterwards
+pub record OrderDrawn (nodes : List ℕ) (subsectors : ℕ) (x y : ℤ) (words : List ℕ) (answer : OrderAnswer) (after : List ℕ) : Type 0 where
+  pub answers : answer ≡ orderOut (answerOf (drawOrder nodes subsectors x y (length words)))
+  pub leaves : after ≡ wordsDrawn nodes subsectors x y words

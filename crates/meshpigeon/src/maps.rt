@@ -1,12 +1,13 @@
-// A map, its game, and a point's descent.
+// A map, its game, a point's descent, and its draw order.
 ghost use mathlib.Core.Path.{_≡_};
 ghost use Rattle.bsp.specs.Walks.{descent};
 ghost use Rattle.level.specs.Games.{gameAnswer};
-ghost use Rattle.meshpigeon.specs.Maps.{MapJudged, gameOut, descentOut};
+ghost use Rattle.meshpigeon.specs.Maps.{MapJudged, gameOut, descentOut, OrderDrawn};
 use crate::status::Status;
 use crate::status::nothing_refused;
 use crate::status::refused;
 use bsp::Descent;
+use draw::Order;
 use level::Game;
 use level::Verdict;
 
@@ -27,6 +28,12 @@ pub struct GameAnswer {
 pub struct DescentAnswer {
     pub status: Status,
     pub subsector: usize,
+    pub count: usize,
+}
+
+#[repr(C)]
+pub struct OrderAnswer {
+    pub status: Status,
     pub count: usize,
 }
 
@@ -89,6 +96,30 @@ pub extern "C" fn meshpigeon_descend(
         Descent::Refused(r) => DescentAnswer {
             status: refused(r),
             subsector: 0,
+            count: 0,
+        },
+    }
+}
+
+// The subsectors for a point, front first, over any NODES bytes and any count of subsectors, 40 to 42 and 44 to 46. They are
+// written into the lent words, one more than there are nodes.
+#[no_mangle]
+pub extern "C" fn meshpigeon_draw_order(
+    nodes: &[u8],
+    subsectors: usize,
+    x: i16,
+    y: i16,
+    words: &mut [u16],
+) -> OrderAnswer
+    ensures { λ r. ⌜ OrderDrawn (now (nodes .entry)) subsectors x y (now (words .entry)) r (now (words .exit)) ⌝ }
+{
+    match draw::draw_order(nodes, subsectors, x, y, words) {
+        Order::Listed(count) => OrderAnswer {
+            status: nothing_refused(),
+            count,
+        },
+        Order::Refused(r) => OrderAnswer {
+            status: refused(r),
             count: 0,
         },
     }
