@@ -4,9 +4,11 @@ use mathlib.Core.List.{List}
 use mathlib.Core.Path.{_≡_}
 use lib.ListN.{length}
 use lib.Seq.{sets}
+use Rattle.refusal.specs.declared.Refusal.the-variants.{DescentChild, OrderDepth, OrderLength}
 use Rattle.built.specs.Nodes.{nodeSize}
 use Rattle.draw.specs.declared.Order.{Order}
 use Rattle.draw.specs.declared.Order.the-variants.{Listed, Refused}
+use Rattle.draw.specs.declared.Walk.{Walk}
 use Rattle.draw.specs.Lists.{Listing, listed, stopped}
 
 -- what a walk is given: whole nodes, no more than a word can name, and one word more
@@ -14,6 +16,13 @@ pub record Walkable (nodes : List ℕ) (count : ℕ) (words : List ℕ) : Type 0
   pub whole : nodeSize * count ≡ length nodes
   pub most : count ≤ 32767
   pub enough : length words ≡ count + 1
+
+-- what a walk finds, as an answer
+abbrev pub orderOf : Walk → Order
+orderOf (Walk.Listed count) = Listed count
+orderOf (Walk.Outside node) = Refused (DescentChild node)
+orderOf Walk.Deep = Refused OrderDepth
+orderOf Walk.Full = Refused OrderLength
 
 -- what a walk that begins at place `at` answers and leaves in the words: the place behind the list, and the list; of the words
 -- that a refusal leaves nothing is said

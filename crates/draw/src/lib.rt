@@ -10,7 +10,7 @@ ghost use lib.ListN.{length};
 ghost use Rattle.built.specs.Nodes.{nodeSize};
 ghost use Rattle.draw.specs.Lists.{other, nodeOrder, childOrder, rootOrder, orderCheck};
 ghost use Rattle.draw.specs.Promises.{answerOf, wordsOf, Drawn};
-ghost use Rattle.draw.specs.Inner.{Walkable, Walked};
+ghost use Rattle.draw.specs.Inner.{Walkable, Walked, orderOf};
 
 // The most nodes that choices from the root may pass.
 const MOST_PASSED: usize = 256;
@@ -20,6 +20,18 @@ pub enum Order {
     // how many subsectors are listed
     Listed(usize),
     Refused(Refusal),
+}
+
+// What a walk finds: flat, since each node on the way back hands it on.
+pub enum Walk {
+    // the place behind its list
+    Listed(usize),
+    // 42, by the node that names the child
+    Outside(usize),
+    // 44
+    Deep,
+    // 46
+    Full,
 }
 
 // The subsectors for the point (x, y), front first, over any NODES lump and for any count of subsectors. 40, 41 and 45 leave the
@@ -65,12 +77,24 @@ fn list_all(
     ensures { λ _. ⌜ now (words .exit) ≡ wordsOf (now (nodes .entry)) (rootOrder (now (nodes .entry)) subsectors x y) (now (words .entry)) ⌝ }
 {
     let used = count + 1;
-    match walk_root(nodes, count, subsectors, x, y, &mut words[..used]) {
+    let found = walk_root(nodes, count, subsectors, x, y, &mut words[..used]);
+    match order_of(found) {
         Order::Listed(listed) => Order::Listed(listed),
         Order::Refused(r) => {
             graph::clear(words, used);
             Order::Refused(r)
         }
+    }
+}
+
+fn order_of(walk: Walk) -> Order
+    ensures { λ r. ⌜ r ≡ orderOf walk ⌝ }
+{
+    match walk {
+        Walk::Listed(count) => Order::Listed(count),
+        Walk::Outside(node) => Order::Refused(Refusal::DescentChild(node)),
+        Walk::Deep => Order::Refused(Refusal::OrderDepth),
+        Walk::Full => Order::Refused(Refusal::OrderLength),
     }
 }
 
@@ -82,13 +106,13 @@ fn walk_root(
     x: i16,
     y: i16,
     words: &mut [u16],
-) -> Order
+) -> Walk
     requires { ⌜ Walkable (now nodes) count (now words) ⌝ }
-    ensures { λ r. ⌜ Walked (rootOrder (now (nodes .entry)) subsectors x y) 0 (now (words .entry)) r (now (words .exit)) ⌝ }
+    ensures { λ r. ⌜ Walked (rootOrder (now (nodes .entry)) subsectors x y) 0 (now (words .entry)) (orderOf r) (now (words .exit)) ⌝ }
 {
     if count == 0 {
         words[0] = 0;
-        return Order::Listed(1);
+        return Walk::Listed(1);
     }
     walk_node(
         nodes,
@@ -114,12 +138,12 @@ fn walk_node(
     at: usize,
     more: usize,
     node: usize,
-) -> Order
+) -> Walk
     requires { ⌜ Walkable (now nodes) count (now words) × (node < count) ⌝ }
-    ensures { λ r. ⌜ Walked (nodeOrder (now (nodes .entry)) subsectors x y more at node) at (now (words .entry)) r (now (words .exit)) ⌝ }
+    ensures { λ r. ⌜ Walked (nodeOrder (now (nodes .entry)) subsectors x y more at node) at (now (words .entry)) (orderOf r) (now (words .exit)) ⌝ }
 {
     if more == 0 {
-        return Order::Refused(Refusal::OrderDepth);
+        return Walk::Deep;
     }
     let side = bsp::side::side_at(nodes, x, y, node);
     match walk_child(
@@ -134,8 +158,7 @@ fn walk_node(
         node,
         side,
     ) {
-        Order::Refused(r) => Order::Refused(r),
-        Order::Listed(next) => walk_child(
+        Walk::Listed(next) => walk_child(
             nodes,
             count,
             subsectors,
@@ -147,6 +170,9 @@ fn walk_node(
             node,
             other(side),
         ),
+        Walk::Outside(parent) => Walk::Outside(parent),
+        Walk::Deep => Walk::Deep,
+        Walk::Full => Walk::Full,
     }
 }
 
@@ -162,22 +188,22 @@ fn walk_child(
     more: usize,
     node: usize,
     choice: Choice,
-) -> Order
+) -> Walk
     requires { ⌜ Walkable (now nodes) count (now words) × (node < count) ⌝ }
-    ensures { λ r. ⌜ Walked (childOrder (now (nodes .entry)) subsectors x y more at node choice) at (now (words .entry)) r (now (words .exit)) ⌝ }
+    ensures { λ r. ⌜ Walked (childOrder (now (nodes .entry)) subsectors x y more at node choice) at (now (words .entry)) (orderOf r) (now (words .exit)) ⌝ }
 {
     let child = bsp::child_of(nodes, node, choice);
     if !bsp::child_ok(count, subsectors, child) {
-        return Order::Refused(Refusal::DescentChild(node));
+        return Walk::Outside(node);
     }
     if child < bsp::SUBSECTOR_BIT {
         return walk_node(nodes, count, subsectors, x, y, words, at, more, child);
     }
     if words.len() <= at {
-        return Order::Refused(Refusal::OrderLength);
+        return Walk::Full;
     }
     words[at] = (child - bsp::SUBSECTOR_BIT) as u16;
-    Order::Listed(at + 1)
+    Walk::Listed(at + 1)
 }
 
 fn other(choice: Choice) -> Choice

@@ -16,9 +16,11 @@ use mir.ValLaws.{toZ-ofZ}
 use Rattle.bsp.specs.Nodes.{nodesOf, childOf, childOk}
 use Rattle.bsp.specs.Side.{sideAt}
 use Rattle.bsp.proofs.Nodes.{childOk-node, nodesOf-whole}
+use Rattle.refusal.specs.declared.Refusal.{Refusal}
 use Rattle.draw.specs.declared.Order.{Order}
+use Rattle.draw.specs.declared.Order.the-variants.{Refused}
 use Rattle.draw.specs.Lists.{Listing, other, joined, nodeOrder, childOrder}
-use Rattle.draw.specs.Inner.{Walked}
+use Rattle.draw.specs.Inner.{orderOf, Walked}
 use Rattle.draw.proofs.Lists.{node-none, node-more, child-outside, child-node, child-full, child-entry}
 use Rattle.draw.proofs.Words.{walked-by, walked-refused, walked-joined}
 use Rattle.draw.proofs.walk_child.Reads as walk-child
@@ -137,22 +139,6 @@ walk-child-cast-words : (t : ℕ) → walk-child-lts.Need-cast-words (child-call
 walk-child-cast-words t c =
     record { fits = (let h = c .before .before .before .before .child-of .ensures .1 in omega arith) }
 
-walk-child-mul-words : (t : ℕ) → walk-child-lts.Need-mul-words (child-calls t) (walk-child-at t) walk-child.Post
-walk-child-mul-words t c =
-    search needs
-
-walk-child-slice-write-words : (t : ℕ) → walk-child-lts.Need-slice-write-words (child-calls t) (walk-child-at t) walk-child.Post
-walk-child-slice-write-words t c =
-    search needs
-
-walk-child-add-t17 : (t : ℕ) → walk-child-lts.Need-add-t17 (child-calls t) (walk-child-at t) walk-child.Post
-walk-child-add-t17 t c =
-    search needs
-
-walk-child-same-length-2 : (t : ℕ) → walk-child-lts.Need-same-length-2 (child-calls t) (walk-child-at t) walk-child.Post
-walk-child-same-length-2 t c =
-    search needs
-
 walk-child-returns-4 : (t : ℕ) → walk-child-lts.Need-returns-4 (child-calls t) (walk-child-at t) walk-child.Post
 walk-child-returns-4 t c =
     let s = c .before .before .before .before .before .before .before in
@@ -195,14 +181,6 @@ walk-node-walk-child-requires t c κs =
     let less = s .pre .0 in
     (omega arith, s .pre .1)
 
-walk-node-enum-known-r : (t : ℕ) → walk-node-lts.Need-enum-known-r (node-calls t) (walk-node-at t) walk-node.Post
-walk-node-enum-known-r t c =
-    search needs
-
-walk-node-enum-known-next : (t : ℕ) → walk-node-lts.Need-enum-known-next (node-calls t) (walk-node-at t) walk-node.Post
-walk-node-enum-known-next t c =
-    search needs
-
 walk-node-sub-walk-child-2 : (t : ℕ) → walk-node-lts.Need-sub-walk-child-2 (node-calls t) (walk-node-at t) walk-node.Post
 walk-node-sub-walk-child-2 t c =
     let some = c .before .before .before .before .before .before .before .before .before .if1 .left in omega arith
@@ -219,10 +197,6 @@ walk-node-walk-child-requires-2 t c κs =
         s .pre .1 .1,
       ),
     )
-
-walk-node-same-length : (t : ℕ) → walk-node-lts.Need-same-length (node-calls t) (walk-node-at t) walk-node.Post
-walk-node-same-length t c =
-    c .before .before .before .before .before .walk-child .kept .1 .1 .1 .1 .1 .0
 
 -- the lists of the child on the point's side, and of the other child behind `next` entries
 abbrev near : (t : ℕ) → walk-node-lts.Start (node-calls t) (walk-node-at t) walk-node.Post → Listing
@@ -256,7 +230,7 @@ side t c =
     c .side-at .ensures ∙ (λ i. sideAt (now (s .args .nodes)) (x i) (y i) (s .args .node))
 
 -- what the first walk answers and leaves
-first : (t : ℕ) (c : walk-node-lts.After-walk-child (node-calls t) (walk-node-at t) walk-node.Post) (answer : Order) → c .walk-child .result ≡ answer
+first : (t : ℕ) (c : walk-node-lts.After-walk-child (node-calls t) (walk-node-at t) walk-node.Post) (answer : Order) → orderOf (c .walk-child .result) ≡ answer
     → (let s = c .before .before .before .before .before .before in Walked (near t s) (s .args .at) (now (s .args .words)) answer (c .walk-child .last .1 .1 .1 .1 .1 .0))
 first t c answer e =
     let s = c .before .before .before .before .before .before in
@@ -269,22 +243,24 @@ first t c answer e =
     (λ i. childOrder (now (a .nodes)) (a .subsectors) (x i) (y i) (a .more - 1) (a .at) (a .node) (choice i))
     (c .walk-child .ensures))
 
-walk-node-returns-2 : (t : ℕ) → walk-node-lts.Need-returns-2 (node-calls t) (walk-node-at t) walk-node.Post
-walk-node-returns-2 t c =
-    let s = c .before .before .before .before .before .before .before .before .before .before .before in
+-- where it is refused, so is the node's
+stops : (t : ℕ) (c : walk-node-lts.After-walk-child (node-calls t) (walk-node-at t) walk-node.Post) (r : Refusal) → orderOf (c .walk-child .result) ≡ Refused r
+    → (let a = c .before .before .before .before .before .before .args in
+    Walked (nodeOrder (now (a .nodes)) (a .subsectors) (a .x) (a .y) (a .more) (a .at) (a .node)) (a .at) (now (a .words)) (Refused r)
+    (c .walk-child .last .1 .1 .1 .1 .1 .0))
+stops t c r e =
+    let s = c .before .before .before .before .before .before in
     let a = s .args in
-    let walk = c .before .before .before .before .before in
-    let middle = walk .walk-child .last .1 .1 .1 .1 .1 .0 in
-    walked-by (a .at) (now (a .words)) _ middle (steps t (c .before .before .before .before .before .before .before .before))
-    (walked-refused (a .at) (now (a .words)) middle middle (far t s) (near t s) (c .before .r .given .0 .0)
-    (first t walk _ (c .before .r .given .1)))
+    let middle = c .walk-child .last .1 .1 .1 .1 .1 .0 in
+    walked-by (a .at) (now (a .words)) (Refused r) middle (steps t (c .before .before .before))
+    (walked-refused (a .at) (now (a .words)) middle middle (far t s) (near t s) r (first t c (Refused r) e))
 
-walk-node-same-length-2 : (t : ℕ) → walk-node-lts.Need-same-length-2 (node-calls t) (walk-node-at t) walk-node.Post
-walk-node-same-length-2 t c =
+walk-node-same-length : (t : ℕ) → walk-node-lts.Need-same-length (node-calls t) (walk-node-at t) walk-node.Post
+walk-node-same-length t c =
     c .before .before .walk-child2 .kept .1 .1 .1 .1 .1 .0 ∙ c .before .before .before .before .before .before .before .before .before .before .walk-child .kept .1 .1 .1 .1 .1 .0
 
-walk-node-returns-3 : (t : ℕ) → walk-node-lts.Need-returns-3 (node-calls t) (walk-node-at t) walk-node.Post
-walk-node-returns-3 t c =
+walk-node-returns-2 : (t : ℕ) → walk-node-lts.Need-returns-2 (node-calls t) (walk-node-at t) walk-node.Post
+walk-node-returns-2 t c =
     let s = c .before .before .before .before .before .before .before .before .before .before .before .before .before .before .before .before in
     let a = s .args in
     let x = toZ-ofZ w16 (a .x) (s .fits .x) in
@@ -296,11 +272,20 @@ walk-node-returns-3 t c =
     let middle = walk .walk-child .last .1 .1 .1 .1 .1 .0 in
     let after = walk2 .last .1 .1 .1 .1 .1 .0 in
     walked-by (a .at) (now (a .words)) _ after (steps t (c .before .before .before .before .before .before .before .before .before .before .before .before .before))
-    (walked-joined (a .at) (now (a .words)) middle after (far t s) (near t s) (next .given .0 .0) (walk2 .result)
-    (first t walk _ (next .given .1))
+    (walked-joined (a .at) (now (a .words)) middle after (far t s) (near t s) (next .given .0 .0) (orderOf (walk2 .result))
+    (first t walk _ (ap orderOf (next .given .1)))
     (walked-by (next .given .0 .0) middle _ after
     (λ i. childOrder (now (a .nodes)) (a .subsectors) (x i) (y i) (a .more - 1) (next .given .0 .0) (a .node) (choice i))
     (walk2 .ensures)))
+
+walk-node-returns-3 : (t : ℕ) → walk-node-lts.Need-returns-3 (node-calls t) (walk-node-at t) walk-node.Post
+walk-node-returns-3 t c = stops t (c .before .before .before .before .before) _ (ap orderOf (c .before .parent .given .1))
+
+walk-node-returns-4 : (t : ℕ) → walk-node-lts.Need-returns-4 (node-calls t) (walk-node-at t) walk-node.Post
+walk-node-returns-4 t c = stops t (c .before .before .before .before) _ (ap orderOf (c .enum-told .given .1))
+
+walk-node-returns-5 : (t : ℕ) → walk-node-lts.Need-returns-5 (node-calls t) (walk-node-at t) walk-node.Post
+walk-node-returns-5 t c = stops t (c .before .before .before .before) _ (ap orderOf (c .enum-told2 .given .1))
 
 pub +walk-child+walk-node-spec : {M : Type 1} → statement M
 +walk-child+walk-node-spec =
@@ -315,10 +300,10 @@ pub +walk-child+walk-node-spec : {M : Type 1} → statement M
     (walk-child-returns-2 t)
     (walk-child-returns-3 t)
     (walk-child-cast-words t)
-    (walk-child-mul-words t)
-    (walk-child-slice-write-words t)
-    (walk-child-add-t17 t)
-    (walk-child-same-length-2 t)
+    (λ c. search needs)
+    (λ c. search needs)
+    (λ c. search needs)
+    (λ c. search needs)
     (walk-child-returns-4 t))
     (λ t.
     walk-node-lts.spec (node-calls t) (walk-node-at t) walk-node.Post
@@ -326,12 +311,18 @@ pub +walk-child+walk-node-spec : {M : Type 1} → statement M
     (walk-node-side-at-requires t)
     (walk-node-sub-walk-child t)
     (walk-node-walk-child-requires t)
-    (walk-node-enum-known-r t)
-    (walk-node-enum-known-next t)
+    (λ c. search needs)
     (walk-node-sub-walk-child-2 t)
     (λ c κs. search needs)
     (walk-node-walk-child-requires-2 t)
+    (λ c. search needs)
+    (λ c. search needs)
+    (λ c. search needs)
     (walk-node-same-length t)
     (walk-node-returns-2 t)
-    (walk-node-same-length-2 t)
-    (walk-node-returns-3 t))
+    (λ c. c .before .before .before .before .before .walk-child .kept .1 .1 .1 .1 .1 .0)
+    (walk-node-returns-3 t)
+    (λ c. c .before .before .before .before .walk-child .kept .1 .1 .1 .1 .1 .0)
+    (walk-node-returns-4 t)
+    (λ c. c .before .before .before .before .walk-child .kept .1 .1 .1 .1 .1 .0)
+    (walk-node-returns-5 t))

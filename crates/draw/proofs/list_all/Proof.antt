@@ -27,42 +27,44 @@ walk-root-requires c κs =
     record { whole = s .pre .0; most = s .pre .1; enough = length-take-le _ (now (s .args .words)) (s .pre .2) }
 
 -- what the walk answers and leaves in the first words
-walked : (c : tie.After-walk-root) (answer : Order) → c .walk-root .result ≡ answer
-    → (let a = c .before .before .before .before .args in
-    Walked (rootOrder (now (a .nodes)) (a .subsectors) (a .x) (a .y)) 0 (take (a .count + 1) (now (a .words))) answer (c .walk-root .last .1 .1 .1 .1 .1 .0))
+walked : (c : tie.After-order-of) (answer : Order) → c .order-of .result ≡ answer
+    → (let a = c .before .before .before .before .before .before .before .args in
+    Walked (rootOrder (now (a .nodes)) (a .subsectors) (a .x) (a .y)) 0 (take (a .count + 1) (now (a .words))) answer
+    (c .before .before .before .walk-root .last .1 .1 .1 .1 .1 .0))
 walked c answer e =
-    let s = c .before .before .before .before in
+    let s = c .before .before .before .before .before .before .before in
     let a = s .args in
     let x = toZ-ofZ w16 (a .x) (s .fits .x) in
     let y = toZ-ofZ w16 (a .y) (s .fits .y) in
+    let walk = c .before .before .before .walk-root in
     let first = take (a .count + 1) (now (a .words)) in
-    let front = c .walk-root .last .1 .1 .1 .1 .1 .0 in
-    subst (λ (r : Order). Walked (rootOrder (now (a .nodes)) (a .subsectors) (a .x) (a .y)) 0 first r front) e
-    (walked-by 0 first _ front (λ i. rootOrder (now (a .nodes)) (a .subsectors) (x i) (y i)) (c .walk-root .ensures))
+    let front = walk .last .1 .1 .1 .1 .1 .0 in
+    subst (λ (r : Order). Walked (rootOrder (now (a .nodes)) (a .subsectors) (a .x) (a .y)) 0 first r front) (sym (c .order-of .ensures) ∙ e)
+    (walked-by 0 first _ front (λ i. rootOrder (now (a .nodes)) (a .subsectors) (x i) (y i)) (walk .ensures))
 
 returns : tie.Need-returns
 returns c =
-    let a = c .before .before .before .before .before .before .before .before .before .args in
-    let walk = c .before .before .before .before .before in
-    walked-listed (now (a .nodes)) (now (a .words)) (walk .walk-root .last .1 .1 .1 .1 .1 .0) (a .count + 1) (c .before .listed .given .0 .0)
-    (rootOrder (now (a .nodes)) (a .subsectors) (a .x) (a .y)) (walked walk _ (c .before .listed .given .1))
+    let a = c .before .before .before .before .before .before .before .before .before .before .args in
+    let walk = c .before .before .before .before .before .before .walk-root in
+    walked-listed (now (a .nodes)) (now (a .words)) (walk .last .1 .1 .1 .1 .1 .0) (a .count + 1) (c .before .listed .given .0 .0)
+    (rootOrder (now (a .nodes)) (a .subsectors) (a .x) (a .y)) (walked (c .before .before .before) _ (c .before .listed .given .1))
 
 returns-2 : tie.Need-returns-2
 returns-2 c =
-    let s = c .before .before .before .before .before .before .before .before .before .before .before .before .before in
+    let s = c .before .before .before .before .before .before .before .before .before .before .before .before .before .before in
     let a = s .args in
-    let walk = c .before .before .before .before .before .before .before .before .before in
+    let walk = c .before .before .before .before .before .before .before .before .before .before .walk-root in
     let found = c .before .before .before .before .before .r in
     let first = take (a .count + 1) (now (a .words)) in
-    let front = walk .walk-root .last .1 .1 .1 .1 .1 .0 in
+    let front = walk .last .1 .1 .1 .1 .1 .0 in
     let part = length-take-le (a .count + 1) (now (a .words)) (s .pre .2) in
     let counted = sym (nodesOf-whole (now (a .nodes)) (a .count) (s .pre .0)) in
     let p =
     walked-stopped (now (a .nodes)) (now (a .words)) first front (rootOrder (now (a .nodes)) (a .subsectors) (a .x) (a .y)) (found .given .0 .0)
-    (walked walk _ (found .given .1)) in (
+    (walked (c .before .before .before .before .before .before .before) _ (found .given .1)) in (
       p .0,
       c .before .before .clear .ensures
-          ∙ cleared-front (now (a .words)) front (a .count + 1) (walk .walk-root .kept .1 .1 .1 .1 .1 .0 ∙ part)
+          ∙ cleared-front (now (a .words)) front (a .count + 1) (walk .kept .1 .1 .1 .1 .1 .0 ∙ part)
           ∙ (λ i. cleared (now (a .words)) (counted i + 1))
           ∙ p .1,
     )
@@ -75,6 +77,7 @@ list-all-spec =
     (λ c. search needs)
     slice-aggregate-walk-root
     walk-root-requires
+    (λ c κs. search needs)
     (λ c. search needs)
     (λ c. search needs)
     (λ c κs. search needs)
