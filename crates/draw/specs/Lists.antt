@@ -59,10 +59,11 @@ childBy list nodes subsectors at i choice =
 unfoldable pub nodeOrder : List ℕ → ℕ → ℤ → ℤ → ℕ → ℕ → ℕ → Listing
 nodeOrder nodes subsectors x y zero at i = stopped OrderDepth
 nodeOrder nodes subsectors x y (suc more) at i =
-    let side = sideAt nodes x y i in
+    let near = sideAt nodes x y i in
+    let far = other near in
     joined at
-    (childBy (nodeOrder nodes subsectors x y more) nodes subsectors at i side)
-    (λ next. childBy (nodeOrder nodes subsectors x y more) nodes subsectors next i (other side))
+    (childBy (nodeOrder nodes subsectors x y more) nodes subsectors at i near)
+    (λ next. childBy (nodeOrder nodes subsectors x y more) nodes subsectors next i far)
 
 -- the list of a child, where it and the nodes below it on a route may be `more`
 abbrev pub childOrder : List ℕ → ℕ → ℤ → ℤ → ℕ → ℕ → ℕ → Choice → Listing

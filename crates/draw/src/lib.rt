@@ -145,7 +145,8 @@ fn walk_node(
     if more == 0 {
         return Walk::Deep;
     }
-    let side = bsp::side::side_at(nodes, x, y, node);
+    let near = bsp::side::side_at(nodes, x, y, node);
+    let far = other(near);
     match walk_child(
         nodes,
         count,
@@ -156,7 +157,7 @@ fn walk_node(
         at,
         more - 1,
         node,
-        side,
+        near,
     ) {
         Walk::Listed(next) => walk_child(
             nodes,
@@ -168,7 +169,7 @@ fn walk_node(
             next,
             more - 1,
             node,
-            other(side),
+            far,
         ),
         Walk::Outside(parent) => Walk::Outside(parent),
         Walk::Deep => Walk::Deep,

@@ -13,10 +13,10 @@ use denote.Ref.{now}
 use lib.ListN.{set}
 use mir.Syntax.{w16}
 use mir.ValLaws.{toZ-ofZ}
+use Rattle.refusal.specs.declared.Refusal.{Refusal}
 use Rattle.bsp.specs.Nodes.{nodesOf, childOf, childOk}
 use Rattle.bsp.specs.Side.{sideAt}
 use Rattle.bsp.proofs.Nodes.{childOk-node, nodesOf-whole}
-use Rattle.refusal.specs.declared.Refusal.{Refusal}
 use Rattle.draw.specs.declared.Order.{Order}
 use Rattle.draw.specs.declared.Order.the-variants.{Refused}
 use Rattle.draw.specs.Lists.{Listing, other, joined, nodeOrder, childOrder}
@@ -42,287 +42,270 @@ abbrev μ-walk-child : Measures 2 walk-child-kinds.ps ℕ
 abbrev μ-walk-node : Measures 2 walk-node-kinds.ps ℕ
 μ-walk-node κs a = a .1 .1 .1 .1 .1 .1 .1 .0 + a .1 .1 .1 .1 .1 .1 .1 .0
 
-abbrev walk-child-at : ℕ → In 2 walk-child-kinds.ps
-walk-child-at t = and 2 walk-child-kinds.ps (is 2 walk-child-kinds.ps μ-walk-child t) walk-child.Pre
+module _ (t : ℕ) where
+  -- what each is given at the measure t, and what a call of it asks below t
+  abbrev child-at : In 2 walk-child-kinds.ps
+  child-at = and 2 walk-child-kinds.ps (is 2 walk-child-kinds.ps μ-walk-child t) walk-child.Pre
 
-abbrev walk-child-below : ℕ → In 2 walk-child-kinds.ps
-walk-child-below t = and 2 walk-child-kinds.ps (falls 2 walk-child-kinds.ps _<_ μ-walk-child t) walk-child.Pre
+  abbrev child-below : In 2 walk-child-kinds.ps
+  child-below = and 2 walk-child-kinds.ps (falls 2 walk-child-kinds.ps _<_ μ-walk-child t) walk-child.Pre
 
-abbrev walk-node-at : ℕ → In 2 walk-node-kinds.ps
-walk-node-at t = and 2 walk-node-kinds.ps (is 2 walk-node-kinds.ps μ-walk-node t) walk-node.Pre
+  abbrev node-at : In 2 walk-node-kinds.ps
+  node-at = and 2 walk-node-kinds.ps (is 2 walk-node-kinds.ps μ-walk-node t) walk-node.Pre
 
-abbrev walk-node-below : ℕ → In 2 walk-node-kinds.ps
-walk-node-below t = and 2 walk-node-kinds.ps (falls 2 walk-node-kinds.ps _<_ μ-walk-node t) walk-node.Pre
+  abbrev node-below : In 2 walk-node-kinds.ps
+  node-below = and 2 walk-node-kinds.ps (falls 2 walk-node-kinds.ps _<_ μ-walk-node t) walk-node.Pre
 
--- what is known of the functions that each calls
-abbrev child-calls : ℕ → walk-child-lts.Claims
-child-calls t =
-    (child-of.Asked, child-of.Learnt, child-ok.Asked, child-ok.Learnt, walk-node-below t, walk-node.Post)
+  abbrev child-calls : walk-child-lts.Claims
+  child-calls = (child-of.Asked, child-of.Learnt, child-ok.Asked, child-ok.Learnt, node-below, walk-node.Post)
 
-abbrev node-calls : ℕ → walk-node-lts.Claims
-node-calls t =
-    (side-at.Asked, side-at.Learnt, walk-child-below t, walk-child.Post, other-choice.Asked, other-choice.Learnt)
+  abbrev node-calls : walk-node-lts.Claims
+  node-calls = (side-at.Asked, side-at.Learnt, other-choice.Asked, other-choice.Learnt, child-below, walk-child.Post)
 
-walk-child-child-of-requires : (t : ℕ) → walk-child-lts.Need-child-of-requires (child-calls t) (walk-child-at t) walk-child.Post
-walk-child-child-of-requires t c κs =
-    let s = c .before .before in
-    let whole = s .pre .1 .0 .whole in
-    let below = s .pre .1 .1 in
-    omega arith
+  -- ---- a child
 
--- the test of the child, and what it says past the first branch
-judged : (t : ℕ) (c : walk-child-lts.After-child-ok (child-calls t) (walk-child-at t) walk-child.Post)
-    → (let a = c .before .before .before .before .args in
-    c .child-ok .result ≡ childOk (nodesOf (now (a .nodes))) (a .subsectors) (childOf (now (a .nodes)) (a .node) (a .choice)))
-judged t c =
-    let s = c .before .before .before .before in
-    let counted = nodesOf-whole (now (s .args .nodes)) (s .args .count) (s .pre .1 .0 .whole) in
-    c .child-ok .ensures ∙ (λ i. childOk (sym counted i) (s .args .subsectors) (c .before .child-of .ensures .0 i))
+  child-of-requires : walk-child-lts.Need-child-of-requires child-calls child-at walk-child.Post
+  child-of-requires c κs =
+      let s = c .before .before in
+      let whole = s .pre .1 .0 .whole in
+      let below = s .pre .1 .1 in
+      omega arith
 
-fits : (t : ℕ) (c : walk-child-lts.Else1 (child-calls t) (walk-child-at t) walk-child.Post)
-    → (let a = c .before .before .before .before .before .args in
-    childOk (nodesOf (now (a .nodes))) (a .subsectors) (childOf (now (a .nodes)) (a .node) (a .choice)) ≡ true)
-fits t c = sym (judged t (c .before)) ∙ not-false _ (c .if1 .left)
+  -- the test of the child, and what it says past the first branch
+  judged : (c : walk-child-lts.After-child-ok child-calls child-at walk-child.Post)
+      → (let a = c .before .before .before .before .args in
+      c .child-ok .result ≡ childOk (nodesOf (now (a .nodes))) (a .subsectors) (childOf (now (a .nodes)) (a .node) (a .choice)))
+  judged c =
+      let s = c .before .before .before .before in
+      let counted = nodesOf-whole (now (s .args .nodes)) (s .args .count) (s .pre .1 .0 .whole) in
+      c .child-ok .ensures ∙ (λ i. childOk (sym counted i) (s .args .subsectors) (c .before .child-of .ensures .0 i))
 
-walk-child-returns : (t : ℕ) → walk-child-lts.Need-returns (child-calls t) (walk-child-at t) walk-child.Post
-walk-child-returns t c =
-    let s = c .before .before .before .before .before in
-    let a = s .args in
-    walked-by (a .at) (now (a .words)) _ _
-    (sym (child-outside (now (a .nodes)) (a .subsectors) (a .x) (a .y) (a .more) (a .at) (a .node) (a .choice)
-    (sym (judged t (c .before)) ∙ not-true _ (c .if1 .taken))))
-    refl
+  inside : (c : walk-child-lts.Else1 child-calls child-at walk-child.Post)
+      → (let a = c .before .before .before .before .before .args in
+      childOk (nodesOf (now (a .nodes))) (a .subsectors) (childOf (now (a .nodes)) (a .node) (a .choice)) ≡ true)
+  inside c = sym (judged (c .before)) ∙ not-false _ (c .if1 .left)
 
-walk-child-walk-node-requires : (t : ℕ) → walk-child-lts.Need-walk-node-requires (child-calls t) (walk-child-at t) walk-child.Post
-walk-child-walk-node-requires t c κs =
-    let s = c .before .before .before .before .before .before .before in
-    let a = s .args in
-    let is = c .before .before .before .before .child-of .ensures .0 in
-    let counted = nodesOf-whole (now (a .nodes)) (a .count) (s .pre .1 .0 .whole) in
-    let node = childOk-node (nodesOf (now (a .nodes))) (a .subsectors) (childOf (now (a .nodes)) (a .node) (a .choice)) (fits t (c .before .before)) (rw is at (c .before .if2 .taken)) in
-    let less = s .pre .0 in
-    (omega arith, (s .pre .1 .0, rw is (rw counted at node)))
+  child-returns : walk-child-lts.Need-returns child-calls child-at walk-child.Post
+  child-returns c =
+      let a = c .before .before .before .before .before .args in
+      walked-by (a .at) (now (a .words)) _ _
+      (sym
+      (child-outside (now (a .nodes)) (a .subsectors) (a .x) (a .y) (a .more) (a .at) (a .node) (a .choice)
+      (sym (judged (c .before)) ∙ not-true _ (c .if1 .taken))))
+      refl
 
-walk-child-same-length : (t : ℕ) → walk-child-lts.Need-same-length (child-calls t) (walk-child-at t) walk-child.Post
-walk-child-same-length t c =
-    c .before .before .walk-node .kept .1 .1 .1 .1 .1 .0
+  walk-node-requires : walk-child-lts.Need-walk-node-requires child-calls child-at walk-child.Post
+  walk-node-requires c κs =
+      let s = c .before .before .before .before .before .before .before in
+      let a = s .args in
+      let is = c .before .before .before .before .child-of .ensures .0 in
+      let counted = nodesOf-whole (now (a .nodes)) (a .count) (s .pre .1 .0 .whole) in
+      let node =
+      childOk-node (nodesOf (now (a .nodes))) (a .subsectors) (childOf (now (a .nodes)) (a .node) (a .choice))
+      (inside (c .before .before)) (rw is at (c .before .if2 .taken)) in
+      let less = s .pre .0 in
+      (omega arith, (s .pre .1 .0, rw is (rw counted at node)))
 
-walk-child-returns-2 : (t : ℕ) → walk-child-lts.Need-returns-2 (child-calls t) (walk-child-at t) walk-child.Post
-walk-child-returns-2 t c =
-    let s = c .before .before .before .before .before .before .before .before .before .before in
-    let a = s .args in
-    let x = toZ-ofZ w16 (a .x) (s .fits .x) in
-    let y = toZ-ofZ w16 (a .y) (s .fits .y) in
-    let is = c .before .before .before .before .before .before .before .child-of .ensures .0 in
-    let node = rw is at (c .before .before .before .before .if2 .taken) in
-    walked-by (a .at) (now (a .words)) _ _
-    ((λ i. nodeOrder (now (a .nodes)) (a .subsectors) (x i) (y i) (a .more) (a .at) (is i))
-    ∙ sym (child-node (now (a .nodes)) (a .subsectors) (a .x) (a .y) (a .more) (a .at) (a .node) (a .choice)
-    (fits t (c .before .before .before .before .before)) node))
-    (c .before .before .walk-node .ensures)
+  child-returns-2 : walk-child-lts.Need-returns-2 child-calls child-at walk-child.Post
+  child-returns-2 c =
+      let s = c .before .before .before .before .before .before .before .before .before .before in
+      let a = s .args in
+      let x = toZ-ofZ w16 (a .x) (s .fits .x) in
+      let y = toZ-ofZ w16 (a .y) (s .fits .y) in
+      let is = c .before .before .before .before .before .before .before .child-of .ensures .0 in
+      let node = rw is at (c .before .before .before .before .if2 .taken) in
+      walked-by (a .at) (now (a .words)) _ _
+      ((λ i. nodeOrder (now (a .nodes)) (a .subsectors) (x i) (y i) (a .more) (a .at) (is i))
+      ∙ sym
+      (child-node (now (a .nodes)) (a .subsectors) (a .x) (a .y) (a .more) (a .at) (a .node) (a .choice)
+      (inside (c .before .before .before .before .before)) node))
+      (c .before .before .walk-node .ensures)
 
-walk-child-returns-3 : (t : ℕ) → walk-child-lts.Need-returns-3 (child-calls t) (walk-child-at t) walk-child.Post
-walk-child-returns-3 t c =
-    let s = c .before .before .before .before .before .before .before in
-    let a = s .args in
-    let is = c .before .before .before .before .child-of .ensures .0 in
-    let end = rw is at (c .before .if2 .left) in
-    let counted = nodesOf-whole (now (a .nodes)) (a .count) (s .pre .1 .0 .whole) in
-    let full : nodesOf (now (a .nodes)) + 1 ≤ a .at =
-    (let words = s .pre .1 .0 .enough in let h = c .if3 .taken in omega arith) in
-    walked-by (a .at) (now (a .words)) _ _
-    (sym (child-full (now (a .nodes)) (a .subsectors) (a .x) (a .y) (a .more) (a .at) (a .node) (a .choice)
-    (fits t (c .before .before)) end full))
-    refl
+  child-returns-3 : walk-child-lts.Need-returns-3 child-calls child-at walk-child.Post
+  child-returns-3 c =
+      let s = c .before .before .before .before .before .before .before in
+      let a = s .args in
+      let is = c .before .before .before .before .child-of .ensures .0 in
+      let counted = nodesOf-whole (now (a .nodes)) (a .count) (s .pre .1 .0 .whole) in
+      let full : nodesOf (now (a .nodes)) + 1 ≤ a .at =
+      (let words = s .pre .1 .0 .enough in let h = c .if3 .taken in omega arith) in
+      walked-by (a .at) (now (a .words)) _ _
+      (sym
+      (child-full (now (a .nodes)) (a .subsectors) (a .x) (a .y) (a .more) (a .at) (a .node) (a .choice)
+      (inside (c .before .before)) (rw is at (c .before .if2 .left)) full))
+      refl
 
-walk-child-cast-words : (t : ℕ) → walk-child-lts.Need-cast-words (child-calls t) (walk-child-at t) walk-child.Post
-walk-child-cast-words t c =
-    record { fits = (let h = c .before .before .before .before .child-of .ensures .1 in omega arith) }
+  cast-words : walk-child-lts.Need-cast-words child-calls child-at walk-child.Post
+  cast-words c = record { fits = (let h = c .before .before .before .before .child-of .ensures .1 in omega arith) }
 
-walk-child-returns-4 : (t : ℕ) → walk-child-lts.Need-returns-4 (child-calls t) (walk-child-at t) walk-child.Post
-walk-child-returns-4 t c =
-    let s = c .before .before .before .before .before .before .before in
-    let a = s .args in
-    let is = c .before .before .before .before .child-of .ensures .0 in
-    let end = rw is at (c .before .if2 .left) in
-    let counted = nodesOf-whole (now (a .nodes)) (a .count) (s .pre .1 .0 .whole) in
-    let room : a .at < nodesOf (now (a .nodes)) + 1 =
-    (let words = s .pre .1 .0 .enough in let h = c .if3 .left in omega arith) in
-    walked-by (a .at) (now (a .words)) _ _
-    (sym (child-entry (now (a .nodes)) (a .subsectors) (a .x) (a .y) (a .more) (a .at) (a .node) (a .choice)
-    (fits t (c .before .before)) end room))
-    (refl, ap (λ (child : ℕ). set (now (a .words)) (a .at) (child - 32768)) is, (let h = c .if3 .left in omega arith))
+  child-returns-4 : walk-child-lts.Need-returns-4 child-calls child-at walk-child.Post
+  child-returns-4 c =
+      let s = c .before .before .before .before .before .before .before in
+      let a = s .args in
+      let is = c .before .before .before .before .child-of .ensures .0 in
+      let counted = nodesOf-whole (now (a .nodes)) (a .count) (s .pre .1 .0 .whole) in
+      let h = c .if3 .left in
+      let room : a .at < nodesOf (now (a .nodes)) + 1 = (let words = s .pre .1 .0 .enough in omega arith) in
+      walked-by (a .at) (now (a .words)) _ _
+      (sym
+      (child-entry (now (a .nodes)) (a .subsectors) (a .x) (a .y) (a .more) (a .at) (a .node) (a .choice)
+      (inside (c .before .before)) (rw is at (c .before .if2 .left)) room))
+      (refl, ap (λ (child : ℕ). set (now (a .words)) (a .at) (child - 32768)) is, omega arith)
 
-walk-node-returns : (t : ℕ) → walk-node-lts.Need-returns (node-calls t) (walk-node-at t) walk-node.Post
-walk-node-returns t c =
-    let s = c .before .before .before in
-    let a = s .args in
-    walked-by (a .at) (now (a .words)) _ _
-    (sym
-    (ap (λ (more : ℕ). nodeOrder (now (a .nodes)) (a .subsectors) (a .x) (a .y) more (a .at) (a .node)) (c .if1 .taken)
-    ∙ node-none (now (a .nodes)) (a .subsectors) (a .x) (a .y) (a .at) (a .node)))
-    refl
+  -- ---- a node
 
-walk-node-side-at-requires : (t : ℕ) → walk-node-lts.Need-side-at-requires (node-calls t) (walk-node-at t) walk-node.Post
-walk-node-side-at-requires t c κs =
-    let s = c .before .before .before in
-    let whole = s .pre .1 .0 .whole in
-    let below = s .pre .1 .1 in
-    omega arith
+  node-returns : walk-node-lts.Need-returns node-calls node-at walk-node.Post
+  node-returns c =
+      let a = c .before .before .before .args in
+      walked-by (a .at) (now (a .words)) _ _
+      (sym
+      (ap (λ (more : ℕ). nodeOrder (now (a .nodes)) (a .subsectors) (a .x) (a .y) more (a .at) (a .node)) (c .if1 .taken)
+      ∙ node-none (now (a .nodes)) (a .subsectors) (a .x) (a .y) (a .at) (a .node)))
+      refl
 
-walk-node-sub-walk-child : (t : ℕ) → walk-node-lts.Need-sub-walk-child (node-calls t) (walk-node-at t) walk-node.Post
-walk-node-sub-walk-child t c =
-    let some = c .before .before .if1 .left in omega arith
+  side-at-requires : walk-node-lts.Need-side-at-requires node-calls node-at walk-node.Post
+  side-at-requires c κs =
+      let s = c .before .before .before in
+      let whole = s .pre .1 .0 .whole in
+      let below = s .pre .1 .1 in
+      omega arith
 
-walk-node-walk-child-requires : (t : ℕ) → walk-node-lts.Need-walk-child-requires (node-calls t) (walk-node-at t) walk-node.Post
-walk-node-walk-child-requires t c κs =
-    let s = c .before .before .before .before .before in
-    let some = c .before .before .if1 .left in
-    let less = s .pre .0 in
-    (omega arith, s .pre .1)
+  walk-child-requires : walk-node-lts.Need-walk-child-requires node-calls node-at walk-node.Post
+  walk-child-requires c κs =
+      let s = c .before .before .before .before .before .before in
+      let some = c .before .before .before .if1 .left in
+      let less = s .pre .0 in
+      (omega arith, s .pre .1)
 
-walk-node-sub-walk-child-2 : (t : ℕ) → walk-node-lts.Need-sub-walk-child-2 (node-calls t) (walk-node-at t) walk-node.Post
-walk-node-sub-walk-child-2 t c =
-    let some = c .before .before .before .before .before .before .before .before .before .if1 .left in omega arith
+  walk-child-requires-2 : walk-node-lts.Need-walk-child-requires-2 node-calls node-at walk-node.Post
+  walk-child-requires-2 c κs =
+      let s = c .before .before .before .before .before .before .before .before .before .before .before .before .before in
+      let some = c .before .before .before .before .before .before .before .before .before .before .if1 .left in
+      let less = s .pre .0 in
+      let w = s .pre .1 .0 in
+      let same = c .before .before .before .before .before .before .walk-child .kept .1 .1 .1 .1 .1 .0 in
+      (omega arith, (record { whole = w .whole; most = w .most; enough = same ∙ w .enough }, s .pre .1 .1))
 
-walk-node-walk-child-requires-2 : (t : ℕ) → walk-node-lts.Need-walk-child-requires-2 (node-calls t) (walk-node-at t) walk-node.Post
-walk-node-walk-child-requires-2 t c κs =
-    let s = c .before .before .before .before .before .before .before .before .before .before .before .before .before in
-    let some = c .before .before .before .before .before .before .before .before .before .before .if1 .left in
-    let less = s .pre .0 in
-    let same = c .before .before .before .before .before .before .before .walk-child .kept .1 .1 .1 .1 .1 .0 in (
-      omega arith,
-      (
-        record { whole = s .pre .1 .0 .whole; most = s .pre .1 .0 .most; enough = same ∙ s .pre .1 .0 .enough },
-        s .pre .1 .1,
-      ),
-    )
+  -- the lists of the child on the point's side, and of the other child behind `next` entries
+  abbrev near : walk-node-lts.Start node-calls node-at walk-node.Post → Listing
+  near s =
+      let a = s .args in
+      childOrder (now (a .nodes)) (a .subsectors) (a .x) (a .y) (a .more - 1) (a .at) (a .node)
+      (sideAt (now (a .nodes)) (a .x) (a .y) (a .node))
 
--- the lists of the child on the point's side, and of the other child behind `next` entries
-abbrev near : (t : ℕ) → walk-node-lts.Start (node-calls t) (walk-node-at t) walk-node.Post → Listing
-near t s =
-    let a = s .args in
-    childOrder (now (a .nodes)) (a .subsectors) (a .x) (a .y) (a .more - 1) (a .at) (a .node) (sideAt (now (a .nodes)) (a .x) (a .y) (a .node))
+  abbrev far : walk-node-lts.Start node-calls node-at walk-node.Post → ℕ → Listing
+  far s next =
+      let a = s .args in
+      childOrder (now (a .nodes)) (a .subsectors) (a .x) (a .y) (a .more - 1) next (a .node)
+      (other (sideAt (now (a .nodes)) (a .x) (a .y) (a .node)))
 
-abbrev far : (t : ℕ) → walk-node-lts.Start (node-calls t) (walk-node-at t) walk-node.Post → ℕ → Listing
-far t s next =
-    let a = s .args in
-    childOrder (now (a .nodes)) (a .subsectors) (a .x) (a .y) (a .more - 1) next (a .node) (other (sideAt (now (a .nodes)) (a .x) (a .y) (a .node)))
+  steps : (c : walk-node-lts.Else1 node-calls node-at walk-node.Post)
+      → (let s = c .before .before .before in
+      let a = s .args in
+      joined (a .at) (near s) (far s) ≡ nodeOrder (now (a .nodes)) (a .subsectors) (a .x) (a .y) (a .more) (a .at) (a .node))
+  steps c =
+      let a = c .before .before .before .args in
+      let some = c .if1 .left in
+      let one : suc (a .more - 1) ≡ a .more = omega arith in
+      sym (node-more (now (a .nodes)) (a .subsectors) (a .x) (a .y) (a .more - 1) (a .at) (a .node))
+      ∙ ap (λ (more : ℕ). nodeOrder (now (a .nodes)) (a .subsectors) (a .x) (a .y) more (a .at) (a .node)) one
 
-steps : (t : ℕ) (c : walk-node-lts.Else1 (node-calls t) (walk-node-at t) walk-node.Post)
-    → (let s = c .before .before .before in
-    let a = s .args in
-    joined (a .at) (near t s) (far t s) ≡ nodeOrder (now (a .nodes)) (a .subsectors) (a .x) (a .y) (a .more) (a .at) (a .node))
-steps t c =
-    let a = c .before .before .before .args in
-    let some = c .if1 .left in
-    let one : suc (a .more - 1) ≡ a .more = omega arith in
-    sym (node-more (now (a .nodes)) (a .subsectors) (a .x) (a .y) (a .more - 1) (a .at) (a .node))
-    ∙ ap (λ (more : ℕ). nodeOrder (now (a .nodes)) (a .subsectors) (a .x) (a .y) more (a .at) (a .node)) one
+  -- the choice of the point
+  side : (c : walk-node-lts.After-side-at node-calls node-at walk-node.Post)
+      → (let a = c .before .before .before .before .args in c .side-at .result ≡ sideAt (now (a .nodes)) (a .x) (a .y) (a .node))
+  side c =
+      let s = c .before .before .before .before in
+      let x = toZ-ofZ w16 (s .args .x) (s .fits .x) in
+      let y = toZ-ofZ w16 (s .args .y) (s .fits .y) in
+      c .side-at .ensures ∙ (λ i. sideAt (now (s .args .nodes)) (x i) (y i) (s .args .node))
 
--- the choice of the point
-side : (t : ℕ) (c : walk-node-lts.After-side-at (node-calls t) (walk-node-at t) walk-node.Post)
-    → (let a = c .before .before .before .before .args in c .side-at .result ≡ sideAt (now (a .nodes)) (a .x) (a .y) (a .node))
-side t c =
-    let s = c .before .before .before .before in
-    let x = toZ-ofZ w16 (s .args .x) (s .fits .x) in
-    let y = toZ-ofZ w16 (s .args .y) (s .fits .y) in
-    c .side-at .ensures ∙ (λ i. sideAt (now (s .args .nodes)) (x i) (y i) (s .args .node))
+  -- what the first walk answers and leaves
+  first : (c : walk-node-lts.After-walk-child node-calls node-at walk-node.Post) (answer : Order)
+      → orderOf (c .walk-child .result) ≡ answer
+      → (let s = c .before .before .before .before .before .before .before in
+      Walked (near s) (s .args .at) (now (s .args .words)) answer (c .walk-child .last .1 .1 .1 .1 .1 .0))
+  first c answer e =
+      let s = c .before .before .before .before .before .before .before in
+      let a = s .args in
+      let x = toZ-ofZ w16 (a .x) (s .fits .x) in
+      let y = toZ-ofZ w16 (a .y) (s .fits .y) in
+      let choice = side (c .before .before .before) in
+      subst (λ (r : Order). Walked (near s) (a .at) (now (a .words)) r (c .walk-child .last .1 .1 .1 .1 .1 .0)) e
+      (walked-by (a .at) (now (a .words)) _ _
+      (λ i. childOrder (now (a .nodes)) (a .subsectors) (x i) (y i) (a .more - 1) (a .at) (a .node) (choice i))
+      (c .walk-child .ensures))
 
--- what the first walk answers and leaves
-first : (t : ℕ) (c : walk-node-lts.After-walk-child (node-calls t) (walk-node-at t) walk-node.Post) (answer : Order) → orderOf (c .walk-child .result) ≡ answer
-    → (let s = c .before .before .before .before .before .before in Walked (near t s) (s .args .at) (now (s .args .words)) answer (c .walk-child .last .1 .1 .1 .1 .1 .0))
-first t c answer e =
-    let s = c .before .before .before .before .before .before in
-    let a = s .args in
-    let x = toZ-ofZ w16 (a .x) (s .fits .x) in
-    let y = toZ-ofZ w16 (a .y) (s .fits .y) in
-    let choice = side t (c .before .before) in
-    subst (λ (r : Order). Walked (near t s) (a .at) (now (a .words)) r (c .walk-child .last .1 .1 .1 .1 .1 .0)) e
-    (walked-by (a .at) (now (a .words)) _ _
-    (λ i. childOrder (now (a .nodes)) (a .subsectors) (x i) (y i) (a .more - 1) (a .at) (a .node) (choice i))
-    (c .walk-child .ensures))
+  -- where it is refused, so is the node's
+  stops : (c : walk-node-lts.After-walk-child node-calls node-at walk-node.Post) (r : Refusal)
+      → orderOf (c .walk-child .result) ≡ Refused r
+      → (let a = c .before .before .before .before .before .before .before .args in
+      Walked (nodeOrder (now (a .nodes)) (a .subsectors) (a .x) (a .y) (a .more) (a .at) (a .node)) (a .at) (now (a .words))
+      (Refused r) (c .walk-child .last .1 .1 .1 .1 .1 .0))
+  stops c r e =
+      let s = c .before .before .before .before .before .before .before in
+      let a = s .args in
+      let middle = c .walk-child .last .1 .1 .1 .1 .1 .0 in
+      walked-by (a .at) (now (a .words)) (Refused r) middle (steps (c .before .before .before .before))
+      (walked-refused (a .at) (now (a .words)) middle middle (far s) (near s) r (first c (Refused r) e))
 
--- where it is refused, so is the node's
-stops : (t : ℕ) (c : walk-node-lts.After-walk-child (node-calls t) (walk-node-at t) walk-node.Post) (r : Refusal) → orderOf (c .walk-child .result) ≡ Refused r
-    → (let a = c .before .before .before .before .before .before .args in
-    Walked (nodeOrder (now (a .nodes)) (a .subsectors) (a .x) (a .y) (a .more) (a .at) (a .node)) (a .at) (now (a .words)) (Refused r)
-    (c .walk-child .last .1 .1 .1 .1 .1 .0))
-stops t c r e =
-    let s = c .before .before .before .before .before .before in
-    let a = s .args in
-    let middle = c .walk-child .last .1 .1 .1 .1 .1 .0 in
-    walked-by (a .at) (now (a .words)) (Refused r) middle (steps t (c .before .before .before))
-    (walked-refused (a .at) (now (a .words)) middle middle (far t s) (near t s) r (first t c (Refused r) e))
+  same-length : walk-node-lts.Need-same-length node-calls node-at walk-node.Post
+  same-length c = c .before .before .walk-child2 .kept .1 .1 .1 .1 .1 .0 ∙ c .before .before .before .before .before .before .before .before .before .walk-child .kept .1 .1 .1 .1 .1 .0
 
-walk-node-same-length : (t : ℕ) → walk-node-lts.Need-same-length (node-calls t) (walk-node-at t) walk-node.Post
-walk-node-same-length t c =
-    c .before .before .walk-child2 .kept .1 .1 .1 .1 .1 .0 ∙ c .before .before .before .before .before .before .before .before .before .before .walk-child .kept .1 .1 .1 .1 .1 .0
-
-walk-node-returns-2 : (t : ℕ) → walk-node-lts.Need-returns-2 (node-calls t) (walk-node-at t) walk-node.Post
-walk-node-returns-2 t c =
-    let s = c .before .before .before .before .before .before .before .before .before .before .before .before .before .before .before .before in
-    let a = s .args in
-    let x = toZ-ofZ w16 (a .x) (s .fits .x) in
-    let y = toZ-ofZ w16 (a .y) (s .fits .y) in
-    let choice = c .before .before .before .other .ensures ∙ ap other (side t (c .before .before .before .before .before .before .before .before .before .before .before .before)) in
-    let next = c .before .before .before .before .before .before .next in
-    let walk = c .before .before .before .before .before .before .before .before .before .before in
-    let walk2 = c .before .before .walk-child2 in
-    let middle = walk .walk-child .last .1 .1 .1 .1 .1 .0 in
-    let after = walk2 .last .1 .1 .1 .1 .1 .0 in
-    walked-by (a .at) (now (a .words)) _ after (steps t (c .before .before .before .before .before .before .before .before .before .before .before .before .before))
-    (walked-joined (a .at) (now (a .words)) middle after (far t s) (near t s) (next .given .0 .0) (orderOf (walk2 .result))
-    (first t walk _ (ap orderOf (next .given .1)))
-    (walked-by (next .given .0 .0) middle _ after
-    (λ i. childOrder (now (a .nodes)) (a .subsectors) (x i) (y i) (a .more - 1) (next .given .0 .0) (a .node) (choice i))
-    (walk2 .ensures)))
-
-walk-node-returns-3 : (t : ℕ) → walk-node-lts.Need-returns-3 (node-calls t) (walk-node-at t) walk-node.Post
-walk-node-returns-3 t c = stops t (c .before .before .before .before .before) _ (ap orderOf (c .before .parent .given .1))
-
-walk-node-returns-4 : (t : ℕ) → walk-node-lts.Need-returns-4 (node-calls t) (walk-node-at t) walk-node.Post
-walk-node-returns-4 t c = stops t (c .before .before .before .before) _ (ap orderOf (c .enum-told .given .1))
-
-walk-node-returns-5 : (t : ℕ) → walk-node-lts.Need-returns-5 (node-calls t) (walk-node-at t) walk-node.Post
-walk-node-returns-5 t c = stops t (c .before .before .before .before) _ (ap orderOf (c .enum-told2 .given .1))
+  node-returns-2 : walk-node-lts.Need-returns-2 node-calls node-at walk-node.Post
+  node-returns-2 c =
+      let s = c .before .before .before .before .before .before .before .before .before .before .before .before .before .before .before .before in
+      let a = s .args in
+      let x = toZ-ofZ w16 (a .x) (s .fits .x) in
+      let y = toZ-ofZ w16 (a .y) (s .fits .y) in
+      let choice = c .before .before .before .before .before .before .before .before .before .before .before .other .ensures ∙ ap other (side (c .before .before .before .before .before .before .before .before .before .before .before .before)) in
+      let next = c .before .before .before .before .before .next in
+      let walk = c .before .before .before .before .before .before .before .before .before in
+      let walk2 = c .before .before .walk-child2 in
+      let middle = walk .walk-child .last .1 .1 .1 .1 .1 .0 in
+      let after = walk2 .last .1 .1 .1 .1 .1 .0 in
+      walked-by (a .at) (now (a .words)) _ after (steps (c .before .before .before .before .before .before .before .before .before .before .before .before .before))
+      (walked-joined (a .at) (now (a .words)) middle after (far s) (near s) (next .given .0 .0) (orderOf (walk2 .result))
+      (first walk _ (ap orderOf (next .given .1)))
+      (walked-by (next .given .0 .0) middle _ after
+      (λ i. childOrder (now (a .nodes)) (a .subsectors) (x i) (y i) (a .more - 1) (next .given .0 .0) (a .node) (choice i))
+      (walk2 .ensures)))
 
 pub +walk-child+walk-node-spec : {M : Type 1} → statement M
 +walk-child+walk-node-spec =
     close μ-walk-child μ-walk-node
     (λ t.
-    walk-child-lts.spec (child-calls t) (walk-child-at t) walk-child.Post
-    (walk-child-child-of-requires t)
+    walk-child-lts.spec (child-calls t) (child-at t) walk-child.Post
+    (child-of-requires t)
     (λ c κs. search needs)
-    (walk-child-returns t)
-    (walk-child-walk-node-requires t)
-    (walk-child-same-length t)
-    (walk-child-returns-2 t)
-    (walk-child-returns-3 t)
-    (walk-child-cast-words t)
+    (child-returns t)
+    (walk-node-requires t)
+    (λ c. c .before .before .walk-node .kept .1 .1 .1 .1 .1 .0)
+    (child-returns-2 t)
+    (child-returns-3 t)
+    (cast-words t)
     (λ c. search needs)
     (λ c. search needs)
     (λ c. search needs)
     (λ c. search needs)
-    (walk-child-returns-4 t))
+    (child-returns-4 t))
     (λ t.
-    walk-node-lts.spec (node-calls t) (walk-node-at t) walk-node.Post
-    (walk-node-returns t)
-    (walk-node-side-at-requires t)
-    (walk-node-sub-walk-child t)
-    (walk-node-walk-child-requires t)
-    (λ c. search needs)
-    (walk-node-sub-walk-child-2 t)
+    walk-node-lts.spec (node-calls t) (node-at t) walk-node.Post
+    (node-returns t)
+    (side-at-requires t)
     (λ c κs. search needs)
-    (walk-node-walk-child-requires-2 t)
+    (λ c. search needs)
+    (walk-child-requires t)
+    (λ c. search needs)
+    (λ c. search needs)
+    (walk-child-requires-2 t)
     (λ c. search needs)
     (λ c. search needs)
     (λ c. search needs)
-    (walk-node-same-length t)
-    (walk-node-returns-2 t)
+    (same-length t)
+    (node-returns-2 t)
     (λ c. c .before .before .before .before .before .walk-child .kept .1 .1 .1 .1 .1 .0)
-    (walk-node-returns-3 t)
+    (λ c. stops t (c .before .before .before .before .before) _ (ap orderOf (c .before .parent .given .1)))
     (λ c. c .before .before .before .before .walk-child .kept .1 .1 .1 .1 .1 .0)
-    (walk-node-returns-4 t)
+    (λ c. stops t (c .before .before .before .before) _ (ap orderOf (c .enum-told .given .1)))
     (λ c. c .before .before .before .before .walk-child .kept .1 .1 .1 .1 .1 .0)
-    (walk-node-returns-5 t))
+    (λ c. stops t (c .before .before .before .before) _ (ap orderOf (c .enum-told2 .given .1))))
