@@ -145,20 +145,10 @@ fn walk_node(
     if more == 0 {
         return Walk::Deep;
     }
+    let less = more - 1;
     let near = bsp::side::side_at(nodes, x, y, node);
     let far = other(near);
-    match walk_child(
-        nodes,
-        count,
-        subsectors,
-        x,
-        y,
-        words,
-        at,
-        more - 1,
-        node,
-        near,
-    ) {
+    match walk_child(nodes, count, subsectors, x, y, words, at, less, node, near) {
         Walk::Listed(next) => walk_child(
             nodes,
             count,
@@ -167,7 +157,7 @@ fn walk_node(
             y,
             words,
             next,
-            more - 1,
+            less,
             node,
             far,
         ),

@@ -46,11 +46,11 @@ pub enum Refusal {
     NodeLoop,
     // 32: a node or subsector that two ways lead to
     NodeShared,
-    // 40: descent, the size of NODES
+    // 40: descent and draw order, the size of NODES
     DescentNodes,
-    // 41: descent, the count of subsectors
+    // 41: descent and draw order, the count of subsectors
     DescentSubsectors,
-    // 42: descent, a chosen child out of range, by the node that names it
+    // 42: descent and draw order, a child that the walk comes to out of range, by the node that names it
     DescentChild(usize),
     // 43: descent, as many choices as nodes and still on a node
     DescentLoop,

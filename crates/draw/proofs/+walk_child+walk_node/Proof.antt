@@ -291,11 +291,10 @@ pub +walk-child+walk-node-spec : {M : Type 1} → statement M
     (λ t.
     walk-node-lts.spec (node-calls t) (node-at t) walk-node.Post
     (node-returns t)
+    (λ c. search needs)
     (side-at-requires t)
     (λ c κs. search needs)
-    (λ c. search needs)
     (walk-child-requires t)
-    (λ c. search needs)
     (λ c. search needs)
     (walk-child-requires-2 t)
     (λ c. search needs)
