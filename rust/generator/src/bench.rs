@@ -228,6 +228,27 @@ pub fn mixed_nodes(levels: u32) -> Vec<u8> {
     encode(&nodes)
 }
 
+/// A NODES lump of `nodes` nodes, 257 to 32,767, that makes a draw order as long and as deep as can be: 240 nodes are a chain, at its end
+/// are sixteen doublings, and no route reaches the others. The list is full long before its end.
+pub fn deep_doublings(nodes: usize) -> Vec<u8> {
+    let first = nodes - 256;
+    let child = |at: usize| if at == first { SUBSECTOR_BIT } else { at as u16 - 1 };
+    let children = |at: usize| match at.checked_sub(first) {
+        None => [SUBSECTOR_BIT; 2],
+        Some(0..=15) => [child(at); 2],
+        Some(_) => [child(at), SUBSECTOR_BIT | at as u16],
+    };
+    let node = |[right, left]: [u16; 2]| Node { dy: 64, right, left, ..Node::default() };
+    encode(&(0..nodes).map(children).map(node).collect::<Vec<_>>())
+}
+
+/// A NODES lump that is a chain of `nodes` nodes, always on the near side of a point in the east.
+pub fn deep_chain(nodes: usize) -> Vec<u8> {
+    let child = |at: usize| at.checked_sub(1).map_or(SUBSECTOR_BIT, |below| below as u16);
+    let node = |at: usize| Node { dy: 64, right: child(at), left: SUBSECTOR_BIT, ..Node::default() };
+    encode(&(0..nodes).map(node).collect::<Vec<_>>())
+}
+
 fn halved(levels: u32) -> Vec<Node> {
     let count = (1usize << levels) - 1;
     let mut nodes = vec![Node::default(); count];

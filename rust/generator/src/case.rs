@@ -52,6 +52,17 @@ pub enum Question {
         /// The point.
         y: i16,
     },
+    /// List the subsectors of a NODES lump, front first.
+    DrawOrder {
+        /// The count of subsectors.
+        subsectors: usize,
+        /// The point.
+        x: i16,
+        /// The point.
+        y: i16,
+        /// The words as lent.
+        words: Vec<u16>,
+    },
     /// Judge a picture.
     JudgePicture,
     /// Paint a picture.
@@ -94,6 +105,8 @@ pub enum Expected {
     Search(Search),
     /// A map of Hexen, or not.
     Hexen(bool),
+    /// A draw order of so many subsectors.
+    Count(usize),
 }
 
 impl Case {

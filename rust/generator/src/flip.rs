@@ -93,8 +93,9 @@ pub fn random_lump_case(rng: &mut Rng) -> Case {
     if bytes.len() >= 4 && rng.once_in(2) {
         bytes[..4].copy_from_slice(&[rng.below(4) as u8, 0, rng.below(9) as u8, 0]);
     }
-    let question = match rng.below(3) {
+    let question = match rng.below(4) {
         0 => Question::JudgePicture,
+        3 => Question::DrawOrder { subsectors: rng.below(5), x: rng.i16(), y: rng.i16(), words: vec![7; rng.below(9)] },
         1 => Question::PaintPicture { colour: vec![3; 30], cover: vec![5; 31] },
         _ => Question::Descend { subsectors: rng.below(5), x: rng.i16(), y: rng.i16() },
     };

@@ -7,9 +7,10 @@
 //!   [`all_picture_damages`] does so for pictures;
 //! - [`limits`] lists both sides of every limit, each case built when asked for;
 //! - [`MapSpec`], [`Plan`], [`BlockmapSpec`] and [`PictureSpec`] build inputs by hand;
-//! - [`ordinary_map`], [`largest_map`], [`directory_of`], [`littered_directory_of`], [`chain`], [`balanced`], [`doublings`],
-//!   [`shared_subsector`], [`search_to_the_first`], [`search_in_vain`], [`hostile_blockmap`],
-//!   [`hostile_picture`], [`picture`], [`halving_nodes`] and [`mixed_nodes`] are the inputs of a benchmark;
+//! - [`ordinary_map`], [`hexen_map_of`], [`largest_map`], [`largest_hexen_map_of`], [`directory_of`],
+//!   [`littered_directory_of`], [`search_to_the_first`], [`search_in_vain`], [`chain`], [`balanced`],
+//!   [`doublings`], [`shared_subsector`], [`hostile_blockmap`], [`hostile_picture`], [`picture`],
+//!   [`halving_nodes`], [`mixed_nodes`], [`deep_chain`] and [`deep_doublings`] are the inputs of a benchmark;
 //! - [`shrink`] makes a failing case smaller.
 //!
 //! ```
@@ -32,11 +33,13 @@ mod damage;
 mod damage_graph;
 mod damage_records;
 mod descent;
+mod draw;
 mod family;
 mod flip;
 mod game;
 mod graph;
 mod limit;
+mod limit_draw;
 mod limit_graph;
 mod limit_lump;
 mod limit_map;
@@ -57,14 +60,15 @@ mod shrink;
 mod valid;
 
 pub use bench::{
-    balanced, chain, directory_of, doublings, halving_nodes, hexen_map_of, hostile_blockmap, hostile_blockmap_of,
-    hostile_picture, hostile_picture_of, largest_hexen_map_of, largest_map, largest_map_of, littered_directory_of, map_of,
-    mixed_nodes, ordinary_map, picture, shared_subsector, MOST_BYTES,
+    balanced, chain, deep_chain, deep_doublings, directory_of, doublings, halving_nodes, hexen_map_of, hostile_blockmap,
+    hostile_blockmap_of, hostile_picture, hostile_picture_of, largest_hexen_map_of, largest_map, largest_map_of,
+    littered_directory_of, map_of, mixed_nodes, ordinary_map, picture, shared_subsector, MOST_BYTES,
 };
 pub use blockmap::{BlockmapSpec, Layout};
 pub use case::{Case, Expected, Question};
 pub use damage::{damages, Damage};
 pub use descent::descent_case;
+pub use draw::draw_case;
 pub use family::{case, cases, FAMILIES};
 pub use flip::{flipped_map_case, flipped_picture_case, random_file_case, random_lump_case};
 pub use graph::{Shape, Truth};

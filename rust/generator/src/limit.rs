@@ -1,6 +1,7 @@
 //! Both sides of every limit: the file, the directory and its entries.
 
 use crate::game::game_limits;
+use crate::limit_draw::draw_limits;
 use crate::limit_graph::graph_limits;
 use crate::limit_lump::lump_limits;
 use crate::limit_map::map_limits;
@@ -28,6 +29,7 @@ pub fn limits() -> Vec<Build> {
     all.extend(graph_limits());
     all.extend(lump_limits());
     all.extend(record_limits());
+    all.extend(draw_limits());
     all
 }
 

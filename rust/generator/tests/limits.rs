@@ -4,7 +4,7 @@ mod common;
 
 use common::check;
 use generator::*;
-use reader::{descend, directory, find_map, judge_map, judge_picture, map_game, Accepted, Found, Refusal, Search};
+use reader::{descend, directory, draw_order, find_map, judge_map, judge_picture, map_game, Accepted, Found, Refusal, Search};
 
 #[test]
 fn both_sides_of_every_limit() {
@@ -55,6 +55,14 @@ fn searched_inputs_are_searched_to_their_end() {
         assert_eq!(first, Search { marker: Ok(0), compared: count });
         assert_eq!(none, Search { marker: Err(Refusal::plain(11)), compared: count });
     }
+}
+
+#[test]
+fn hostile_draw_orders_are_refused_for_their_length_and_their_depth() {
+    let number = |nodes: &[u8]| draw_order(nodes, 32_767, 1, 0, &mut vec![7; 32_768]).map_err(|refusal| refusal.number);
+    assert_eq!([deep_doublings(300), deep_doublings(32_767)].map(|nodes| number(&nodes)), [Err(46); 2]);
+    assert_eq!([deep_chain(256), deep_chain(257), deep_chain(32_767)].map(|nodes| number(&nodes)), [Ok(257), Err(44), Err(44)]);
+    assert_eq!([halving_nodes(14), mixed_nodes(14)].map(|nodes| number(&nodes)), [Ok(16_384); 2]);
 }
 
 #[test]

@@ -2,7 +2,7 @@
 //! choices, every cell's list for itself, every pixel for itself.
 
 use generator::*;
-use reader::{judge_map, judge_picture, paint_picture, Accepted, Node, Refusal, SUBSECTOR_BIT};
+use reader::{descend, draw_order, judge_map, judge_picture, paint_picture, Accepted, Node, Refusal, SUBSECTOR_BIT};
 use std::collections::BTreeSet;
 
 /// The child word reached from `word` by the choices, one bit each; `None` where a choice would
@@ -93,6 +93,120 @@ fn any_graphs_of_up_to_nine_nodes() {
         met.insert(judge_nodes(children.iter().map(node).collect()).map_or_else(|refusal| refusal.number, |_| 0));
     }
     assert_eq!(met, [0, 31, 32].into());
+}
+
+/// W-208's words: the walk of a child and the walk of a node call each other.
+struct Drawing<'a> {
+    nodes: &'a [Node],
+    subsectors: usize,
+    x: i16,
+    list: Vec<u16>,
+}
+
+impl Drawing<'_> {
+    fn child(&mut self, word: u16, parent: usize, passed: usize) -> Result<(), Refusal> {
+        let number = usize::from(word & !SUBSECTOR_BIT);
+        if word & SUBSECTOR_BIT == 0 {
+            return if number < self.nodes.len() { self.node(number, passed + 1) } else { Err(Refusal::new(42, 0, parent)) };
+        }
+        if number >= self.subsectors {
+            return Err(Refusal::new(42, 0, parent));
+        }
+        if self.list.len() > self.nodes.len() {
+            return Err(Refusal::plain(46));
+        }
+        self.list.push(number as u16);
+        Ok(())
+    }
+
+    /// All lines run north through 0: east is right.
+    fn node(&mut self, at: usize, passed: usize) -> Result<(), Refusal> {
+        if passed > 256 {
+            return Err(Refusal::plain(44));
+        }
+        let Node { right, left, .. } = self.nodes[at];
+        let (near, far) = if self.x > 0 { (right, left) } else { (left, right) };
+        self.child(near, at, passed)?;
+        self.child(far, at, passed)
+    }
+}
+
+/// Holds the reader's draw order to the definition, words too; answers the refusal's number.
+fn draw_nodes(nodes: &[Node], subsectors: usize, x: i16) -> u32 {
+    let mut drawing = Drawing { nodes, subsectors, x, list: Vec::new() };
+    let drawn = drawing.node(nodes.len() - 1, 1);
+    let mut words = vec![7; nodes.len() + 2];
+    let lump: Vec<u8> = nodes.iter().flat_map(Encode::encode).collect();
+    let answer = draw_order(&lump, subsectors, x, 0, &mut words);
+    let list = if drawn.is_ok() { drawing.list } else { vec![0; nodes.len() + 1] };
+    assert_eq!(answer, drawn.map(|()| list.len()), "{nodes:?}");
+    let rest = words.len() - list.len();
+    assert_eq!(words, [list, vec![7; rest]].concat(), "{nodes:?}");
+    answer.map_or_else(|refusal| refusal.number, |_| 0)
+}
+
+fn upright(right: u16, left: u16) -> Node {
+    Node { dy: 1, right, left, ..Node::default() }
+}
+
+#[test]
+fn all_draw_orders_of_up_to_two_nodes() {
+    let words = [0, 1, 2, SUBSECTOR_BIT, SUBSECTOR_BIT | 1, SUBSECTOR_BIT | 2];
+    let mut met = BTreeSet::new();
+    for right in words {
+        for left in words {
+            met.insert(draw_nodes(&[upright(right, left)], 2, 1));
+            for (near, far) in words.into_iter().flat_map(|near| words.map(|far| (near, far))) {
+                met.insert(draw_nodes(&[upright(right, left), upright(near, far)], 2, 1));
+                met.insert(draw_nodes(&[upright(right, left), upright(near, far)], 2, 0));
+            }
+        }
+    }
+    assert_eq!(met, [0, 42, 44, 46].into());
+}
+
+#[test]
+fn any_draw_orders() {
+    let (mut rng, mut met) = (Rng::new(8), BTreeSet::new());
+    for _ in 0..6_000 {
+        let shape = if rng.once_in(4) { rng.pick(&[Shape::Any, Shape::Ring]) } else { rng.pick(&Shape::loopless()) };
+        let count = rng.between(1, 300);
+        let (children, truth) = shape.children(count, count + 1, &mut rng);
+        let mut nodes: Vec<Node> = children.iter().map(|&[right, left]| upright(right, left)).collect();
+        let x = rng.pick(&[0, 1]);
+        let number = draw_nodes(&nodes, count + 1, x);
+        match truth {
+            Truth::Depth(depth) => assert_eq!(number, if depth <= 256 { 0 } else { 44 }),
+            Truth::Loop => assert!(number == 44 || number == 46),
+            _ => {}
+        }
+        nodes[rng.below(count)].left = rng.pick(&[count as u16, SUBSECTOR_BIT | (count as u16 + 1)]);
+        met.extend([number, draw_nodes(&nodes, count + 1, x)]);
+    }
+    assert_eq!(met, [0, 42, 44, 46].into());
+}
+
+/// On an accepted map of depth at most 256 each reached subsector is listed once, and the descent's own answer first.
+#[test]
+fn draw_orders_of_accepted_maps() {
+    let mut rng = Rng::new(9);
+    for _ in 0..2_000 {
+        let shape = rng.pick(&Shape::TREES);
+        let count = rng.between(1, 9);
+        let (children, _) = shape.children(count, count + 1, &mut rng);
+        let node = |&[right, left]: &[u16; 2]| Node { right, left, dx: 3, dy: -5, ..Node::default() };
+        let nodes: Vec<Node> = children.iter().map(node).collect();
+        let lump: Vec<u8> = nodes.iter().flat_map(Encode::encode).collect();
+        let (x, y, mut words) = (rng.i16(), rng.i16(), vec![7; count + 1]);
+        let drawn = draw_order(&lump, count + 1, x, y, &mut words).expect("a tree");
+        assert_eq!(descend(&lump, count + 1, x, y).map(|it| it.subsector), Ok(usize::from(words[0])));
+        let met: BTreeSet<u16> = (0..=count).flat_map(|choices| reached(&nodes, choices)).collect();
+        let subsectors: Vec<u16> =
+            met.iter().filter(|word| **word & SUBSECTOR_BIT != 0).map(|word| word & !SUBSECTOR_BIT).collect();
+        words.truncate(drawn);
+        words.sort_unstable();
+        assert_eq!(words, subsectors);
+    }
 }
 
 /// Whether the list at word `offset` is good, read from its start to its end.

@@ -11,6 +11,7 @@ enum Answer {
     Found(Found),
     Search(Search),
     Hexen(bool),
+    Count(usize),
 }
 
 /// Checks one case; answers its refusal number, 0 for none.
@@ -24,6 +25,7 @@ pub fn check(case: &Case) -> u32 {
         Expected::Found(found) => answer == Ok(Answer::Found(found)),
         Expected::Search(search) => answer == Ok(Answer::Search(search)),
         Expected::Hexen(hexen) => answer == Ok(Answer::Hexen(hexen)),
+        Expected::Count(count) => answer == Ok(Answer::Count(count)),
     };
     assert!(good, "{}: {:?}, not {:?}", case.label, answer, case.expected);
     match answer {
@@ -41,6 +43,7 @@ fn ask(case: &Case) -> Result<Answer, Refusal> {
         Question::MapGame { marker } => map_game(bytes, *marker).map(Answer::Hexen),
         Question::JudgeMap { name, words } => ask_map(bytes, name, words),
         Question::Descend { subsectors, x, y } => descend(bytes, *subsectors, *x, *y).map(Answer::Found),
+        Question::DrawOrder { subsectors, x, y, words } => ask_order(bytes, *subsectors, (*x, *y), words),
         Question::JudgePicture => judge_picture(bytes).map(|_| Answer::Good),
         Question::PaintPicture { colour, cover } => ask_paint(bytes, colour, cover),
         Question::ReadRecord { kind, index } => {
@@ -70,6 +73,23 @@ fn ask_map(wad: &[u8], name: &[u8], lent: &[u16]) -> Result<Answer, Refusal> {
     assert!(words[..zeroed].iter().all(|&word| word == 0));
     assert_eq!(words[zeroed..], lent[zeroed..]);
     verdict.map(Answer::Map)
+}
+
+fn ask_order(nodes: &[u8], subsectors: usize, (x, y): (i16, i16), lent: &[u16]) -> Result<Answer, Refusal> {
+    let mut words = lent.to_vec();
+    let drawn = draw_order(nodes, subsectors, x, y, &mut words);
+    let written = match drawn {
+        Ok(count) => {
+            assert!(words[..count].iter().all(|&word| usize::from(word) < subsectors));
+            assert_eq!(descend(nodes, subsectors, x, y).map(|it| it.subsector), Ok(usize::from(words[0])));
+            count
+        }
+        Err(Refusal { number: 42 | 44 | 46, .. }) => nodes.len() / Node::SIZE + 1,
+        Err(_) => 0,
+    };
+    assert!(drawn.is_ok() || words[..written].iter().all(|&word| word == 0));
+    assert_eq!(words[written..], lent[written..]);
+    drawn.map(Answer::Count)
 }
 
 fn ask_paint(lump: &[u8], lent_colour: &[u8], lent_cover: &[u8]) -> Result<Answer, Refusal> {
