@@ -55,6 +55,10 @@ AT(descent_answer, status, 0);
 AT(descent_answer, subsector, 24);
 AT(descent_answer, count, 32);
 
+SIZE(order_answer, 32);
+AT(order_answer, status, 0);
+AT(order_answer, count, 24);
+
 SIZE(picture, 24);
 AT(picture, width, 0);
 AT(picture, height, 8);
@@ -297,6 +301,38 @@ static void points(void)
     EXPECT(status_is(r.status, 40, 0, 0) && r.subsector == 0 && r.count == 0);
     r = meshpigeon_descend(nodes, sizeof nodes, 3, -5, 30);
     EXPECT(status_is(r.status, 42, 0, 1) && r.subsector == 0 && r.count == 0);
+}
+
+static int words_are(const uint16_t *words, uint16_t first, uint16_t second, uint16_t third, uint16_t fourth)
+{
+    return words[0] == first && words[1] == second && words[2] == third && words[3] == fourth;
+}
+
+static void orders(void)
+{
+    uint16_t words[4] = {9, 9, 9, 9};
+    meshpigeon_order_answer o = meshpigeon_draw_order(nodes, sizeof nodes, 4, 15, 30, words, 2);
+    EXPECT(status_is(o.status, 45, 0, 0) && o.count == 0 && words_are(words, 9, 9, 9, 9));
+    o = meshpigeon_draw_order(nodes, sizeof nodes, 0, 15, 30, words, 2);
+    EXPECT(status_is(o.status, 41, 0, 0) && o.count == 0 && words_are(words, 9, 9, 9, 9));
+    o = meshpigeon_draw_order(nodes, sizeof nodes, 4, 15, 30, words, 4);
+    EXPECT(accepted(o.status) && o.count == 3 && words_are(words, 0, 1, 3, 9));
+    o = meshpigeon_draw_order(nodes, sizeof nodes, 4, -5, 30, words, 4);
+    EXPECT(accepted(o.status) && o.count == 3 && words_are(words, 3, 0, 1, 9));
+    o = meshpigeon_draw_order(nodes, sizeof nodes, 4, 30, 15, words, 3);
+    EXPECT(accepted(o.status) && o.count == 3 && words_are(words, 1, 0, 3, 9));
+    o = meshpigeon_draw_order(nodes, sizeof nodes, 3, 30, 15, words, 4);
+    EXPECT(status_is(o.status, 42, 0, 1) && o.count == 0 && words_are(words, 0, 0, 0, 9));
+}
+
+/* Both children of the root are what is given, and both of node 0 a subsector that is there. */
+static void orders_are_refused(uint16_t child, uint32_t number)
+{
+    uint16_t words[4] = {9, 9, 9, 9};
+    const uint8_t graph[] = {W(0), W(0), W(0), W(64), NO_BOX, NO_BOX, SUBSECTOR(0), SUBSECTOR(0),
+                             W(0), W(0), W(0), W(64), NO_BOX, NO_BOX, W(child), W(child)};
+    meshpigeon_order_answer o = meshpigeon_draw_order(graph, sizeof graph, 1, 5, 5, words, 4);
+    EXPECT(status_is(o.status, number, 0, 0) && o.count == 0 && words_are(words, 0, 0, 0, 9));
 }
 
 /* ---- pictures ---- */
@@ -652,6 +688,9 @@ int main(void)
     maps();
     graphs();
     points();
+    orders();
+    orders_are_refused(1, 44);
+    orders_are_refused(0, 46);
     pictures();
     paintings();
     records();

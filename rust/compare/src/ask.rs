@@ -11,7 +11,7 @@ pub struct Outcome {
     pub compared: usize,
     /// The bytes of the entry that was asked for.
     pub part: Vec<u8>,
-    /// The work words afterwards.
+    /// The work words, or those of a draw order, afterwards.
     pub words: Vec<u16>,
     /// The colour buffer afterwards, or the lump that was written.
     pub first: Vec<u8>,
@@ -26,7 +26,7 @@ impl Outcome {
 }
 
 macro_rules! asker {
-    ($(#[$about:meta])* $name:ident, $side:ident, $judge_map:ident, $part:expr) => {
+    ($(#[$about:meta])* $name:ident, $side:ident, $judge_map:ident, $draw_order:ident, $part:expr) => {
         $(#[$about])*
         pub fn $name(case: &Case) -> Outcome {
             let refused = |it: $side::Refusal| (it.number, it.place, it.record);
@@ -60,6 +60,13 @@ macro_rules! asker {
                 Question::Descend { subsectors, x, y } => {
                     let found = $side::descend(bytes, *subsectors, *x, *y);
                     Outcome::new(found.map(|it| vec![it.subsector as i64, it.count as i64]).map_err(refused))
+                }
+                Question::DrawOrder { subsectors, x, y, words } => {
+                    let mut words = words.clone();
+                    let drawn = $side::$draw_order(bytes, *subsectors, *x, *y, &mut words);
+                    let mut outcome = Outcome::new(drawn.map(|count| vec![count as i64]).map_err(refused));
+                    outcome.words = words;
+                    outcome
                 }
                 Question::JudgePicture => Outcome::new($side::judge_picture(bytes).map(|it| picture!(it)).map_err(refused)),
                 Question::PaintPicture { colour, cover } => {
@@ -161,10 +168,10 @@ macro_rules! write {
 
 asker! {
     /// Asks the proved library.
-    ask_library, meshpigeon, judge_map_with, |bytes, number| meshpigeon::lump(bytes, number).unwrap_or_default().to_vec()
+    ask_library, meshpigeon, judge_map_with, draw_order_with, |bytes, number| meshpigeon::lump(bytes, number).unwrap_or_default().to_vec()
 }
 
 asker! {
     /// Asks the independent reader.
-    ask_reader, reader, judge_map, |bytes, number| reader::lump(bytes, number).to_vec()
+    ask_reader, reader, judge_map, draw_order, |bytes, number| reader::lump(bytes, number).to_vec()
 }

@@ -23,6 +23,7 @@ pub fn fault(case: &Case) -> Option<String> {
         Expected::Accepted => library.numbers.is_ok(),
         Expected::Map(it) => library.numbers == Ok(vec![it.depth as i64, it.marker as i64]),
         Expected::Found(it) => library.numbers == Ok(vec![it.subsector as i64, it.count as i64]),
+        Expected::Count(it) => library.numbers == Ok(vec![it as i64]),
         Expected::Hexen(it) => library.numbers == Ok(vec![i64::from(it)]),
         Expected::Search(it) => {
             let marker = it.marker.map(|it| vec![it as i64]).map_err(|it| (it.number, it.place, it.record));

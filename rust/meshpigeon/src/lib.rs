@@ -1,4 +1,4 @@
-//! Safe bindings to Meshpigeon, a fully proved judge of Doom map files.
+//! Safe bindings to Meshpigeon, a fully proved judge of Doom and Hexen map files.
 //!
 //! Every function takes any bytes at all and answers, or gives the one [`Refusal`] that the table of refusals names.
 //!
@@ -22,6 +22,9 @@ pub use refusal::Refusal;
 
 /// As many work words as any map needs: four for each of 32,767 nodes.
 pub const MOST_WORDS: usize = 4 * 32_767;
+
+/// As many words as any draw order needs: one more than 32,767 nodes.
+pub const MOST_DRAWN: usize = 32_767 + 1;
 
 /// A file's directory.
 #[derive(Clone, Copy, Debug, PartialEq, Eq)]
@@ -140,6 +143,38 @@ pub fn judge_map_with(wad: &[u8], name: &[u8], words: &mut [u16]) -> Result<Acce
 /// The subsector of a point, over any NODES bytes and any count of subsectors: 40 to 43.
 pub fn descend(nodes: &[u8], subsectors: usize, x: i16, y: i16) -> Result<Found, Refusal> {
     raw::descend(nodes, subsectors, x, y).map(|answer| Found { subsector: answer.subsector, count: answer.count })
+}
+
+/// The subsectors that a point sees, front first, over any NODES bytes and any count of subsectors: 40 to 42, 44, 46. At each node the
+/// subsectors of the child on the point's side come before those of the other.
+///
+/// ```
+/// use meshpigeon::Node;
+///
+/// // Two lines northward, at 20 and, the root, at 10: subsectors 0, 1 and 2 from west to east.
+/// let mut nodes = [0; 2 * Node::SIZE];
+/// Node { x: 20, dy: 64, right: 0x8002, left: 0x8001, ..Node::default() }.write(&mut nodes, 0).unwrap();
+/// Node { x: 10, dy: 64, right: 0, left: 0x8000, ..Node::default() }.write(&mut nodes, 1).unwrap();
+/// assert_eq!(meshpigeon::draw_order(&nodes, 3, 15, 0), Ok(vec![1, 2, 0]));
+/// assert_eq!(meshpigeon::draw_order(&nodes, 3, 5, 0), Ok(vec![0, 1, 2]));
+///
+/// // Lent words hold the list, and what they held behind it.
+/// let mut words = [7; 4];
+/// assert_eq!(meshpigeon::draw_order_with(&nodes, 3, 30, 0, &mut words), Ok(3));
+/// assert_eq!(words, [2, 1, 0, 7]);
+/// assert_eq!(meshpigeon::draw_order_with(&nodes, 3, 30, 0, &mut words[..2]).unwrap_err().number, 45);
+/// ```
+pub fn draw_order(nodes: &[u8], subsectors: usize, x: i16, y: i16) -> Result<Vec<u16>, Refusal> {
+    let mut words = vec![0; MOST_DRAWN.min(nodes.len() / Node::SIZE + 1)];
+    let count = draw_order_with(nodes, subsectors, x, y, &mut words)?;
+    words.truncate(count);
+    Ok(words)
+}
+
+/// The same over lent words, one more than the nodes, and answers how many were written: 40 to 42, 44 to 46. 40, 41 and 45 leave all
+/// words as found; 42, 44 and 46 leave one more than the nodes zero. All words behind the list, or behind those, stay as found.
+pub fn draw_order_with(nodes: &[u8], subsectors: usize, x: i16, y: i16, words: &mut [u16]) -> Result<usize, Refusal> {
+    raw::draw_order(nodes, subsectors, x, y, words).map(|answer| answer.count)
 }
 
 /// Judges a picture: 50 to 54.

@@ -57,6 +57,8 @@ answers! {
     MapAnswer { depth: usize, marker: usize }
     /// Where a descent ends.
     DescentAnswer { subsector: usize, count: usize }
+    /// How long a draw order is.
+    OrderAnswer { count: usize }
     /// A picture's header.
     PictureAnswer { picture: Picture }
 }
@@ -78,6 +80,15 @@ extern "C" {
         words_len: usize,
     ) -> MapAnswer;
     fn meshpigeon_descend(nodes: Bytes, nodes_len: usize, subsectors: usize, x: i16, y: i16) -> DescentAnswer;
+    fn meshpigeon_draw_order(
+        nodes: Bytes,
+        nodes_len: usize,
+        subsectors: usize,
+        x: i16,
+        y: i16,
+        words: *mut u16,
+        words_len: usize,
+    ) -> OrderAnswer;
     fn meshpigeon_judge_picture(lump: Bytes, lump_len: usize) -> PictureAnswer;
     fn meshpigeon_paint_picture(
         lump: Bytes,
@@ -114,6 +125,10 @@ pub(crate) fn judge_map(wad: &[u8], name: &[u8], words: &mut [u16]) -> Result<Ma
 
 pub(crate) fn descend(nodes: &[u8], subsectors: usize, x: i16, y: i16) -> Result<DescentAnswer, Refusal> {
     unsafe { meshpigeon_descend(nodes.as_ptr(), nodes.len(), subsectors, x, y) }.checked()
+}
+
+pub(crate) fn draw_order(nodes: &[u8], subsectors: usize, x: i16, y: i16, words: &mut [u16]) -> Result<OrderAnswer, Refusal> {
+    unsafe { meshpigeon_draw_order(nodes.as_ptr(), nodes.len(), subsectors, x, y, words.as_mut_ptr(), words.len()) }.checked()
 }
 
 pub(crate) fn judge_picture(lump: &[u8]) -> Result<PictureAnswer, Refusal> {

@@ -58,7 +58,7 @@ impl Refusal {
     /// Whether the caller's loan or question is at fault, and not the file: too few words, a short buffer, a number or a name that
     /// cannot be asked for, a record that cannot be written.
     pub fn is_callers(&self) -> bool {
-        matches!(self.number, 7 | 10 | 30 | 41 | 55 | 60 | 61)
+        matches!(self.number, 7 | 10 | 30 | 41 | 45 | 55 | 60 | 61)
     }
 
     fn say_of_file(&self, out: &mut fmt::Formatter<'_>) -> fmt::Result {
@@ -154,7 +154,13 @@ impl Refusal {
         match self.number {
             40 => write!(out, "these are no nodes: a multiple of 28 bytes, and at most 32,767 nodes"),
             41 => write!(out, "the count of subsectors is not 1 to 32,767, or not 1 where there are no nodes"),
-            42 => write!(out, "the descent came to node {}, whose child on that side is not there", self.record),
+            42 => write!(out, "the way down came to node {}, one of whose children is not there", self.record),
+            44 => write!(out, "a way down passes more than 256 nodes: a draw order follows ways of at most 256"),
+            45 => write!(out, "too few words were lent for the draw order: it needs one more than there are nodes"),
+            46 => write!(
+                out,
+                "the draw order grows too long: it lists at most one subsector more than there are nodes, each reached by one way only"
+            ),
             _ => write!(
                 out,
                 "the descent passed as many nodes as there are and is still on a node: the nodes turn back on themselves"
@@ -201,7 +207,7 @@ impl fmt::Display for Refusal {
                 "two ways down lead to the same node or subsector: the box would draw it more than once, and each must be reached by \
                  one way only"
             ),
-            40..=43 => self.say_of_descent(out),
+            40..=46 => self.say_of_descent(out),
             50..=55 => self.say_of_picture(out),
             60 => write!(out, "that record does not lie wholly inside the lump"),
             61 => write!(

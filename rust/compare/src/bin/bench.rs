@@ -89,6 +89,17 @@ fn reader_descents(nodes: &[u8]) -> usize {
     points().map(|(x, y)| reader::descend(nodes, 32_767, x, y).map_or(0, |it| it.count)).sum()
 }
 
+/// How many subsectors are drawn, or the refusal's number.
+fn library_order(nodes: &[u8]) -> usize {
+    let mut words = vec![0; meshpigeon::MOST_DRAWN];
+    meshpigeon::draw_order_with(nodes, 32_767, 1, 0, &mut words).unwrap_or_else(|refusal| refusal.number as usize)
+}
+
+fn reader_order(nodes: &[u8]) -> usize {
+    let mut words = vec![0; meshpigeon::MOST_DRAWN];
+    reader::draw_order(nodes, 32_767, 1, 0, &mut words).unwrap_or_else(|refusal| refusal.number as usize)
+}
+
 fn inputs() -> Vec<Input> {
     vec![
         Input { name: "map of ordinary size", sized: |n| given::map_of(n), library: library_map, reader: reader_map },
@@ -171,6 +182,30 @@ fn inputs() -> Vec<Input> {
             sized: |n| given::mixed_nodes([0, 12, 13, 13, 14][n]),
             library: library_descents,
             reader: reader_descents,
+        },
+        Input {
+            name: "draw order of 16,383 nodes",
+            sized: |n| given::halving_nodes([0, 12, 13, 13, 14][n]),
+            library: library_order,
+            reader: reader_order,
+        },
+        Input {
+            name: "the same, lines of mixed kinds",
+            sized: |n| given::mixed_nodes([0, 12, 13, 13, 14][n]),
+            library: library_order,
+            reader: reader_order,
+        },
+        Input {
+            name: "draw order of deep doublings (46)",
+            sized: |n| given::deep_doublings(32_767 * n / 4),
+            library: library_order,
+            reader: reader_order,
+        },
+        Input {
+            name: "draw order of 32,767 in a chain (44)",
+            sized: |n| given::deep_chain(32_767 * n / 4),
+            library: library_order,
+            reader: reader_order,
         },
         Input {
             name: "hostile BLOCKMAP of 16 MiB",

@@ -26,6 +26,7 @@ layout! {
     GameAnswer 32 { status 0, hexen 24 }
     MapAnswer 40 { status 0, depth 24, marker 32 }
     DescentAnswer 40 { status 0, subsector 24, count 32 }
+    OrderAnswer 32 { status 0, count 24 }
     Picture 24 { width 0, height 8, left 16, top 18 }
     PictureAnswer 48 { status 0, picture 24 }
 }
