@@ -44,6 +44,17 @@ pub enum Command {
         /// The point, northward.
         y: i16,
     },
+    /// List the subsectors that a point sees.
+    Order {
+        /// The file.
+        file: OsString,
+        /// The map's name as given.
+        map: OsString,
+        /// The point, eastward.
+        x: i16,
+        /// The point, northward.
+        y: i16,
+    },
     /// Write a picture lump as PNG.
     Picture {
         /// The file.
@@ -81,6 +92,9 @@ struct Parts {
     version: bool,
 }
 
+/// What may be asked for.
+const COMMANDS: &str = "judge, list, descend, order or picture";
+
 /// Takes the arguments after the program's name apart.
 pub fn parse(arguments: Vec<OsString>) -> Result<Request, Misuse> {
     let mut parts = split(arguments)?;
@@ -93,15 +107,16 @@ pub fn parse(arguments: Vec<OsString>) -> Result<Request, Misuse> {
         return plain(Command::Version);
     }
     if parts.words.is_empty() {
-        return misuse("no command is given: judge, list, descend or picture");
+        return misuse(format!("no command is given: {COMMANDS}"));
     }
     let name = parts.words.remove(0);
     let command = match name.to_str() {
         Some("judge") => judge(&parts),
         Some("list") => list(&parts),
         Some("descend") => descend(&parts),
+        Some("order") => order(&parts),
         Some("picture") => picture(&parts),
-        _ => misuse(format!("'{}' is no command: judge, list, descend or picture", shown(&name))),
+        _ => misuse(format!("'{}' is no command: {COMMANDS}", shown(&name))),
     }?;
     fits(&name, &parts)?;
     Ok(Request { command, json, quiet })
@@ -182,6 +197,12 @@ fn descend(parts: &Parts) -> Result<Command, Misuse> {
     let [file, map, x, y] = words(parts, "descend needs FILE MAP X Y")?;
     let (x, y) = (coordinate(&x)?, coordinate(&y)?);
     Ok(Command::Descend { file, map, x, y })
+}
+
+fn order(parts: &Parts) -> Result<Command, Misuse> {
+    let [file, map, x, y] = words(parts, "order needs FILE MAP X Y")?;
+    let (x, y) = (coordinate(&x)?, coordinate(&y)?);
+    Ok(Command::Order { file, map, x, y })
 }
 
 fn picture(parts: &Parts) -> Result<Command, Misuse> {

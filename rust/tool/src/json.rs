@@ -29,6 +29,12 @@ impl Object {
         self.member(key, value.into().map(|count| count.to_string()))
     }
 
+    /// A list of numbers.
+    pub fn numbers(self, key: &str, values: &[u16]) -> Self {
+        let values: Vec<String> = values.iter().map(u16::to_string).collect();
+        self.member(key, Some(format!("[{}]", values.join(","))))
+    }
+
     /// An object, or null.
     pub fn object(self, key: &str, value: Option<Object>) -> Self {
         self.member(key, value.map(Object::close))
@@ -78,6 +84,12 @@ mod tests {
         let object = Object::new().number("z", -1).count("a", 2).count("m", None);
         assert_eq!(object.close(), r#"{"z":-1,"a":2,"m":null}"#);
         assert_eq!(Object::new().close(), "{}");
+    }
+
+    #[test]
+    fn a_member_may_be_a_list() {
+        let object = Object::new().numbers("some", &[3, 0, 65_535]).numbers("none", &[]);
+        assert_eq!(object.close(), r#"{"some":[3,0,65535],"none":[]}"#);
     }
 
     #[test]

@@ -14,6 +14,7 @@ mod json;
 mod judge;
 mod list;
 mod name;
+mod order;
 mod picture;
 mod png;
 mod report;
@@ -47,6 +48,7 @@ fn run(request: &Request, report: &mut Report) {
         Command::Judge { files, maps } => judge::run(files, maps, report),
         Command::List { file } => list::run(file, report),
         Command::Descend { file, map, x, y } => descend::run(file, map, (*x, *y), report),
+        Command::Order { file, map, x, y } => order::run(file, map, (*x, *y), report),
         Command::Picture { file, lump, output } => picture::run(file, lump, output, report),
     }
 }

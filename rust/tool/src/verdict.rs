@@ -56,12 +56,15 @@ pub enum Outcome {
     NoMap,
 }
 
+/// The first refusal that leaves a map's ten lumps where they should be.
+pub const LUMPS_ARE_THERE: u32 = 20;
+
 impl Outcome {
-    /// Whether the map's ten lumps are there: the first refusal that needs them is 20.
+    /// Whether the map's ten lumps are there.
     pub fn has_lumps(&self) -> bool {
         match self {
             Self::Accepted(..) => true,
-            Self::Refused(refusal, _) => refusal.number >= 20,
+            Self::Refused(refusal, _) => refusal.number >= LUMPS_ARE_THERE,
             Self::NoMap => false,
         }
     }
@@ -73,6 +76,12 @@ pub fn counted(count: usize, thing: &str) -> String {
 }
 
 impl Verdict {
+    /// The refusal of a walk down a map's nodes.
+    pub fn of_walk(file: &str, map: String, refusal: Refusal) -> Self {
+        let outcome = Outcome::Refused(refusal, None);
+        Self { file: file.to_string(), subject: Subject::Map(map), game: None, outcome }
+    }
+
     /// Whether it is a refusal.
     pub fn is_refusal(&self) -> bool {
         matches!(self.outcome, Outcome::Refused(..))

@@ -3,8 +3,8 @@
 use crate::finding::Finding;
 use crate::input::{self, Fault};
 use crate::name;
-use crate::verdict::Game;
-use meshpigeon::Directory;
+use crate::verdict::{Game, LUMPS_ARE_THERE};
+use meshpigeon::{Directory, Node, Refusal, Subsector};
 use std::ffi::OsStr;
 
 /// The smallest good file: a header, and no entry.
@@ -80,6 +80,18 @@ impl Wad {
     /// An entry's bytes; none for a number past the last.
     pub fn lump(&self, number: usize) -> &[u8] {
         meshpigeon::lump(&self.bytes, number).unwrap_or_default()
+    }
+
+    /// The NODES of the map of a name, and its count of subsectors. The map's ten lumps must be there (1 to 12), and nothing else of
+    /// it need be good.
+    pub fn nodes_of(&self, map: &[u8]) -> Result<(&[u8], usize), Refusal> {
+        match meshpigeon::judge_map(&self.bytes, map) {
+            Err(refusal) if refusal.number < LUMPS_ARE_THERE => return Err(refusal),
+            _ => {}
+        }
+        let marker = meshpigeon::find_map(&self.bytes, map).marker?;
+        let subsectors = self.lump(marker + Subsector::PLACE).len() / Subsector::SIZE;
+        Ok((self.lump(marker + Node::PLACE), subsectors))
     }
 
     /// The game of the map of a name, if it is there.

@@ -85,9 +85,12 @@ fn the_header_has_its_count() {
 #[test]
 fn every_command_says_what_it_found_in_a_file() {
     let folder = Folder::with("a.wad", b"PWAD");
-    for arguments in
-        [vec!["list", "a.wad"], vec!["descend", "a.wad", "MAP01", "0", "0"], vec!["picture", "a.wad", "P", "-o", "p"]]
-    {
+    for arguments in [
+        vec!["list", "a.wad"],
+        vec!["descend", "a.wad", "MAP01", "0", "0"],
+        vec!["order", "a.wad", "MAP01", "0", "0"],
+        vec!["picture", "a.wad", "P", "-o", "p"],
+    ] {
         let said = folder.run(&arguments);
         assert!(said.out.ends_with("; this one has 4, which is too short\n"), "{said:?}");
         assert_eq!(found(&folder.run(&[&arguments[..], &["--json"]].concat())), named(&[("length", 4)]));

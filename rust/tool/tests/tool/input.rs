@@ -19,7 +19,12 @@ fn fed(folder: &Folder, arguments: &[&str], bytes: &[u8]) -> Said {
 
 #[test]
 fn a_missing_file_cannot_be_read() {
-    for arguments in [&["judge", "no.wad"][..], &["list", "no.wad"], &["descend", "no.wad", "MAP01", "0", "0"]] {
+    for arguments in [
+        &["judge", "no.wad"][..],
+        &["list", "no.wad"],
+        &["descend", "no.wad", "MAP01", "0", "0"],
+        &["order", "no.wad", "MAP01", "0", "0"],
+    ] {
         let said = Folder::new().run(arguments);
         assert!(said.err.starts_with("meshpigeon: no.wad: No such file"), "{said:?}");
         assert_eq!((said.status, said.out.as_str()), (2, ""));

@@ -1,4 +1,4 @@
-//! A small reader of JSON objects: numbers, strings, null, and objects in them.
+//! A small reader of JSON objects: numbers, strings, null, and objects and lists in them.
 
 /// A member's value.
 #[derive(Debug, PartialEq)]
@@ -7,6 +7,7 @@ pub enum Value {
     Number(i64),
     Text(String),
     Object(Members),
+    List(Vec<Value>),
 }
 
 /// Keys and values in order.
@@ -46,13 +47,29 @@ fn value(rest: &mut Rest) -> Value {
     if rest.next_if_eq(&'{').is_some() {
         return Value::Object(members(rest));
     }
+    if rest.next_if_eq(&'[').is_some() {
+        return Value::List(values(rest));
+    }
     let mut word = String::new();
-    while let Some(it) = rest.next_if(|it| !matches!(it, ',' | '}')) {
+    while let Some(it) = rest.next_if(|it| !matches!(it, ',' | '}' | ']')) {
         word.push(it);
     }
     match word.as_str() {
         "null" => Value::Null,
         number => Value::Number(number.parse().expect("a number")),
+    }
+}
+
+/// One value or more, up to the closing bracket.
+fn values(rest: &mut Rest) -> Vec<Value> {
+    let mut values = Vec::new();
+    loop {
+        values.push(value(rest));
+        match rest.next() {
+            Some(',') => {}
+            Some(']') => return values,
+            other => panic!("{other:?} between values"),
+        }
     }
 }
 

@@ -9,6 +9,7 @@ mod json;
 mod json_reader;
 mod judge;
 mod list;
+mod order;
 mod picture;
 mod png_reader;
 mod samples;

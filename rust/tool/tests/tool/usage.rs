@@ -29,6 +29,8 @@ fn each_command_has_its_words() {
     misused(&["list", "a.wad", "b.wad"], "list needs FILE");
     misused(&["descend", "a.wad", "MAP01", "1"], "descend needs FILE MAP X Y");
     misused(&["descend", "a.wad", "MAP01", "1", "2", "3"], "descend needs FILE MAP X Y");
+    misused(&["order", "a.wad", "MAP01", "1"], "order needs FILE MAP X Y");
+    misused(&["order", "a.wad", "MAP01", "1", "2", "3"], "order needs FILE MAP X Y");
     misused(&["picture", "a.wad", "P"], "picture needs FILE LUMP -o OUT.png");
     misused(&["picture", "a.wad", "-o", "b"], "picture needs FILE LUMP -o OUT.png");
 }
@@ -39,6 +41,8 @@ fn each_command_has_its_options() {
     misused(&["judge", "a.wad", "-o", "b"], "judge does not take -o");
     misused(&["list", "a.wad", "--quiet"], "list does not take --quiet");
     misused(&["descend", "a.wad", "MAP01", "0", "0", "-q"], "descend does not take --quiet");
+    misused(&["order", "a.wad", "MAP01", "0", "0", "-q"], "order does not take --quiet");
+    misused(&["order", "a.wad", "MAP01", "0", "0", "-o", "b"], "order does not take -o");
 }
 
 #[test]
@@ -46,6 +50,7 @@ fn coordinates_are_signed_16_bit_numbers() {
     for strange in ["32768", "-32769", "x", "1.5", ""] {
         misused(&["descend", "a.wad", "MAP01", strange, "0"], &format!("'{strange}' is no coordinate"));
         misused(&["descend", "a.wad", "MAP01", "0", strange], &format!("'{strange}' is no coordinate"));
+        misused(&["order", "a.wad", "MAP01", "0", strange], &format!("'{strange}' is no coordinate"));
     }
 }
 
