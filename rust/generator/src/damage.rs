@@ -75,7 +75,7 @@ const FILE_DAMAGES: &[Damage] = &[
 pub(crate) const BAD_MAP_NAMES: &[&[u8]] = &[
     b"", b"E1M1", b"MAP01", b"MAP01\0\0", b"MAP01\0\0\0\0", b"E0M1\0\0\0\0", b"E1M0\0\0\0\0", b"E1M10\0\0\0", b"e1m1\0\0\0\0",
     b"E1N1\0\0\0\0", b"F1M1\0\0\0\0", b"MAP00\0\0\0", b"MAP1\0\0\0\0", b"MAP100\0\0", b"MAP0A\0\0\0", b"MAP:1\0\0\0",
-    b"MAP1:\0\0\0", b"MAP/1\0\0\0", b"MAP01A\0\0", b"MAP0\01\0\0", b"E1M\01\0\0\0", b"\0MAP01\0\0", &[0; 8], b"THINGS\0\0",
+    b"MAP1:\0\0\0", b"MAP/1\0\0\0", b"MAP01A\0\0", b"MAP0\x001\0\0", b"E1M\x001\0\0\0", b"\0MAP01\0\0", &[0; 8], b"THINGS\0\0",
 ];
 
 const RUN_DAMAGES: &[Damage] = &[

@@ -136,7 +136,7 @@ fn asked_case(name: Vec<u8>) -> Case {
     let good = name.len() == 8 && episodes.chain(levels).any(|good| good.as_bytes() == cut(&name));
     let (number, compared) = if good { (11, 2) } else { (10, 0) };
     let search = Search { marker: Err(Refusal::plain(number)), compared };
-    let wad = named_entries(&[*b"A\0\0\0\0\0\0\0", *b"MAP0\01AA"]);
+    let wad = named_entries(&[*b"A\0\0\0\0\0\0\0", *b"MAP0\x001AA"]);
     Case::new("map name", wad, Question::FindMap { name }, Expected::Search(search))
 }
 
@@ -150,12 +150,12 @@ const ALIKE: &[(&[u8; 8], &[u8; 8], bool)] = &[
     (b"MAP01\0\x01\0", b"MAP01\0\0\0", true),
     (b"MAP01\0\0A", b"MAP01A\0\0", false),
     (b"MAP01\0AA", b"MAP01AAA", false),
-    (b"MAP01\0\0\0", b"MAP0\01\0\0", false),
+    (b"MAP01\0\0\0", b"MAP0\x001\0\0", false),
     (b"MAP01\x0012", b"MAP0\x00112", false),
-    (b"E1M1\0\0\0\0", b"E1M1\01\0\0", true),
+    (b"E1M1\0\0\0\0", b"E1M1\x001\0\0", true),
     (b"E1M1\0\x001\0", b"E1M1\0\0\0\x02", true),
-    (b"E1M1\01\0\0", b"E1M11\0\0\0", false),
-    (b"E1M1\0AAA", b"E1M\01AAA", false),
+    (b"E1M1\x001\0\0", b"E1M11\0\0\0", false),
+    (b"E1M1\0AAA", b"E1M\x001AAA", false),
     (b"E1M1\0\0\0\0", b"E\0M1\0\0\0\0", false),
 ];
 

@@ -86,14 +86,14 @@ fn b_demo1_is_a_name() {
 fn w_204_a_name_is_what_precedes_its_first_zero() {
     assert!(is_name(b"DEMO1\0a\0") && is_name(b"A\0\0\0\0\0\0\x01") && is_name(b"ABCDEFGH"));
     assert!(!is_name(b"\0DEMO1\0\0") && !is_name(b"a\0EMO1\0\0") && !is_name(b"DEMO1\0"));
-    assert!(is_map_name(b"MAP01\0zz") && is_map_name(b"E1M1\01\0\xFF"));
-    assert!(!is_map_name(b"MAP0\01\0\0") && !is_map_name(b"\0MAP01\0\0") && !is_map_name(b"MAP01\0") && !is_map_name(&[0; 8]));
+    assert!(is_map_name(b"MAP01\0zz") && is_map_name(b"E1M1\x001\0\xFF"));
+    assert!(!is_map_name(b"MAP0\x001\0\0") && !is_map_name(b"\0MAP01\0\0") && !is_map_name(b"MAP01\0") && !is_map_name(&[0; 8]));
 }
 
 #[test]
 fn w_204_equal_names_may_differ_behind_the_zero() {
     let search = |names: &[&[u8; 8]], asked| find_map(&named(names), asked);
-    let names = [b"MAP01\0AP", b"MAP01A\0\0", b"MAP0\01\0\0"];
+    let names = [b"MAP01\0AP", b"MAP01A\0\0", b"MAP0\x001\0\0"];
     let found = Search { marker: Ok(0), compared: 3 };
     assert_eq!([search(&names, NAME), search(&names, b"MAP01\0\0\x01")], [found; 2]);
     assert_eq!(search(&[NAME, b"MAP01\0zz"], NAME), Search { marker: Ok(1), compared: 1 });

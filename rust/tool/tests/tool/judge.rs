@@ -81,7 +81,7 @@ fn the_last_map_of_a_name_counts() {
 
 #[test]
 fn a_map_is_called_by_what_precedes_its_zero() {
-    let folder = Folder::with("a.wad", &maps(&[b"MAP01\0AP", b"E1M1\01\0\0", b"MAP01\0zz"]));
+    let folder = Folder::with("a.wad", &maps(&[b"MAP01\0AP", b"E1M1\x001\0\0", b"MAP01\0zz"]));
     let lines = ["MAP01", "E1M1"].map(|map| format!("a.wad:{map}: {GOOD}"));
     folder.run(&["judge", "a.wad"]).is(0, &[&lines[0], &lines[1], "1 file: 2 maps accepted"]);
     folder.run(&["judge", "a.wad", "--map", "e1m1"]).is(0, &[&lines[1]]);
