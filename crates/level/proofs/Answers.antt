@@ -23,9 +23,9 @@ use Rattle.wad.proofs.Search.{findMarker-none, findMarker-found, findMarker-on}
 use Rattle.bsp.specs.Heights.{graphVerdict}
 use Rattle.level.specs.declared.Verdict.{Verdict}
 use Rattle.level.specs.declared.Verdict.the-variants.{Refused as NotAccepted}
-use Rattle.level.specs.Verdict.{judged, wordsBy, checkAt, nodesAt, verdictBy, wordsAfterBy, Answered}
+use Rattle.level.specs.Verdict.{judged, wordsBy, checkAt, nodesAt, verdictBy, wordsAfterBy, Answered, AnsweredAt}
 use Rattle.level.specs.Games.{gameAt, gameBy, gameAnswer}
-use Rattle.level.specs.Inner.{AnsweredAt, AnsweredBy}
+use Rattle.level.specs.Inner.{AnsweredBy}
 
 -- ---- a marker that was found
 

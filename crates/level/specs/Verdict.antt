@@ -98,3 +98,8 @@ wordsAfter wad name words = wordsAfterBy wad words (markerAnswer wad name)
 pub record Answered (wad name words : List ℕ) (answer : Verdict) (after : List ℕ) : Type 0 where
   pub verdicts : answer ≡ verdict wad name words
   pub leaves : after ≡ wordsAfter wad name words
+
+-- and from a marker on that was found
+pub record AnsweredAt (wad : List ℕ) (marker : ℕ) (words : List ℕ) (answer : Verdict) (after : List ℕ) : Type 0 where
+  pub verdicts : answer ≡ verdictBy wad words (Entry marker)
+  pub leaves : after ≡ wordsAfterBy wad words (Entry marker)

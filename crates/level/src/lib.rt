@@ -12,9 +12,9 @@ ghost use Rattle.wad.specs.Entries.{fileCheck};
 ghost use Rattle.bsp.specs.Nodes.{nodesOf};
 ghost use Rattle.graph.specs.Judging.{Judgeable};
 ghost use Rattle.level.specs.Lumps.{mapLumps};
-ghost use Rattle.level.specs.Inner.{AnsweredAt, AnsweredBy};
+ghost use Rattle.level.specs.Inner.{AnsweredBy};
 ghost use Rattle.level.specs.Games.{gameAnswer};
-ghost use Rattle.level.specs.Verdict.{mapCheck, Answered};
+ghost use Rattle.level.specs.Verdict.{mapCheck, Answered, AnsweredAt};
 use bsp::Graph;
 use built::Node;
 use refusal::Check;
@@ -46,8 +46,8 @@ pub fn judge_map(wad: &[u8], name: &[u8], words: &mut [u16]) -> Verdict
     }
 }
 
-// The map at a marker that was found.
-fn judge_at(wad: &[u8], marker: usize, words: &mut [u16]) -> Verdict
+// The map at a marker that was found. Whoever searches in another way, as in a pair of files, goes on here.
+pub fn judge_at(wad: &[u8], marker: usize, words: &mut [u16]) -> Verdict
     requires { ⌜ (fileCheck (now wad) ≡ Pass) × (marker < entryCount (headOf (now wad))) ⌝ }
     ensures { λ r. ⌜ AnsweredAt (now (wad .entry)) marker (now (words .entry)) r (now (words .exit)) ⌝ }
 {
