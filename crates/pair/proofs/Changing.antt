@@ -1,0 +1,145 @@
+-- The theorems of the pair: which file's change is not seen, and that a lump is handed back whole. Assumes nothing.
+use Prim.Native.Nat.{ℕ, _+_, _≤_}
+use mathlib.Core.List.{List, []}
+use mathlib.Core.Path.{_≡_, refl, sym, ap, _∙_}
+use native.Mathlib.Omega.{arith}
+use lib.ListN.{length}
+use Rattle.refusal.specs.declared.Refusal.the-variants.{MapName}
+use Rattle.refusal.specs.declared.Check.{Check}
+use Rattle.refusal.specs.declared.Check.the-variants.{Pass, Refused}
+use Rattle.refusal.specs.Checks.{unless}
+use Rattle.name.specs.Names.{mapNameOk}
+use Rattle.wad.specs.declared.lumps.Entry.the-variants.{At}
+use Rattle.wad.specs.declared.map.Marker.{Marker}
+use Rattle.wad.specs.declared.map.Marker.the-variants.{Entry, Refused as NoMarker}
+use Rattle.wad.specs.Entries.{directoryOf, fileCheck}
+use Rattle.wad.specs.Lump.{entryOffset, entrySize, partOf, Whole}
+use Rattle.wad.proofs.Answers.{entry-inside}
+use Rattle.wad.proofs.Slices.{partIf-inside, length-part}
+use Rattle.pair.specs.declared.PairSearch.{PairSearch}
+use Rattle.pair.specs.Search.{noFile, baseFile, patchFile, fileOf, lastNamed, afterCheck, orElse, eitherNamed, searchPair, lumpSearch, mapSearch}
+use Rattle.pair.specs.Answers.{entryBy, entryOf, partBy, verdictOf, wordsOf, pairEntry, pairLump}
+use Rattle.pair.specs.Promises.{Valid, Has, Lacks, SameAnswers, BaseChanged, PatchChanged, PickedWhole}
+use Rattle.pair.proofs.Searching.{missing, known}
+
+-- ---- the search of two valid files
+
+valid-search : (base patch name : List ℕ) (asked : Check) → Valid base → Valid patch
+    → searchPair base patch name asked ≡ afterCheck noFile asked (eitherNamed base patch name)
+valid-search base patch name asked b p =
+    let named = afterCheck noFile asked (eitherNamed base patch name) in
+    ap (λ (k : Check). afterCheck patchFile k (afterCheck baseFile (fileCheck base) named)) p
+    ∙ ap (λ (k : Check). afterCheck baseFile k named) b
+
+in-patch : (base patch name : List ℕ) (asked : Check) {i : ℕ} → Valid base → Valid patch → lastNamed patch name ≡ Entry i
+    → searchPair base patch name asked ≡ afterCheck noFile asked (record { file = patchFile; marker = Entry i })
+in-patch base patch name asked b p h =
+    valid-search base patch name asked b p
+    ∙ ap (λ (m : Marker). afterCheck noFile asked (orElse patchFile m (orElse baseFile (lastNamed base name) missing))) h
+
+not-in-patch : (base patch name : List ℕ) (asked : Check) → Valid base → Valid patch → Lacks patch name
+    → searchPair base patch name asked ≡ afterCheck noFile asked (orElse baseFile (lastNamed base name) missing)
+not-in-patch base patch name asked b p h =
+    valid-search base patch name asked b p
+    ∙ ap (λ (m : Marker). afterCheck noFile asked (orElse patchFile m (orElse baseFile (lastNamed base name) missing))) (h .1)
+
+-- ---- what another base, or another patch, leaves as it is
+
+module _ (base base′ patch words : List ℕ) (i : ℕ) where
+  abbrev patched : PairSearch
+  patched = record { file = patchFile; marker = Entry i }
+
+  same-verdict : (asked : Check)
+      → verdictOf base patch words (afterCheck noFile asked patched) ≡ verdictOf base′ patch words (afterCheck noFile asked patched)
+  same-verdict Pass = refl
+  same-verdict (Refused r) = refl
+
+  same-words : (asked : Check)
+      → wordsOf base patch words (afterCheck noFile asked patched) ≡ wordsOf base′ patch words (afterCheck noFile asked patched)
+  same-words Pass = refl
+  same-words (Refused r) = refl
+
+pub base-changed : BaseChanged
+base-changed base base′ patch name b p (i, h) b′ =
+    let lump = in-patch base patch name Pass b p h in
+    let lump′ = in-patch base′ patch name Pass b′ p h in
+    let asked = unless (mapNameOk name) MapName in
+    let map = in-patch base patch name asked b p h in
+    let map′ = in-patch base′ patch name asked b′ p h in
+    record {
+      entries = ap (entryOf base patch) lump ∙ sym (ap (entryOf base′ patch) lump′);
+      lumps =
+          ap (λ (s : PairSearch). partBy base patch (entryOf base patch s)) lump
+          ∙ sym (ap (λ (s : PairSearch). partBy base′ patch (entryOf base′ patch s)) lump′);
+      verdicts = λ words.
+          ap (verdictOf base patch words) map ∙ same-verdict base base′ patch words i asked
+          ∙ sym (ap (verdictOf base′ patch words) map′);
+      leaves = λ words.
+          ap (wordsOf base patch words) map ∙ same-words base base′ patch words i asked
+          ∙ sym (ap (wordsOf base′ patch words) map′);
+    }
+
+module _ (base patch patch′ words : List ℕ) where
+  abbrev unpatched : Check → Marker → PairSearch
+  unpatched asked m = afterCheck noFile asked (orElse baseFile m missing)
+
+  same-entry′ : (m : Marker) → entryOf base patch (unpatched Pass m) ≡ entryOf base patch′ (unpatched Pass m)
+  same-entry′ (Entry i) = refl
+  same-entry′ (NoMarker r) = refl
+
+  same-lump′ : (m : Marker)
+      → partBy base patch (entryOf base patch (unpatched Pass m)) ≡ partBy base patch′ (entryOf base patch′ (unpatched Pass m))
+  same-lump′ (Entry i) = refl
+  same-lump′ (NoMarker r) = refl
+
+  same-verdict′ : (asked : Check) (m : Marker)
+      → verdictOf base patch words (unpatched asked m) ≡ verdictOf base patch′ words (unpatched asked m)
+  same-verdict′ Pass (Entry i) = refl
+  same-verdict′ Pass (NoMarker r) = refl
+  same-verdict′ (Refused r) m = refl
+
+  same-words′ : (asked : Check) (m : Marker)
+      → wordsOf base patch words (unpatched asked m) ≡ wordsOf base patch′ words (unpatched asked m)
+  same-words′ Pass (Entry i) = refl
+  same-words′ Pass (NoMarker r) = refl
+  same-words′ (Refused r) m = refl
+
+pub patch-changed : PatchChanged
+patch-changed base patch patch′ name b p h p′ h′ =
+    let lump = not-in-patch base patch name Pass b p h in
+    let lump′ = not-in-patch base patch′ name Pass b p′ h′ in
+    let asked = unless (mapNameOk name) MapName in
+    let map = not-in-patch base patch name asked b p h in
+    let map′ = not-in-patch base patch′ name asked b p′ h′ in
+    let m = lastNamed base name in
+    record {
+      entries = ap (entryOf base patch) lump ∙ same-entry′ base patch patch′ [] m ∙ sym (ap (entryOf base patch′) lump′);
+      lumps =
+          ap (λ (s : PairSearch). partBy base patch (entryOf base patch s)) lump
+          ∙ same-lump′ base patch patch′ [] m
+          ∙ sym (ap (λ (s : PairSearch). partBy base patch′ (entryOf base patch′ s)) lump′);
+      verdicts = λ words.
+          ap (verdictOf base patch words) map ∙ same-verdict′ base patch patch′ words asked m
+          ∙ sym (ap (verdictOf base patch′ words) map′);
+      leaves = λ words.
+          ap (wordsOf base patch words) map ∙ same-words′ base patch patch′ words asked m
+          ∙ sym (ap (wordsOf base patch′ words) map′);
+    }
+
+-- ---- a lump that is not refused
+
+at-by : (wad : List ℕ) (m : Marker) {offset size : ℕ} → entryBy wad m ≡ At offset size
+    → (i : ℕ) × ((m ≡ Entry i) × ((entryOffset (directoryOf wad) i ≡ offset) × (entrySize (directoryOf wad) i ≡ size)))
+at-by wad (Entry i) e = (i, (refl, ((cc), (cc))))
+at-by wad (NoMarker r) e = let z : _≡_ {A = ℕ} 0 1 = cc in absurd (omega arith)
+
+pub picked-whole : PickedWhole
+picked-whole base patch name offset size e =
+    let search = lumpSearch base patch name in
+    let wad = fileOf base patch (search .file) in
+    let a = at-by wad (search .marker) e in
+    let k = known base patch name Pass (a .1 .0) in
+    let there = entry-inside wad (a .0) (k .0) (k .1) in
+    let inside : offset + size ≤ length wad = omega (arith, there, a .1 .1 .0, a .1 .1 .1) in
+    let whole = ap (partOf wad) e ∙ partIf-inside wad offset size inside in
+    record { whole = whole; sized = ap length whole ∙ length-part wad offset size inside }

@@ -1,0 +1,5 @@
+-- The laws of the pair of files. Assumes nothing.
+
+pub mod Searching
+pub mod Answering
+pub mod Changing

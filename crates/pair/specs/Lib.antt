@@ -1,0 +1,5 @@
+-- The pair of files that the box opens: a patch over a base (W-207). Assumes nothing.
+
+pub mod Search
+pub mod Answers
+pub mod Promises
