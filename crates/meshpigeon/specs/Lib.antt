@@ -3,6 +3,7 @@
 pub mod Status
 pub mod Files
 pub mod Maps
+pub mod Pairs
 pub mod Pictures
 pub mod Records
 pub mod Examples

@@ -2,6 +2,7 @@
 // include/meshpigeon.h is the same for C.
 pub mod files;
 pub mod maps;
+pub mod pairs;
 pub mod pictures;
 pub mod records;
 pub mod status;
