@@ -1,26 +1,31 @@
 -- The theorems of the pair (W-207), of any files, names and words. The proofs are in proofs/Changing.antt. Assumes nothing.
-use Prim.Native.Nat.{ℕ}
+use Prim.Native.Nat.{ℕ, _<_}
+use mathlib.Core.Bool.{true}
 use mathlib.Core.List.{List}
 use mathlib.Core.Path.{_≡_}
+use lib.ListN.{length}
 use Rattle.refusal.specs.declared.Check.the-variants.{Pass}
-use Rattle.refusal.specs.declared.Refusal.{Refusal}
+use Rattle.name.specs.Names.{sameName}
 use Rattle.wad.specs.declared.lumps.Entry.the-variants.{At}
-use Rattle.wad.specs.declared.map.Marker.the-variants.{Entry, Refused as NoMarker}
-use Rattle.wad.specs.Entries.{fileCheck}
+use Rattle.wad.specs.Header.{headOf, entryCount}
+use Rattle.wad.specs.Entries.{directoryOf, entryName, fileCheck}
 use Rattle.wad.specs.Lump.{Whole}
-use Rattle.pair.specs.Search.{fileOf, lastNamed}
+use Rattle.pair.specs.Search.{fileOf}
 use Rattle.pair.specs.Answers.{pairEntry, pairLump, pairVerdict, pairWords}
 
 -- a file that 1 to 6 pass
 abbrev pub Valid : List ℕ → Type 0
 Valid wad = fileCheck wad ≡ Pass
 
--- some entry of the file has the name, or none
-abbrev pub Has : List ℕ → List ℕ → Type 0
-Has wad name = (i : ℕ) × (lastNamed wad name ≡ Entry i)
+-- some entry of the file has the name, of eight bytes
+pub record Has (wad name : List ℕ) : Type 0 where
+  pub asked : length name ≡ 8
+  pub entry : ℕ
+  pub below : entry < entryCount (headOf wad)
+  pub named : sameName (entryName (directoryOf wad) entry) name ≡ true
 
 abbrev pub Lacks : List ℕ → List ℕ → Type 0
-Lacks wad name = (r : Refusal) × (lastNamed wad name ≡ NoMarker r)
+Lacks wad name = Has wad name → ⊥
 
 -- two pairs give the same answers on a name: the lump, where it lies, the verdict, and the words afterwards
 pub record SameAnswers (base patch base′ patch′ name : List ℕ) : Type 0 where
