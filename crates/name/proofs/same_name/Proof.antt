@@ -37,11 +37,10 @@ loop-again : tie.Need-loop-again Inv-loop μ-loop
 loop-again c =
     let a = now (c .before .before .before .before .before .before .before .args .a) in
     let b = now (c .before .before .before .before .before .before .before .args .b) in
-    let l = c .before .before .before .before .before .before .loop in
-    (
+    let l = c .before .before .before .before .before .before .loop in (
       search needs,
       l .inv .1 ∙ same-at a (l .i) (search needs) b (search needs)
-      ∙ rw (eq-eqb (getD a (l .i) 0) (getD b (l .i) 0) (c .before .before .if1 .left), ne-eqb (getD a (l .i) 0) 0 (c .if2 .left)),
+          ∙ rw (eq-eqb (getD a (l .i) 0) (getD b (l .i) 0) (c .before .before .if1 .left), ne-eqb (getD a (l .i) 0) 0 (c .if2 .left)),
     )
 
 returns-3 : tie.Need-returns-3 Inv-loop μ-loop
