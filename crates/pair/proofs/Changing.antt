@@ -1,7 +1,7 @@
 -- The theorems of the pair: which file's change is not seen, and that a lump is handed back whole. Assumes nothing.
 use Prim.Native.Nat.{ℕ, zero, suc, _+_, _≤_, _<_}
 use mathlib.Core.Bool.{Bool, true, false, cond}
-use mathlib.Core.List.{List, []}
+use mathlib.Core.List.{List}
 use mathlib.Core.Path.{_≡_, refl, sym, ap, _∙_}
 use mathlib.Core.Logic.{⊎-elim}
 use native.Mathlib.Nat.{not-suc-le-zero, le-of-suc-le-suc, eq-or-lt-of-le}
@@ -20,16 +20,16 @@ use Rattle.wad.specs.declared.map.Marker.{Marker}
 use Rattle.wad.specs.declared.map.Marker.the-variants.{Entry, Refused as NoMarker}
 use Rattle.wad.specs.Header.{headOf, entryCount}
 use Rattle.wad.specs.Entries.{directoryOf, entryName, fileCheck}
-use Rattle.wad.specs.Lump.{entryOffset, entrySize, partOf, Whole}
+use Rattle.wad.specs.Lump.{entryOffset, entrySize, partOf}
 use Rattle.wad.specs.Map.{findMarker}
 use Rattle.wad.proofs.Search.{findMarker-none, findMarker-found, findMarker-on}
 use Rattle.wad.proofs.Answers.{entry-inside}
 use Rattle.level.proofs.Answers.{findMarker-below}
 use Rattle.wad.proofs.Slices.{partIf-inside, length-part}
 use Rattle.pair.specs.declared.PairSearch.{PairSearch}
-use Rattle.pair.specs.Search.{noFile, baseFile, patchFile, fileOf, lastNamed, afterCheck, orElse, eitherNamed, searchPair, lumpSearch, mapSearch}
-use Rattle.pair.specs.Answers.{entryBy, entryOf, partBy, verdictOf, wordsOf, pairEntry, pairLump}
-use Rattle.pair.specs.Promises.{Valid, Has, Lacks, SameAnswers, BaseChanged, PatchChanged, PickedWhole}
+use Rattle.pair.specs.Search.{noFile, baseFile, patchFile, fileOf, lastNamed, afterCheck, orElse, eitherNamed, searchPair, lumpSearch}
+use Rattle.pair.specs.Answers.{entryBy, entryOf, partBy, verdictOf, wordsOf}
+use Rattle.pair.specs.Promises.{Valid, Has, Lacks, BaseChanged, PatchChanged, PickedWhole}
 use Rattle.pair.proofs.Searching.{missing, known}
 
 -- ---- a file that has a name, or has not
@@ -146,7 +146,7 @@ base-changed base base′ patch name b p has b′ =
           ∙ sym (ap (wordsOf base′ patch words) map′);
     }
 
-module _ (base patch patch′ words : List ℕ) where
+module _ (base patch patch′ : List ℕ) where
   abbrev unpatched : Check → Marker → PairSearch
   unpatched asked m = afterCheck noFile asked (orElse baseFile m missing)
 
@@ -159,17 +159,17 @@ module _ (base patch patch′ words : List ℕ) where
   same-lump′ (Entry i) = refl
   same-lump′ (NoMarker r) = refl
 
-  same-verdict′ : (asked : Check) (m : Marker)
+  same-verdict′ : (words : List ℕ) (asked : Check) (m : Marker)
       → verdictOf base patch words (unpatched asked m) ≡ verdictOf base patch′ words (unpatched asked m)
-  same-verdict′ Pass (Entry i) = refl
-  same-verdict′ Pass (NoMarker r) = refl
-  same-verdict′ (Refused r) m = refl
+  same-verdict′ words Pass (Entry i) = refl
+  same-verdict′ words Pass (NoMarker r) = refl
+  same-verdict′ words (Refused r) m = refl
 
-  same-words′ : (asked : Check) (m : Marker)
+  same-words′ : (words : List ℕ) (asked : Check) (m : Marker)
       → wordsOf base patch words (unpatched asked m) ≡ wordsOf base patch′ words (unpatched asked m)
-  same-words′ Pass (Entry i) = refl
-  same-words′ Pass (NoMarker r) = refl
-  same-words′ (Refused r) m = refl
+  same-words′ words Pass (Entry i) = refl
+  same-words′ words Pass (NoMarker r) = refl
+  same-words′ words (Refused r) m = refl
 
 pub patch-changed : PatchChanged
 patch-changed base patch patch′ name b p h p′ h′ =
@@ -180,10 +180,10 @@ patch-changed base patch patch′ name b p h p′ h′ =
     let map′ = not-in-patch base patch′ name asked b p′ h′ in
     let m = lastNamed base name in
     record {
-      entries = ap (entryOf base patch) lump ∙ same-entry′ base patch patch′ [] m ∙ sym (ap (entryOf base patch′) lump′);
+      entries = ap (entryOf base patch) lump ∙ same-entry′ base patch patch′ m ∙ sym (ap (entryOf base patch′) lump′);
       lumps =
           ap (λ (s : PairSearch). partBy base patch (entryOf base patch s)) lump
-          ∙ same-lump′ base patch patch′ [] m
+          ∙ same-lump′ base patch patch′ m
           ∙ sym (ap (λ (s : PairSearch). partBy base patch′ (entryOf base patch′ s)) lump′);
       verdicts = λ words.
           ap (verdictOf base patch words) map ∙ same-verdict′ base patch patch′ words asked m
