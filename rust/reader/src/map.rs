@@ -80,6 +80,11 @@ impl<'a> Lumps<'a> {
 /// and acceptance leave the first four for each node zero and the later ones as found.
 pub fn judge_map(wad: &[u8], name: &[u8], words: &mut [u16]) -> Result<Accepted, Refusal> {
     let (directory, marker) = find_marker(wad, name)?;
+    judge_run(wad, directory, marker, words)
+}
+
+/// Judges the map whose marker is entry `marker` of a good directory: refusals 12 and 20 to 32.
+pub(crate) fn judge_run(wad: &[u8], directory: Directory, marker: usize, words: &mut [u16]) -> Result<Accepted, Refusal> {
     let lumps = run_of(wad, directory, marker)?;
     judge_sizes(&lumps)?;
     if lumps.at(9).len() != reject_size(lumps.count(8)) {

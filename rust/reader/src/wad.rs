@@ -47,7 +47,7 @@ impl<'a> Entry<'a> {
     }
 
     /// Offset and size, for an entry that lies inside; an empty one starts at 0.
-    fn part(&self) -> (usize, usize) {
+    pub(crate) fn part(&self) -> (usize, usize) {
         match self.size {
             0 => (0, 0),
             size => (self.offset as usize, size as usize),
@@ -126,6 +126,12 @@ fn search(wad: &[u8], directory: Directory, name: &[u8]) -> Search {
         entry.name == name
     });
     Search { marker: found.ok_or(Refusal::plain(11)), compared }
+}
+
+/// The number of the last entry with that name.
+pub(crate) fn last_of(wad: &[u8], directory: Directory, name: &[u8]) -> Option<usize> {
+    let name = name_of(name);
+    entries(wad, directory).rposition(|entry| entry.name == name)
 }
 
 /// The entries of a directory whose header is good, in turn.
