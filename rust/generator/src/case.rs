@@ -1,14 +1,14 @@
 //! What a case is: the bytes, the question asked of them, and what is known of the answer.
 
 use crate::{Kind, Record};
-use reader::{Accepted, Found, Refusal, Search};
+use reader::{Accepted, Found, PairEntry, PairMap, PairRefusal, Refusal, Search};
 
 /// One input with one question.
 #[derive(Clone, Debug)]
 pub struct Case {
     /// What the case is about, for reports.
     pub label: String,
-    /// The file, NODES lump, picture lump or record lump.
+    /// The file, of a pair the patch; NODES lump, picture lump or record lump.
     pub bytes: Vec<u8>,
     /// What is asked of the bytes.
     pub question: Question,
@@ -38,6 +38,22 @@ pub enum Question {
     },
     /// Judge a map.
     JudgeMap {
+        /// The asked name.
+        name: Vec<u8>,
+        /// The work words as lent.
+        words: Vec<u16>,
+    },
+    /// A lump of a pair, the bytes being the patch.
+    PairFind {
+        /// The file below it.
+        base: Vec<u8>,
+        /// The asked name.
+        name: Vec<u8>,
+    },
+    /// Judge a map of a pair, the bytes being the patch.
+    PairJudgeMap {
+        /// The file below it.
+        base: Vec<u8>,
         /// The asked name.
         name: Vec<u8>,
         /// The work words as lent.
@@ -107,6 +123,10 @@ pub enum Expected {
     Hexen(bool),
     /// A draw order of so many subsectors.
     Count(usize),
+    /// This lump of a pair, or this refusal with its file.
+    PairEntry(Result<PairEntry, PairRefusal>),
+    /// This map of a pair, or this refusal with its file.
+    PairMap(Result<PairMap, PairRefusal>),
 }
 
 impl Case {

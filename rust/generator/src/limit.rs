@@ -7,6 +7,7 @@ use crate::limit_lump::lump_limits;
 use crate::limit_map::map_limits;
 use crate::limit_run::run_limits;
 use crate::name::name_limits;
+use crate::patch::patch_limits;
 use crate::record_case::record_limits;
 use crate::search::search_limits;
 use crate::{directory_of, map_case, Case, Expected, Plan, Question, MOST_BYTES};
@@ -30,6 +31,7 @@ pub fn limits() -> Vec<Build> {
     all.extend(lump_limits());
     all.extend(record_limits());
     all.extend(draw_limits());
+    all.extend(patch_limits());
     all
 }
 

@@ -12,6 +12,8 @@ enum Answer {
     Search(Search),
     Hexen(bool),
     Count(usize),
+    PairEntry(Result<PairEntry, PairRefusal>),
+    PairMap(Result<PairMap, PairRefusal>),
 }
 
 /// Checks one case; answers its refusal number, 0 for none.
@@ -26,10 +28,13 @@ pub fn check(case: &Case) -> u32 {
         Expected::Search(search) => answer == Ok(Answer::Search(search)),
         Expected::Hexen(hexen) => answer == Ok(Answer::Hexen(hexen)),
         Expected::Count(count) => answer == Ok(Answer::Count(count)),
+        Expected::PairEntry(entry) => answer == Ok(Answer::PairEntry(entry)),
+        Expected::PairMap(map) => answer == Ok(Answer::PairMap(map)),
     };
     assert!(good, "{}: {:?}, not {:?}", case.label, answer, case.expected);
     match answer {
         Err(refusal) | Ok(Answer::Search(Search { marker: Err(refusal), .. })) => refusal.number,
+        Ok(Answer::PairEntry(Err(it)) | Answer::PairMap(Err(it))) => it.refusal.number,
         Ok(_) => 0,
     }
 }
@@ -42,6 +47,8 @@ fn ask(case: &Case) -> Result<Answer, Refusal> {
         Question::FindMap { name } => Ok(Answer::Search(find_map(bytes, name))),
         Question::MapGame { marker } => map_game(bytes, *marker).map(Answer::Hexen),
         Question::JudgeMap { name, words } => ask_map(bytes, name, words),
+        Question::PairFind { base, name } => Ok(Answer::PairEntry(ask_pair(base, bytes, name))),
+        Question::PairJudgeMap { base, name, words } => Ok(Answer::PairMap(ask_pair_map(base, bytes, name, words))),
         Question::Descend { subsectors, x, y } => descend(bytes, *subsectors, *x, *y).map(Answer::Found),
         Question::DrawOrder { subsectors, x, y, words } => ask_order(bytes, *subsectors, (*x, *y), words),
         Question::JudgePicture => judge_picture(bytes).map(|_| Answer::Good),
@@ -73,6 +80,49 @@ fn ask_map(wad: &[u8], name: &[u8], lent: &[u16]) -> Result<Answer, Refusal> {
     assert!(words[..zeroed].iter().all(|&word| word == 0));
     assert_eq!(words[zeroed..], lent[zeroed..]);
     verdict.map(Answer::Map)
+}
+
+/// The file of a pair.
+fn file_of<'a>(file: PairFile, base: &'a [u8], patch: &'a [u8]) -> &'a [u8] {
+    match file {
+        PairFile::Base => base,
+        PairFile::Patch => patch,
+    }
+}
+
+/// 10 and 11 note no file, every other refusal does.
+fn notes_its_file(refusal: &PairRefusal) {
+    assert_eq!(refusal.file.is_none(), [10, 11].contains(&refusal.refusal.number));
+}
+
+/// Where the patch has the name, no other good base changes the answer.
+fn ask_pair(base: &[u8], patch: &[u8], name: &[u8]) -> Result<PairEntry, PairRefusal> {
+    let found = pair_find(base, patch, name);
+    let part = found.map_or(&[][..], |it| &file_of(it.file, base, patch)[it.offset..it.offset + it.size]);
+    assert_eq!(pair_lump(base, patch, name), part);
+    match found {
+        Ok(PairEntry { file: PairFile::Patch, .. }) => assert_eq!(pair_find(patch, patch, name), found),
+        Ok(_) => {}
+        Err(refusal) => notes_its_file(&refusal),
+    }
+    found
+}
+
+/// The answer is that of the file with the marker, words too; and where that is the patch, no other good base changes it.
+fn ask_pair_map(base: &[u8], patch: &[u8], name: &[u8], lent: &[u16]) -> Result<PairMap, PairRefusal> {
+    let mut words = lent.to_vec();
+    let judged = pair_judge_map(base, patch, name, &mut words);
+    let file = judged.as_ref().map_or_else(|refusal| refusal.file, |map| Some(map.file));
+    let mut again = lent.to_vec();
+    if let Some(file) = file {
+        let alone = judge_map(file_of(file, base, patch), name, &mut again);
+        assert_eq!(judged.map(|it| it.map).map_err(|it| it.refusal), alone);
+    }
+    assert_eq!(words, again);
+    if file == Some(PairFile::Patch) && find_map(patch, name).marker.is_ok() && directory(base).is_ok() {
+        assert_eq!(pair_judge_map(patch, patch, name, &mut lent.to_vec()), judged);
+    }
+    judged.inspect_err(notes_its_file)
 }
 
 fn ask_order(nodes: &[u8], subsectors: usize, (x, y): (i16, i16), lent: &[u16]) -> Result<Answer, Refusal> {
