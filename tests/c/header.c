@@ -59,6 +59,18 @@ SIZE(order_answer, 32);
 AT(order_answer, status, 0);
 AT(order_answer, count, 24);
 
+SIZE(pair_entry_answer, 48);
+AT(pair_entry_answer, status, 0);
+AT(pair_entry_answer, file, 24);
+AT(pair_entry_answer, offset, 32);
+AT(pair_entry_answer, size, 40);
+
+SIZE(pair_map_answer, 48);
+AT(pair_map_answer, status, 0);
+AT(pair_map_answer, file, 24);
+AT(pair_map_answer, depth, 32);
+AT(pair_map_answer, marker, 40);
+
 SIZE(picture, 24);
 AT(picture, width, 0);
 AT(picture, height, 8);
@@ -333,6 +345,77 @@ static void orders_are_refused(uint16_t child, uint32_t number)
                              W(0), W(0), W(0), W(64), NO_BOX, NO_BOX, W(child), W(child)};
     meshpigeon_order_answer o = meshpigeon_draw_order(graph, sizeof graph, 1, 5, 5, words, 4);
     EXPECT(status_is(o.status, number, 0, 0) && o.count == 0 && words_are(words, 0, 0, 0, 9));
+}
+
+/* ---- a pair of files ---- */
+
+static const uint8_t empty[] = {'I', 'W', 'A', 'D', L(0), L(12)};
+/* Two lumps of one name, of three bytes and of four. */
+#define PLAYPAL 'P', 'L', 'A', 'Y', 'P', 'A', 'L', 0
+static const uint8_t patch[] = {'P', 'W', 'A', 'D', L(2), L(19), 1, 2, 3, 4, 5, 6, 7,
+                                L(12), L(3), PLAYPAL, L(15), L(4), PLAYPAL};
+static const uint8_t palette_name[8] = {PLAYPAL};
+
+static int lump_is(meshpigeon_pair_entry_answer f, uint32_t file, size_t offset, size_t size)
+{
+    return f.file == file && f.offset == offset && f.size == size;
+}
+
+static void pair_lumps(void)
+{
+    build_wad();
+    meshpigeon_pair_entry_answer f = meshpigeon_pair_find(wad, wad_len, patch, sizeof patch, palette_name, 8);
+    EXPECT(accepted(f.status) && lump_is(f, MESHPIGEON_PATCH, 15, 4));
+    f = meshpigeon_pair_find(wad, wad_len, empty, sizeof empty, palette_name, 8);
+    EXPECT(accepted(f.status) && lump_is(f, MESHPIGEON_BASE, 12, 5));
+    f = meshpigeon_pair_find(wad, wad_len, patch, sizeof patch, (const uint8_t *)"DEMO2\0zz", 8);
+    EXPECT(accepted(f.status) && lump_is(f, MESHPIGEON_BASE, 0, 0));
+    f = meshpigeon_pair_find(empty, sizeof empty, wad, wad_len, (const uint8_t *)"DEMO2\0\0", 8);
+    EXPECT(accepted(f.status) && lump_is(f, MESHPIGEON_PATCH, 0, 0));
+    f = meshpigeon_pair_find(wad, wad_len, patch, sizeof patch, palette_name, 7);
+    EXPECT(status_is(f.status, 11, 0, 0) && lump_is(f, MESHPIGEON_NO_FILE, 0, 0));
+    f = meshpigeon_pair_find(wad, wad_len, patch, sizeof patch, (const uint8_t *)"\0LAYPAL", 8);
+    EXPECT(status_is(f.status, 11, 0, 0) && lump_is(f, MESHPIGEON_NO_FILE, 0, 0));
+}
+
+/* Entry 3 of the one file has a bad name, the other file is too short or good. */
+static void pair_files(void)
+{
+    uint16_t word = 9;
+    build_wad();
+    wad[wad_start + 16 * 3 + 8] = 'm';
+    meshpigeon_pair_entry_answer f = meshpigeon_pair_find(empty, 11, wad, wad_len, palette_name, 8);
+    EXPECT(status_is(f.status, 6, 0, 3) && lump_is(f, MESHPIGEON_PATCH, 0, 0));
+    f = meshpigeon_pair_find(wad, wad_len, empty, 11, palette_name, 8);
+    EXPECT(status_is(f.status, 1, 0, 0) && lump_is(f, MESHPIGEON_PATCH, 0, 0));
+    f = meshpigeon_pair_find(wad, wad_len, patch, sizeof patch, palette_name, 8);
+    EXPECT(status_is(f.status, 6, 0, 3) && lump_is(f, MESHPIGEON_BASE, 0, 0));
+    meshpigeon_pair_map_answer j = meshpigeon_pair_judge_map(wad, wad_len, patch, sizeof patch, palette_name, 8, &word, 1);
+    EXPECT(status_is(j.status, 6, 0, 3) && j.file == MESHPIGEON_BASE && j.depth == 0 && j.marker == 0 && word == 9);
+}
+
+static void pair_maps(void)
+{
+    uint16_t words[4 * NODES + 1];
+    memset(words, 0xA5, sizeof words);
+    build_wad();
+    meshpigeon_pair_map_answer j = meshpigeon_pair_judge_map(wad, wad_len, patch, sizeof patch, palette_name, 8, words, 4 * NODES);
+    EXPECT(status_is(j.status, 10, 0, 0) && j.file == MESHPIGEON_NO_FILE && j.depth == 0 && j.marker == 0);
+    j = meshpigeon_pair_judge_map(empty, sizeof empty, patch, sizeof patch, map_name, 8, words, 4 * NODES);
+    EXPECT(status_is(j.status, 11, 0, 0) && j.file == MESHPIGEON_NO_FILE && j.depth == 0 && j.marker == 0);
+    j = meshpigeon_pair_judge_map(wad, wad_len, patch, sizeof patch, map_name, 8, words, 4 * NODES - 1);
+    EXPECT(status_is(j.status, 30, 7, 0) && j.file == MESHPIGEON_BASE && j.depth == 0 && j.marker == 0);
+    for (size_t i = 0; i <= 4 * NODES; i++)
+        EXPECT(words[i] == 0xA5A5);
+    j = meshpigeon_pair_judge_map(wad, wad_len, patch, sizeof patch, map_name, 8, words, 4 * NODES + 1);
+    EXPECT(accepted(j.status) && j.file == MESHPIGEON_BASE && j.depth == DEPTH && j.marker == BEFORE);
+    for (size_t i = 0; i < 4 * NODES; i++)
+        EXPECT(words[i] == 0);
+    EXPECT(words[4 * NODES] == 0xA5A5);
+    /* Seg 1 starts at a vertex that is not there. */
+    wad[lump_offset(BEFORE + 5) + 12] = 9;
+    j = meshpigeon_pair_judge_map(patch, sizeof patch, wad, wad_len, map_name, 8, words, 4 * NODES);
+    EXPECT(status_is(j.status, 25, 5, 1) && j.file == MESHPIGEON_PATCH && j.depth == 0 && j.marker == 0);
 }
 
 /* ---- pictures ---- */
@@ -691,6 +774,9 @@ int main(void)
     orders();
     orders_are_refused(1, 44);
     orders_are_refused(0, 46);
+    pair_lumps();
+    pair_files();
+    pair_maps();
     pictures();
     paintings();
     records();

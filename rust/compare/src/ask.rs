@@ -2,14 +2,19 @@
 
 use generator::{Case, Kind, Question, Record};
 
+/// A refusal's number, place and record.
+type Refused = (u32, usize, usize);
+
 /// An answer with all its effects.
 #[derive(Clone, Debug, PartialEq, Eq)]
 pub struct Outcome {
     /// The answer's numbers, or the refusal's number, place and record.
-    pub numbers: Result<Vec<i64>, (u32, usize, usize)>,
+    pub numbers: Result<Vec<i64>, Refused>,
+    /// The file of a pair that the answer notes, with a refusal too: 0 none, 1 the base, 2 the patch.
+    pub file: u32,
     /// How many names were compared, with a refusal too.
     pub compared: usize,
-    /// The bytes of the entry that was asked for.
+    /// The bytes of the entry or lump that was asked for.
     pub part: Vec<u8>,
     /// The work words, or those of a draw order, afterwards.
     pub words: Vec<u16>,
@@ -20,16 +25,22 @@ pub struct Outcome {
 }
 
 impl Outcome {
-    fn new(numbers: Result<Vec<i64>, (u32, usize, usize)>) -> Self {
-        Self { numbers, compared: 0, part: Vec::new(), words: Vec::new(), first: Vec::new(), second: Vec::new() }
+    fn new(numbers: Result<Vec<i64>, Refused>) -> Self {
+        Self { numbers, file: 0, compared: 0, part: Vec::new(), words: Vec::new(), first: Vec::new(), second: Vec::new() }
     }
 }
 
 macro_rules! asker {
-    ($(#[$about:meta])* $name:ident, $side:ident, $judge_map:ident, $draw_order:ident, $part:expr) => {
+    ($(#[$about:meta])* $name:ident, $side:ident, $judge_map:ident, $draw_order:ident, $pair_judge_map:ident, $part:expr,
+     $pair_part:expr) => {
         $(#[$about])*
         pub fn $name(case: &Case) -> Outcome {
             let refused = |it: $side::Refusal| (it.number, it.place, it.record);
+            let number_of = |file| match file {
+                None => 0,
+                Some($side::PairFile::Base) => 1,
+                Some($side::PairFile::Patch) => 2,
+            };
             let bytes = &case.bytes;
             match &case.question {
                 Question::Directory => {
@@ -56,6 +67,19 @@ macro_rules! asker {
                     let mut outcome = Outcome::new(judged.map(|it| vec![it.depth as i64, it.marker as i64]).map_err(refused));
                     outcome.words = words;
                     outcome
+                }
+                Question::PairFind { base, name } => {
+                    let found = $side::pair_find(base, bytes, name);
+                    let file = number_of(found.map_or_else(|it| it.file, |it| Some(it.file)));
+                    let numbers = found.map(|it| vec![it.offset as i64, it.size as i64]).map_err(|it| refused(it.refusal));
+                    Outcome { file, part: $pair_part(base, bytes, name), ..Outcome::new(numbers) }
+                }
+                Question::PairJudgeMap { base, name, words } => {
+                    let mut words = words.clone();
+                    let judged = $side::$pair_judge_map(base, bytes, name, &mut words);
+                    let file = number_of(judged.map_or_else(|it| it.file, |it| Some(it.file)));
+                    let numbers = judged.map(|it| vec![it.map.depth as i64, it.map.marker as i64]);
+                    Outcome { file, words, ..Outcome::new(numbers.map_err(|it| refused(it.refusal))) }
                 }
                 Question::Descend { subsectors, x, y } => {
                     let found = $side::descend(bytes, *subsectors, *x, *y);
@@ -168,10 +192,14 @@ macro_rules! write {
 
 asker! {
     /// Asks the proved library.
-    ask_library, meshpigeon, judge_map_with, draw_order_with, |bytes, number| meshpigeon::lump(bytes, number).unwrap_or_default().to_vec()
+    ask_library, meshpigeon, judge_map_with, draw_order_with, pair_judge_map_with,
+    |bytes, number| meshpigeon::lump(bytes, number).unwrap_or_default().to_vec(),
+    |base, patch, name| meshpigeon::pair_lump(base, patch, name).map_or_else(|_| Vec::new(), |lump| lump.bytes.to_vec())
 }
 
 asker! {
     /// Asks the independent reader.
-    ask_reader, reader, judge_map, draw_order, |bytes, number| reader::lump(bytes, number).to_vec()
+    ask_reader, reader, judge_map, draw_order, pair_judge_map,
+    |bytes, number| reader::lump(bytes, number).to_vec(),
+    |base, patch, name| reader::pair_lump(base, patch, name).to_vec()
 }

@@ -3,7 +3,7 @@
 
 use crate::blockmap::LIST_END;
 use crate::map::encode;
-use crate::{littered, named_entries, BlockmapSpec, MAP_NAME};
+use crate::{joined, littered, named_entries, BlockmapSpec, MAP_NAME};
 use crate::{Content, EntryPlan, Layout, MapSpec, PictureSpec, Plan, Post, Rng, Shape, Sizes};
 use reader::{Node, SUBSECTOR_BIT};
 
@@ -18,6 +18,12 @@ pub fn ordinary_map() -> Vec<u8> {
 /// A file with a map that has `scale` times the records of an ordinary one, up to 60 times.
 pub fn map_of(scale: usize) -> Vec<u8> {
     ordinary_of(false, scale)
+}
+
+/// The same as a patch over a base of 3,000 entries, with a map of its own that the patch's takes the place of: see
+/// [`halves`](crate::halves).
+pub fn pair_of(scale: usize) -> Vec<u8> {
+    joined(directory_of(3_000), map_of(scale))
 }
 
 /// The same of Hexen.

@@ -8,7 +8,7 @@
 //! - [`limits`] lists both sides of every limit, each case built when asked for;
 //! - [`MapSpec`], [`Plan`], [`BlockmapSpec`] and [`PictureSpec`] build inputs by hand;
 //! - [`ordinary_map`], [`hexen_map_of`], [`largest_map`], [`largest_hexen_map_of`], [`directory_of`],
-//!   [`littered_directory_of`], [`search_to_the_first`], [`search_in_vain`], [`chain`], [`balanced`],
+//!   [`littered_directory_of`], [`search_to_the_first`], [`search_in_vain`], [`pair_of`], [`pair_in_vain`], [`chain`], [`balanced`],
 //!   [`doublings`], [`shared_subsector`], [`hostile_blockmap`], [`hostile_picture`], [`picture`],
 //!   [`halving_nodes`], [`mixed_nodes`], [`deep_chain`] and [`deep_doublings`] are the inputs of a benchmark;
 //! - [`shrink`] makes a failing case smaller.
@@ -63,7 +63,7 @@ mod valid;
 pub use bench::{
     balanced, chain, deep_chain, deep_doublings, directory_of, doublings, halving_nodes, hexen_map_of, hostile_blockmap,
     hostile_blockmap_of, hostile_picture, hostile_picture_of, largest_hexen_map_of, largest_map, largest_map_of,
-    littered_directory_of, map_of, mixed_nodes, ordinary_map, picture, shared_subsector, MOST_BYTES,
+    littered_directory_of, map_of, mixed_nodes, ordinary_map, pair_of, picture, shared_subsector, MOST_BYTES,
 };
 pub use blockmap::{BlockmapSpec, Layout};
 pub use case::{Case, Expected, Question};
@@ -86,6 +86,6 @@ pub use record_case::record_case;
 pub use rng::Rng;
 pub use rooms::{hexen_rooms, rooms};
 pub use sample::{samples, Sample};
-pub use search::{named_entries, search_case, search_in_vain, search_to_the_first};
+pub use search::{halves, joined, named_entries, pair_in_vain, search_case, search_in_vain, search_to_the_first};
 pub use shrink::shrink;
 pub use valid::{any_plan, map_case, sound_plan, valid_case, verdict};

@@ -88,3 +88,21 @@ fn longer_names(count: usize) -> Vec<[u8; 8]> {
     let name = |at: usize| format!("MAP01{at:03X}").into_bytes().try_into().expect("eight characters");
     (0..count).map(name).collect()
 }
+
+/// A base and a patch over it, each of `count` entries, of which none has the name [`MAP_NAME`]: see [`halves`].
+pub fn pair_in_vain(count: usize) -> Vec<u8> {
+    joined(search_in_vain(count), search_in_vain(count))
+}
+
+/// Two files as one input: both of the longer one's length, the base first. What is behind a directory counts for nothing.
+pub fn joined(mut base: Vec<u8>, mut patch: Vec<u8>) -> Vec<u8> {
+    let length = base.len().max(patch.len());
+    base.resize(length, 0);
+    patch.resize(length, 0);
+    [base, patch].concat()
+}
+
+/// Base and patch of a [`joined`] input.
+pub fn halves(joined: &[u8]) -> (&[u8], &[u8]) {
+    joined.split_at(joined.len() / 2)
+}

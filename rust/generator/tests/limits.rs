@@ -5,6 +5,7 @@ mod common;
 use common::check;
 use generator::*;
 use reader::{descend, directory, draw_order, find_map, judge_map, judge_picture, map_game, Accepted, Found, Refusal, Search};
+use reader::{pair_find, pair_judge_map, PairFile};
 
 #[test]
 fn both_sides_of_every_limit() {
@@ -55,6 +56,21 @@ fn searched_inputs_are_searched_to_their_end() {
         assert_eq!(first, Search { marker: Ok(0), compared: count });
         assert_eq!(none, Search { marker: Err(Refusal::plain(11)), compared: count });
     }
+}
+
+#[test]
+fn pairs_are_an_ordinary_one_and_one_searched_in_vain() {
+    for (scale, depth) in [(1, 8), (4, 10)] {
+        let pair = pair_of(scale);
+        let (base, patch) = halves(&pair);
+        assert_eq!((base.len(), judged(base).marker), (patch.len(), 0));
+        let map = pair_judge_map(base, patch, &MAP_NAME, &mut vec![1; 4 * 32_767]).expect("a good map");
+        assert_eq!((map.file, map.map), (PairFile::Patch, Accepted { depth, marker: 0 }));
+    }
+    let pair = pair_in_vain(4_096);
+    let (base, patch) = halves(&pair);
+    assert_eq!([base, patch].map(|wad| directory(wad).map(|it| it.count)), [Ok(4_096); 2]);
+    assert_eq!(pair_find(base, patch, &MAP_NAME).map_err(|it| (it.file, it.refusal.number)), Err((None, 11)));
 }
 
 #[test]

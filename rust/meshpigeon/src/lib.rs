@@ -12,11 +12,13 @@
 #![deny(missing_docs)]
 
 mod game;
+mod pair;
 mod raw;
 mod record;
 mod refusal;
 
 pub use game::{Linedef, Thing};
+pub use pair::{pair_find, pair_judge_map, pair_judge_map_with, pair_lump, PairEntry, PairFile, PairLump, PairMap, PairRefusal};
 pub use record::{Node, Sector, Seg, Sidedef, Subsector, Vertex};
 pub use refusal::Refusal;
 

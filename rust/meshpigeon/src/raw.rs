@@ -5,7 +5,7 @@ mod layout;
 
 use crate::game::{Linedef, Thing};
 use crate::record::{Node, Sector, Seg, Sidedef, Subsector, Vertex};
-use crate::{Picture, Refusal, Search};
+use crate::{PairFile, PairRefusal, Picture, Refusal, Search};
 
 /// What every answer begins with; number 0 is accepted.
 #[repr(C)]
@@ -59,6 +59,10 @@ answers! {
     DescentAnswer { subsector: usize, count: usize }
     /// How long a draw order is.
     OrderAnswer { count: usize }
+    /// Where a lump of a pair lies.
+    PairEntryAnswer { file: u32, offset: usize, size: usize }
+    /// An accepted map of a pair.
+    PairMapAnswer { file: u32, depth: usize, marker: usize }
     /// A picture's header.
     PictureAnswer { picture: Picture }
 }
@@ -89,6 +93,24 @@ extern "C" {
         words: *mut u16,
         words_len: usize,
     ) -> OrderAnswer;
+    fn meshpigeon_pair_find(
+        base: Bytes,
+        base_len: usize,
+        patch: Bytes,
+        patch_len: usize,
+        name: Bytes,
+        name_len: usize,
+    ) -> PairEntryAnswer;
+    fn meshpigeon_pair_judge_map(
+        base: Bytes,
+        base_len: usize,
+        patch: Bytes,
+        patch_len: usize,
+        name: Bytes,
+        name_len: usize,
+        words: *mut u16,
+        words_len: usize,
+    ) -> PairMapAnswer;
     fn meshpigeon_judge_picture(lump: Bytes, lump_len: usize) -> PictureAnswer;
     fn meshpigeon_paint_picture(
         lump: Bytes,
@@ -108,7 +130,7 @@ pub(crate) fn entry(wad: &[u8], number: usize) -> Result<EntryAnswer, Refusal> {
     unsafe { meshpigeon_entry(wad.as_ptr(), wad.len(), number) }.checked()
 }
 
-/// The one answer that a refusal does not clear: `compared` stays.
+/// An answer that a refusal does not clear: `compared` stays.
 pub(crate) fn find_map(wad: &[u8], name: &[u8]) -> Search {
     let answer = unsafe { meshpigeon_find_map(wad.as_ptr(), wad.len(), name.as_ptr(), name.len()) };
     let compared = answer.compared;
@@ -129,6 +151,41 @@ pub(crate) fn descend(nodes: &[u8], subsectors: usize, x: i16, y: i16) -> Result
 
 pub(crate) fn draw_order(nodes: &[u8], subsectors: usize, x: i16, y: i16, words: &mut [u16]) -> Result<OrderAnswer, Refusal> {
     unsafe { meshpigeon_draw_order(nodes.as_ptr(), nodes.len(), subsectors, x, y, words.as_mut_ptr(), words.len()) }.checked()
+}
+
+/// The file that an answer on a pair notes.
+fn file_of(number: u32) -> Option<PairFile> {
+    match number {
+        1 => Some(PairFile::Base),
+        2 => Some(PairFile::Patch),
+        _ => None,
+    }
+}
+
+/// The file of an answer on a pair, which acceptance always notes, and a refusal but for 10 and 11.
+fn noted<A>(file: u32, answer: Result<A, Refusal>) -> Result<(PairFile, A), PairRefusal> {
+    match answer {
+        Ok(answer) => Ok((file_of(file).expect("an accepted answer notes its file"), answer)),
+        Err(refusal) => Err(PairRefusal { file: file_of(file), refusal }),
+    }
+}
+
+pub(crate) fn pair_find(base: &[u8], patch: &[u8], name: &[u8]) -> Result<(PairFile, PairEntryAnswer), PairRefusal> {
+    let answer =
+        unsafe { meshpigeon_pair_find(base.as_ptr(), base.len(), patch.as_ptr(), patch.len(), name.as_ptr(), name.len()) };
+    noted(answer.file, answer.checked())
+}
+
+pub(crate) fn pair_judge_map(
+    base: &[u8],
+    patch: &[u8],
+    name: &[u8],
+    words: &mut [u16],
+) -> Result<(PairFile, PairMapAnswer), PairRefusal> {
+    let (base_len, patch_len, name_len, words_len) = (base.len(), patch.len(), name.len(), words.len());
+    let (base, patch, name, words) = (base.as_ptr(), patch.as_ptr(), name.as_ptr(), words.as_mut_ptr());
+    let answer = unsafe { meshpigeon_pair_judge_map(base, base_len, patch, patch_len, name, name_len, words, words_len) };
+    noted(answer.file, answer.checked())
 }
 
 pub(crate) fn judge_picture(lump: &[u8]) -> Result<PictureAnswer, Refusal> {

@@ -66,6 +66,30 @@ fn reader_search(wad: &[u8]) -> usize {
     reader::find_map(wad, &given::MAP_NAME).compared
 }
 
+/// The depth of a patch's map.
+fn library_pair(joined: &[u8]) -> usize {
+    let (base, patch) = given::halves(joined);
+    let mut words = vec![0; meshpigeon::MOST_WORDS];
+    meshpigeon::pair_judge_map_with(base, patch, &given::MAP_NAME, &mut words).expect("a good map").map.depth
+}
+
+fn reader_pair(joined: &[u8]) -> usize {
+    let (base, patch) = given::halves(joined);
+    let mut words = vec![0; meshpigeon::MOST_WORDS];
+    reader::pair_judge_map(base, patch, &given::MAP_NAME, &mut words).expect("a good map").map.depth
+}
+
+/// The refusal of a lump that neither file has.
+fn library_pair_in_vain(joined: &[u8]) -> usize {
+    let (base, patch) = given::halves(joined);
+    meshpigeon::pair_find(base, patch, &given::MAP_NAME).expect_err("no such lump").refusal.number as usize
+}
+
+fn reader_pair_in_vain(joined: &[u8]) -> usize {
+    let (base, patch) = given::halves(joined);
+    reader::pair_find(base, patch, &given::MAP_NAME).expect_err("no such lump").refusal.number as usize
+}
+
 fn library_picture(lump: &[u8]) -> usize {
     let (mut colour, mut cover) = (vec![0; 64_000], vec![0; 64_000]);
     meshpigeon::paint_picture(lump, &mut colour, &mut cover).expect("a good picture").width
@@ -134,6 +158,13 @@ fn inputs() -> Vec<Input> {
             sized: |n| given::search_in_vain(1_024 * n),
             library: library_search,
             reader: reader_search,
+        },
+        Input { name: "map of a pair of files", sized: |n| given::pair_of(n), library: library_pair, reader: reader_pair },
+        Input {
+            name: "lump of 2 × 4,096 in vain (11)",
+            sized: |n| given::pair_in_vain(1_024 * n),
+            library: library_pair_in_vain,
+            reader: reader_pair_in_vain,
         },
         Input {
             name: "chain of 32,766 nodes",

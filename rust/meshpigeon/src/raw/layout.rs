@@ -27,6 +27,8 @@ layout! {
     MapAnswer 40 { status 0, depth 24, marker 32 }
     DescentAnswer 40 { status 0, subsector 24, count 32 }
     OrderAnswer 32 { status 0, count 24 }
+    PairEntryAnswer 48 { status 0, file 24, offset 32, size 40 }
+    PairMapAnswer 48 { status 0, file 24, depth 32, marker 40 }
     Picture 24 { width 0, height 8, left 16, top 18 }
     PictureAnswer 48 { status 0, picture 24 }
 }
