@@ -25,6 +25,8 @@ pub enum Command {
     Judge {
         /// At least one.
         files: Vec<OsString>,
+        /// The file that each of them is a patch over, if they are.
+        base: Option<OsString>,
         /// Names as given; none for every map.
         maps: Vec<OsString>,
     },
@@ -59,6 +61,8 @@ pub enum Command {
     Picture {
         /// The file.
         file: OsString,
+        /// The file that it is a patch over, if it is.
+        base: Option<OsString>,
         /// The lump's name as given.
         lump: OsString,
         /// Where it goes.
@@ -85,6 +89,7 @@ fn misuse<T>(words: impl Into<String>) -> Result<T, Misuse> {
 struct Parts {
     words: Vec<OsString>,
     maps: Vec<OsString>,
+    base: Option<OsString>,
     output: Option<OsString>,
     json: bool,
     quiet: bool,
@@ -134,8 +139,12 @@ fn split(arguments: Vec<OsString>) -> Result<Parts, Misuse> {
             Some("--help" | "-h") => parts.help = true,
             Some("--version" | "-V") => parts.version = true,
             Some("--map") => parts.maps.push(value("--map", rest.next())?),
-            Some("-o") => put_output(&mut parts, value("-o", rest.next())?)?,
+            Some("--base") => put_once("--base", &mut parts.base, value("--base", rest.next())?)?,
+            Some("-o") => put_once("-o", &mut parts.output, value("-o", rest.next())?)?,
             Some(text) if text.starts_with("--map=") => parts.maps.push(text["--map=".len()..].into()),
+            Some(text) if text.starts_with("--base=") => {
+                put_once("--base", &mut parts.base, text["--base=".len()..].into())?;
+            }
             _ if is_option(&argument) => return misuse(format!("'{}' is no option", shown(&argument))),
             _ => parts.words.push(argument),
         }
@@ -147,10 +156,10 @@ fn value(option: &str, given: Option<OsString>) -> Result<OsString, Misuse> {
     given.map_or_else(|| misuse(format!("{option} needs a value")), Ok)
 }
 
-fn put_output(parts: &mut Parts, output: OsString) -> Result<(), Misuse> {
-    match parts.output.replace(output) {
+fn put_once(option: &str, place: &mut Option<OsString>, given: OsString) -> Result<(), Misuse> {
+    match place.replace(given) {
         None => Ok(()),
-        Some(_) => misuse("-o is given twice"),
+        Some(_) => misuse(format!("{option} is given twice")),
     }
 }
 
@@ -167,6 +176,8 @@ fn fits(command: &OsStr, parts: &Parts) -> Result<(), Misuse> {
     let takes = |commands: &[&str]| commands.iter().any(|it| command == *it);
     let strange = if !parts.maps.is_empty() && !takes(&["judge"]) {
         "--map"
+    } else if parts.base.is_some() && !takes(&["judge", "picture"]) {
+        "--base"
     } else if parts.output.is_some() && !takes(&["picture"]) {
         "-o"
     } else if parts.quiet && !takes(&["judge", "picture"]) {
@@ -182,10 +193,16 @@ fn judge(parts: &Parts) -> Result<Command, Misuse> {
     if files.is_empty() {
         return misuse("judge needs a file");
     }
-    if files.iter().filter(|file| *file == "-").count() > 1 {
-        return misuse("standard input can be judged once only");
+    read_once(files.iter().chain(&parts.base))?;
+    Ok(Command::Judge { files, base: parts.base.clone(), maps: parts.maps.clone() })
+}
+
+/// Refuses standard input as more than one of the files.
+fn read_once<'a>(files: impl Iterator<Item = &'a OsString>) -> Result<(), Misuse> {
+    match files.filter(|file| *file == "-").count() {
+        0 | 1 => Ok(()),
+        _ => misuse("standard input can be judged once only"),
     }
-    Ok(Command::Judge { files, maps: parts.maps.clone() })
 }
 
 fn list(parts: &Parts) -> Result<Command, Misuse> {
@@ -208,8 +225,9 @@ fn order(parts: &Parts) -> Result<Command, Misuse> {
 fn picture(parts: &Parts) -> Result<Command, Misuse> {
     let needs = "picture needs FILE LUMP -o OUT.png";
     let [file, lump] = words(parts, needs)?;
+    read_once([&file].into_iter().chain(&parts.base))?;
     match parts.output.clone() {
-        Some(output) => Ok(Command::Picture { file, lump, output }),
+        Some(output) => Ok(Command::Picture { file, base: parts.base.clone(), lump, output }),
         None => misuse(needs),
     }
 }

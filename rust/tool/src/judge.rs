@@ -2,14 +2,19 @@
 
 use crate::finding::Finding;
 use crate::name;
+use crate::pair::{Base, Opened};
 use crate::report::Report;
-use crate::verdict::{Outcome, Subject, Verdict};
+use crate::verdict::{Outcome, Source, Subject, Verdict};
 use crate::wad::Wad;
 use meshpigeon::{Accepted, Node, Refusal, Subsector, MOST_WORDS};
 use std::ffi::{OsStr, OsString};
 
-/// Judges the named maps of each file, or all of them where none is named.
-pub fn run(files: &[OsString], maps: &[OsString], report: &mut Report) {
+/// Judges the named maps of each file, or all of them where none is named; over a base, those of the pair.
+pub fn run(files: &[OsString], base: Option<&OsStr>, maps: &[OsString], report: &mut Report) {
+    let below = match Base::open(base) {
+        Ok(below) => below,
+        Err(fault) => return report.fault(base.unwrap_or_default(), fault),
+    };
     let mut asked: Vec<Vec<u8>> = Vec::new();
     for map in maps.iter().map(|map| name::asked(map)) {
         if !asked.contains(&map) {
@@ -18,24 +23,27 @@ pub fn run(files: &[OsString], maps: &[OsString], report: &mut Report) {
     }
     let mut words = vec![0; MOST_WORDS];
     for file in files {
-        match Wad::open(file) {
-            Ok(wad) => judge_file(file, &wad, &asked, &mut words, report),
-            Err(fault) => report.fault(file, fault),
+        match Opened::open(file, &below) {
+            Ok(opened) => judge_file(file, &opened, &asked, &mut words, report),
+            Err((source, fault)) => report.fault_of(file, source, fault),
         }
     }
     report.summary(files.len());
 }
 
-fn judge_file(file: &OsStr, wad: &Wad, asked: &[Vec<u8>], words: &mut [u16], report: &mut Report) {
-    let maps = if asked.is_empty() { wad.maps() } else { asked.to_vec() };
+fn judge_file(file: &OsStr, opened: &Opened, asked: &[Vec<u8>], words: &mut [u16], report: &mut Report) {
+    let maps = if asked.is_empty() { opened.maps() } else { asked.to_vec() };
     let file = file.to_string_lossy();
     if maps.is_empty() {
-        report.verdict(&Verdict { file: file.to_string(), subject: Subject::File, game: None, outcome: Outcome::NoMap });
+        let (subject, outcome) = (Subject::File, Outcome::NoMap);
+        report.verdict(&Verdict { file: file.to_string(), subject, source: Source::File, game: None, outcome });
     }
     for map in maps {
-        let outcome = outcome_of(wad, &map, meshpigeon::judge_map_with(wad.bytes(), &map, words));
+        let (source, judged) = opened.judge(&map, words);
+        let wad = opened.wad(source);
+        let outcome = outcome_of(wad, &map, judged);
         let game = if outcome.has_lumps() { wad.game(&map) } else { None };
-        report.verdict(&Verdict { file: file.to_string(), subject: Subject::Map(name::text(&map)), game, outcome });
+        report.verdict(&Verdict { file: file.to_string(), subject: Subject::Map(name::text(&map)), source, game, outcome });
     }
 }
 

@@ -15,6 +15,7 @@ mod judge;
 mod list;
 mod name;
 mod order;
+mod pair;
 mod picture;
 mod png;
 mod report;
@@ -45,10 +46,10 @@ fn run(request: &Request, report: &mut Report) {
     match &request.command {
         Command::Help => report.text(HELP.trim_end()),
         Command::Version => report.text(concat!("meshpigeon ", env!("CARGO_PKG_VERSION"))),
-        Command::Judge { files, maps } => judge::run(files, maps, report),
+        Command::Judge { files, base, maps } => judge::run(files, base.as_deref(), maps, report),
         Command::List { file } => list::run(file, report),
         Command::Descend { file, map, x, y } => descend::run(file, map, (*x, *y), report),
         Command::Order { file, map, x, y } => order::run(file, map, (*x, *y), report),
-        Command::Picture { file, lump, output } => picture::run(file, lump, output, report),
+        Command::Picture { file, base, lump, output } => picture::run(file, base.as_deref(), lump, output, report),
     }
 }

@@ -2,7 +2,7 @@
 
 use crate::input::Fault;
 use crate::name::shown;
-use crate::verdict::{counted, Outcome, Subject, Verdict};
+use crate::verdict::{counted, Outcome, Source, Subject, Verdict};
 use std::ffi::OsStr;
 use std::io::{self, IsTerminal, Write};
 
@@ -63,6 +63,11 @@ impl Report {
 
     /// A file that there is nothing to ask about.
     pub fn fault(&mut self, file: &OsStr, fault: Fault) {
+        self.fault_of(file, Source::File, fault);
+    }
+
+    /// The same of a file that may be a patch, for its own sake or its base's.
+    pub fn fault_of(&mut self, file: &OsStr, source: Source, fault: Fault) {
         match fault {
             Fault::Unread(error) => {
                 self.tally.files_unread += 1;
@@ -70,7 +75,8 @@ impl Report {
             }
             Fault::Refused(refusal, found) => {
                 let file = file.to_string_lossy().into_owned();
-                self.verdict(&Verdict { file, subject: Subject::File, game: None, outcome: Outcome::Refused(refusal, found) });
+                let (subject, outcome) = (Subject::File, Outcome::Refused(refusal, found));
+                self.verdict(&Verdict { file, subject, source, game: None, outcome });
             }
         }
     }

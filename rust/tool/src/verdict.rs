@@ -3,7 +3,7 @@
 use crate::finding::Finding;
 use crate::json::Object;
 use crate::name::shown;
-use meshpigeon::{Accepted, Refusal};
+use meshpigeon::{Accepted, PairFile, PairRefusal, Refusal};
 
 /// What was judged, and what came of it.
 pub struct Verdict {
@@ -11,6 +11,8 @@ pub struct Verdict {
     pub file: String,
     /// What in the file.
     pub subject: Subject,
+    /// Which file it comes from.
+    pub source: Source,
     /// The game of a map whose ten lumps are there.
     pub game: Option<Game>,
     /// What came of it.
@@ -32,6 +34,26 @@ impl Game {
         match self {
             Self::Doom => "Doom",
             Self::Hexen => "Hexen",
+        }
+    }
+}
+
+/// Which file something comes from.
+#[derive(Clone, Copy, Debug, PartialEq, Eq)]
+pub enum Source {
+    /// The only one.
+    File,
+    /// One of a pair, or neither.
+    Pair(Option<PairFile>),
+}
+
+impl Source {
+    /// `base` or `patch`, of a pair.
+    pub fn name(self) -> Option<&'static str> {
+        match self {
+            Self::Pair(Some(PairFile::Base)) => Some("base"),
+            Self::Pair(Some(PairFile::Patch)) => Some("patch"),
+            _ => None,
         }
     }
 }
@@ -79,7 +101,7 @@ impl Verdict {
     /// The refusal of a walk down a map's nodes.
     pub fn of_walk(file: &str, map: String, refusal: Refusal) -> Self {
         let outcome = Outcome::Refused(refusal, None);
-        Self { file: file.to_string(), subject: Subject::Map(map), game: None, outcome }
+        Self { file: file.to_string(), subject: Subject::Map(map), source: Source::File, game: None, outcome }
     }
 
     /// Whether it is a refusal.
@@ -94,7 +116,7 @@ impl Verdict {
             Outcome::Refused(refusal, _) => {
                 let refused = painted(&format!("refused {}", refusal.number), 31, colour);
                 let at = refusal.whereabouts().map_or(String::new(), |place| format!(" at {place}"));
-                format!("{refused}{at}{}: {}", self.hexen(), self.text())
+                format!("{refused}{at}{}: {}", self.notes(), self.text())
             }
             Outcome::NoMap => self.text(),
         };
@@ -125,6 +147,7 @@ impl Verdict {
             .count("depth", accepted.map(|it| it.depth))
             .count("marker", accepted.map(|it| it.marker))
             .text("game", self.game.map(Game::name))
+            .text("from", self.source.name())
             .text("text", self.text().as_str())
             .close()
     }
@@ -137,11 +160,23 @@ impl Verdict {
         }
     }
 
-    /// That a map is Hexen's, where it is.
-    fn hexen(&self) -> &'static str {
-        match self.game {
-            Some(Game::Hexen) => " (Hexen)",
-            _ => "",
+    /// That a map is Hexen's, and of which file of a pair it is, where either is so: ` (Hexen, of the base)`.
+    fn notes(&self) -> String {
+        let hexen = self.game.filter(|game| *game == Game::Hexen).map(|game| game.name().to_string());
+        let file = self.source.name().map(|name| format!("of the {name}"));
+        let notes: Vec<String> = hexen.into_iter().chain(file).collect();
+        if notes.is_empty() {
+            String::new()
+        } else {
+            format!(" ({})", notes.join(", "))
+        }
+    }
+
+    /// A refusal's sentence; that a pair lacks a name is said of both files.
+    fn sentence(&self, refusal: Refusal) -> String {
+        match self.source {
+            Source::Pair(None) => PairRefusal { file: None, refusal }.to_string(),
+            _ => refusal.to_string(),
         }
     }
 
@@ -150,10 +185,10 @@ impl Verdict {
         match &self.outcome {
             Outcome::Accepted(accepted, nodes, subsectors) => {
                 let (nodes, subsectors) = (counted(*nodes, "node"), counted(*subsectors, "subsector"));
-                format!("accepted{}, depth {}, {nodes}, {subsectors}", self.hexen(), accepted.depth)
+                format!("accepted{}, depth {}, {nodes}, {subsectors}", self.notes(), accepted.depth)
             }
-            Outcome::Refused(refusal, None) => refusal.to_string(),
-            Outcome::Refused(refusal, Some(found)) => format!("{refusal}; {found}"),
+            Outcome::Refused(refusal, None) => self.sentence(*refusal),
+            Outcome::Refused(refusal, Some(found)) => format!("{}; {found}", self.sentence(*refusal)),
             Outcome::NoMap => "no map".to_string(),
         }
     }
@@ -173,17 +208,22 @@ mod tests {
 
     fn refused(number: u32, place: usize, record: usize, subject: Subject) -> Verdict {
         let refusal = Refusal { number, place, record };
-        Verdict { file: "a.wad".into(), subject, game: None, outcome: Outcome::Refused(refusal, None) }
+        Verdict { file: "a.wad".into(), subject, source: Source::File, game: None, outcome: Outcome::Refused(refusal, None) }
     }
 
     #[test]
     fn colour_is_around_the_verdict_only() {
         let map = || Subject::Map("MAP01".into());
         let outcome = Outcome::Accepted(Accepted { depth: 1, marker: 0 }, 1, 2);
-        let mut good = Verdict { file: "accepted.wad".into(), subject: map(), game: Some(Game::Doom), outcome };
+        let (source, game) = (Source::File, Some(Game::Doom));
+        let mut good = Verdict { file: "accepted.wad".into(), subject: map(), source, game, outcome };
         assert_eq!(good.line(true), "accepted.wad:MAP01: \x1b[32maccepted\x1b[0m, depth 1, 1 node, 2 subsectors");
         good.game = Some(Game::Hexen);
         assert_eq!(good.line(true), "accepted.wad:MAP01: \x1b[32maccepted\x1b[0m (Hexen), depth 1, 1 node, 2 subsectors");
+        good.source = Source::Pair(Some(PairFile::Base));
+        assert!(good.line(true).starts_with("accepted.wad:MAP01: \x1b[32maccepted\x1b[0m (Hexen, of the base), depth 1"));
+        good.game = Some(Game::Doom);
+        assert!(good.line(true).starts_with("accepted.wad:MAP01: \x1b[32maccepted\x1b[0m (of the base), depth 1"));
         assert!(refused(31, 7, 0, map()).line(true).starts_with("a.wad:MAP01: \x1b[31mrefused 31\x1b[0m at NODES: "));
     }
 

@@ -5,13 +5,14 @@ use crate::support::{changed, good, lumps, Folder, Said};
 use generator::{hexen_rooms, rooms, PictureSpec, Plan, MAP_NAME};
 use std::ffi::OsStr;
 
-const KEYS: [&str; 11] = ["file", "map", "number", "place", "lump", "record", "found", "depth", "marker", "game", "text"];
+const KEYS: [&str; 12] = ["file", "map", "number", "place", "lump", "record", "found", "depth", "marker", "game", "from", "text"];
 
-/// The values of a verdict by its keys; its text is left out, but not empty.
+/// The values of a verdict without a base by its keys; its text is left out, but not empty.
 fn verdict(line: &str) -> Vec<Value> {
     let (keys, mut values): (Vec<String>, Vec<Value>) = object(line).into_iter().unzip();
     assert_eq!(keys, KEYS);
     assert!(matches!(values.pop(), Some(Value::Text(text)) if !text.is_empty()));
+    assert_eq!(values.pop(), Some(Null));
     values
 }
 
@@ -101,7 +102,7 @@ fn other_answers_are_objects_too() {
         ),
         (
             vec!["picture", "b.wad", "p", "-o", "o.png", "--json"],
-            r#"{"file":"b.wad","lump":"P","number":0,"width":3,"height":2,"left":0,"top":0,"output":"o.png"}"#,
+            r#"{"file":"b.wad","lump":"P","number":0,"width":3,"height":2,"left":0,"top":0,"output":"o.png","from":null}"#,
         ),
     ];
     for (arguments, line) in lines {

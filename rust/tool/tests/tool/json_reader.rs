@@ -1,7 +1,7 @@
 //! A small reader of JSON objects: numbers, strings, null, and objects and lists in them.
 
 /// A member's value.
-#[derive(Debug, PartialEq)]
+#[derive(Clone, Debug, PartialEq)]
 pub enum Value {
     Null,
     Number(i64),

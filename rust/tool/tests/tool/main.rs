@@ -10,6 +10,7 @@ mod json_reader;
 mod judge;
 mod list;
 mod order;
+mod pair;
 mod picture;
 mod png_reader;
 mod samples;

@@ -24,6 +24,15 @@ fn each_sample_is_what_its_name_says() {
 }
 
 #[test]
+fn a_sample_may_be_a_patch_over_another() {
+    let (folder, counts) = (folder(), "depth 2, 3 nodes, 4 subsectors");
+    for (patch, notes) in [("hexen.wad", "Hexen, of the patch"), ("picture.wad", "of the base")] {
+        let line = format!("{patch}:MAP01: accepted ({notes}), {counts}");
+        folder.run(&["judge", "--base", "accepted.wad", patch]).is(0, &[&line]);
+    }
+}
+
+#[test]
 fn what_is_left_of_longer_names_is_not_listed() {
     let folder = folder();
     let bytes = std::fs::read(folder.file("leftover.wad")).expect("it is there");

@@ -19,12 +19,17 @@ fn commands_and_options_must_be_known() {
     misused(&["judge", "a.wad", "--map"], "--map needs a value");
     misused(&["picture", "a.wad", "P", "-o"], "-o needs a value");
     misused(&["picture", "a.wad", "P", "-o", "a", "-o", "b"], "-o is given twice");
+    misused(&["judge", "a.wad", "--base"], "--base needs a value");
+    misused(&["judge", "--base", "a.wad", "a.wad", "--base=a.wad"], "--base is given twice");
 }
 
 #[test]
 fn each_command_has_its_words() {
     misused(&["judge"], "judge needs a file");
     misused(&["judge", "-", "a.wad", "-"], "standard input can be judged once only");
+    misused(&["judge", "--base", "a.wad"], "judge needs a file");
+    misused(&["judge", "--base", "-", "a.wad", "-"], "standard input can be judged once only");
+    misused(&["picture", "--base=-", "-", "P", "-o", "b"], "standard input can be judged once only");
     misused(&["list"], "list needs FILE");
     misused(&["list", "a.wad", "b.wad"], "list needs FILE");
     misused(&["descend", "a.wad", "MAP01", "1"], "descend needs FILE MAP X Y");
@@ -43,6 +48,9 @@ fn each_command_has_its_options() {
     misused(&["descend", "a.wad", "MAP01", "0", "0", "-q"], "descend does not take --quiet");
     misused(&["order", "a.wad", "MAP01", "0", "0", "-q"], "order does not take --quiet");
     misused(&["order", "a.wad", "MAP01", "0", "0", "-o", "b"], "order does not take -o");
+    misused(&["list", "a.wad", "--base", "a.wad"], "list does not take --base");
+    misused(&["descend", "a.wad", "MAP01", "0", "0", "--base", "a.wad"], "descend does not take --base");
+    misused(&["order", "a.wad", "MAP01", "0", "0", "--base", "a.wad"], "order does not take --base");
 }
 
 #[test]

@@ -1,0 +1,105 @@
+//! What is asked about: one file, or a patch over a base as the box opens them.
+
+use crate::finding::Finding;
+use crate::input::Fault;
+use crate::name;
+use crate::verdict::Source;
+use crate::wad::Wad;
+use meshpigeon::{Accepted, PairFile, Refusal};
+use std::ffi::OsStr;
+
+/// What lies below each file.
+pub enum Base {
+    /// Nothing: each file stands alone.
+    None,
+    /// A good file.
+    Good(Wad),
+    /// A file that is refused, with what was found.
+    Refused(Refusal, Option<Finding>),
+}
+
+impl Base {
+    /// Reads the base, if one is given. Its refusal comes after the patch's own.
+    pub fn open(given: Option<&OsStr>) -> Result<Self, Fault> {
+        match given.map(Wad::open) {
+            None => Ok(Self::None),
+            Some(Ok(wad)) => Ok(Self::Good(wad)),
+            Some(Err(Fault::Refused(refusal, found))) => Ok(Self::Refused(refusal, found)),
+            Some(Err(fault)) => Err(fault),
+        }
+    }
+
+    /// Where a fault of the file above it comes from.
+    fn source_above(&self) -> Source {
+        match self {
+            Self::None => Source::File,
+            _ => Source::Pair(Some(PairFile::Patch)),
+        }
+    }
+}
+
+/// A good file, alone or over a good base.
+pub struct Opened<'a> {
+    wad: Wad,
+    base: Option<&'a Wad>,
+}
+
+impl<'a> Opened<'a> {
+    /// Reads a file and has it judged, then the base below it.
+    pub fn open(file: &OsStr, base: &'a Base) -> Result<Self, (Source, Fault)> {
+        let wad = Wad::open(file).map_err(|fault| (base.source_above(), fault))?;
+        match base {
+            Base::None => Ok(Self { wad, base: None }),
+            Base::Good(base) => Ok(Self { wad, base: Some(base) }),
+            Base::Refused(refusal, found) => Err((Source::Pair(Some(PairFile::Base)), Fault::Refused(*refusal, *found))),
+        }
+    }
+
+    /// The names of all maps, each once: the file's own as they stand in it, then the base's.
+    pub fn maps(&self) -> Vec<Vec<u8>> {
+        let mut maps = self.wad.maps();
+        for map in self.base.map(Wad::maps).unwrap_or_default() {
+            if !maps.contains(&map) {
+                maps.push(map);
+            }
+        }
+        maps
+    }
+
+    /// The library's verdict on a map, and where it comes from.
+    pub fn judge(&self, map: &[u8], words: &mut [u16]) -> (Source, Result<Accepted, Refusal>) {
+        let Some(base) = self.base else {
+            return (Source::File, meshpigeon::judge_map_with(self.wad.bytes(), map, words));
+        };
+        match meshpigeon::pair_judge_map_with(base.bytes(), self.wad.bytes(), map, words) {
+            Ok(judged) => (Source::Pair(Some(judged.file)), Ok(judged.map)),
+            Err(refused) => (Source::Pair(refused.file), Err(refused.refusal)),
+        }
+    }
+
+    /// The file that something comes from; of neither, the file itself.
+    pub fn wad(&self, source: Source) -> &Wad {
+        match (source, self.base) {
+            (Source::Pair(Some(PairFile::Base)), Some(base)) => base,
+            _ => &self.wad,
+        }
+    }
+
+    /// The last lump of a name, and where it comes from.
+    pub fn lump(&self, name: &[u8]) -> Option<(Source, &[u8])> {
+        let Some(base) = self.base else {
+            return self.wad.last(name).map(|number| (Source::File, self.wad.lump(number)));
+        };
+        let lump = meshpigeon::pair_lump(base.bytes(), self.wad.bytes(), name).ok()?;
+        Some((Source::Pair(Some(lump.file)), lump.bytes))
+    }
+
+    /// That there is no lump of a name, in words.
+    pub fn lacks(&self, name: &[u8]) -> String {
+        let name = name::shown(&name::text(name));
+        match self.base {
+            None => format!("there is no lump {name}"),
+            Some(_) => format!("there is no lump {name}, nor in the base"),
+        }
+    }
+}
