@@ -139,11 +139,13 @@ fn any_file(rng: &mut Rng) -> (Plan, Option<Result<Accepted, Refusal>>) {
     (plan, verdict)
 }
 
-/// One or two damages of the map, of every family.
+/// One or two damages of the map, of every family, in the table's order.
 fn damaged_file(rng: &mut Rng) -> (Plan, Option<Result<Accepted, Refusal>>) {
     let mut plan = sound_plan(rng);
     let all = damages_of(12..u32::MAX);
-    let chosen: Vec<Damage> = (0..rng.between(1, 2)).map(|_| rng.pick(&all)).collect();
+    let mut chosen: Vec<usize> = (0..rng.between(1, 2)).map(|_| rng.below(all.len())).collect();
+    chosen.sort_unstable();
+    let chosen: Vec<Damage> = chosen.into_iter().map(|at| all[at]).collect();
     let refusal = apply(&mut plan, &chosen, rng);
     (plan, Some(Err(refusal)))
 }

@@ -3,7 +3,9 @@
 mod common;
 
 use common::check;
-use generator::{all_picture_damages, case, damages, pair_case, pair_count, single_case, PICTURE_DAMAGES};
+use generator::{all_picture_damages, case, damages, pair_case, pair_count, patch_case, single_case};
+use generator::{Expected, Rng, PICTURE_DAMAGES};
+use reader::PairFile;
 use std::collections::{BTreeMap, BTreeSet};
 
 #[test]
@@ -70,6 +72,31 @@ fn cases_of_all_families() {
     let wanted = [0, 1, 2, 3, 4, 5, 6, 7, 10, 11, 12, 20, 21, 22, 23, 24, 25, 26, 27, 28, 30, 31, 32];
     let more = [40, 41, 42, 43, 44, 45, 46, 50, 51, 52, 53, 54, 55, 60, 61];
     assert!(wanted.iter().chain(&more).all(|number| met.contains_key(number)));
+}
+
+#[test]
+fn every_number_is_met_in_either_file_of_a_pair() {
+    let (mut lumps, mut maps, mut rng) = (BTreeSet::new(), BTreeSet::new(), Rng::new(4));
+    let number = |file| match file {
+        None => 0,
+        Some(PairFile::Base) => 1,
+        Some(PairFile::Patch) => 2,
+    };
+    for _ in 0..20_000 {
+        let case = patch_case(&mut rng);
+        check(&case);
+        match case.expected {
+            Expected::PairEntry(Ok(it)) => lumps.insert((0, number(Some(it.file)))),
+            Expected::PairEntry(Err(it)) => lumps.insert((it.refusal.number, number(it.file))),
+            Expected::PairMap(Ok(it)) => maps.insert((0, number(Some(it.file)))),
+            Expected::PairMap(Err(it)) => maps.insert((it.refusal.number, number(it.file))),
+            _ => false,
+        };
+    }
+    let in_both = |numbers: Vec<u32>| numbers.into_iter().flat_map(|number| [(number, 1), (number, 2)]);
+    assert_eq!(lumps, in_both((0..=6).collect()).chain([(11, 0)]).collect());
+    let of_maps = (0..=6).chain([12]).chain(20..=28).chain(30..=32).collect();
+    assert_eq!(maps, in_both(of_maps).chain([(10, 0), (11, 0)]).collect());
 }
 
 #[test]
