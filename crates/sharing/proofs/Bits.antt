@@ -46,26 +46,28 @@ bit-set (suc i) (suc j) b =
     ∙ bit-set i j (b / 2) ∙ rw (eqb·suc-suc j i, bit-more b j)
 
 -- words of one byte are the same where their bits are
-same-bit : (w v : ℕ) → w / 8 ≡ v / 8 → eqb (w % 8) (v % 8) ≡ eqb w v
+same-bit : (w v : ℕ) → w % 8192 ≡ v % 8192 → eqb (w / 8192) (v / 8192) ≡ eqb w v
 same-bit w v e = by (eqb w v) refl
   where
-    by : (b : Bool) → eqb w v ≡ b → eqb (w % 8) (v % 8) ≡ b
-    by true h = rw (eqb-true w v h) (eq-eqb (v % 8) (v % 8) refl)
-    by false h = let n = eqb-false w v h in ne-eqb (w % 8) (v % 8) (λ (k : w % 8 ≡ v % 8). n (omega arith))
+    by : (b : Bool) → eqb w v ≡ b → eqb (w / 8192) (v / 8192) ≡ b
+    by true h = rw (eqb-true w v h) (eq-eqb (v / 8192) (v / 8192) refl)
+    by false h =
+        let n = eqb-false w v h in
+        ne-eqb (w / 8192) (v / 8192) (λ (k : w / 8192 ≡ v / 8192). n (omega arith))
 
 -- noting a word changes what is noted of that one alone
-pub note-more : (seen : List ℕ) (v w : ℕ) → v / 8 < length seen → isNoted (withNote seen v) w ≡ (eqb w v || isNoted seen w)
-note-more seen v w h = by (eqb (w / 8) (v / 8)) refl
+pub note-more : (seen : List ℕ) (v w : ℕ) → v % 8192 < length seen → isNoted (withNote seen v) w ≡ (eqb w v || isNoted seen w)
+note-more seen v w h = by (eqb (w % 8192) (v % 8192)) refl
   where
-    by : (b : Bool) → eqb (w / 8) (v / 8) ≡ b → isNoted (withNote seen v) w ≡ (eqb w v || isNoted seen w)
+    by : (b : Bool) → eqb (w % 8192) (v % 8192) ≡ b → isNoted (withNote seen v) w ≡ (eqb w v || isNoted seen w)
     by true e =
-        let k = eqb-true (w / 8) (v / 8) e in
-        rw (k, getD-set-same seen (v / 8) (withBit (getD seen (v / 8) 0) (v % 8)) 0 h, ← same-bit w v k)
-        (bit-set (v % 8) (w % 8) (getD seen (v / 8) 0))
+        let k = eqb-true (w % 8192) (v % 8192) e in
+        rw (k, getD-set-same seen (v % 8192) (withBit (getD seen (v % 8192) 0) (v / 8192)) 0 h, ← same-bit w v k)
+        (bit-set (v / 8192) (w / 8192) (getD seen (v % 8192) 0))
     by false e =
-        let k = eqb-false (w / 8) (v / 8) e in
-        let n : w ≡ v → ⊥ = λ (q : w ≡ v). k (ap (λ (x : ℕ). x / 8) q) in
-        rw (getD-set-other seen (v / 8) (w / 8) (withBit (getD seen (v / 8) 0) (v % 8)) 0 k, ne-eqb w v n)
+        let k = eqb-false (w % 8192) (v % 8192) e in
+        let n : w ≡ v → ⊥ = λ (q : w ≡ v). k (ap (λ (x : ℕ). x % 8192) q) in
+        rw (getD-set-other seen (v % 8192) (w % 8192) (withBit (getD seen (v % 8192) 0) (v / 8192)) 0 k, ne-eqb w v n)
 
 pub length-note : (seen : List ℕ) (v : ℕ) → length (withNote seen v) ≡ length seen
-length-note seen v = length-set seen (v / 8) (withBit (getD seen (v / 8) 0) (v % 8))
+length-note seen v = length-set seen (v % 8192) (withBit (getD seen (v % 8192) 0) (v / 8192))

@@ -22,7 +22,7 @@ use Rattle.sharing.proofs.Bits.{note-more, length-note, bit-zero}
 abbrev Noted : List ℕ → List ℕ → Type 0
 Noted seen xs = (w : ℕ) → w < 65536 → isNoted seen w ≡ member w xs
 
-noted-more : (seen xs : List ℕ) (v : ℕ) → v / 8 < length seen → Noted seen xs → Noted (withNote seen v) (v ∷ xs)
+noted-more : (seen xs : List ℕ) (v : ℕ) → v % 8192 < length seen → Noted seen xs → Noted (withNote seen v) (v ∷ xs)
 noted-more seen xs v h noted w l = note-more seen v w h ∙ ap (λ (b : Bool). eqb w v || b) (noted w l)
 
 module _ (nodes marks : List ℕ) where
@@ -61,7 +61,7 @@ module _ (nodes marks : List ℕ) where
   seen-none =
       record {
         places = length-replicate {A = ℕ} 8192 0;
-        noted = λ w h. rw (children-none, getD-replicate {A = ℕ} 8192 (w / 8) 0 0 (omega arith)) (bit-zero (w % 8));
+        noted = λ w h. rw (children-none, getD-replicate {A = ℕ} 8192 (w % 8192) 0 0 (omega arith)) (bit-zero (w / 8192));
         once = rw children-none;
       }
 

@@ -17,13 +17,14 @@ bitOf byte i = eqb (byte / 2 ^ i % 2) 1
 abbrev pub withBit : ℕ → ℕ → ℕ
 withBit byte i = bitOr byte (2 ^ i)
 
--- a bit for every word, eight to a byte: that of `w` is 1
+-- a bit for every word: that of `w` is 1. Neighbours stand in different bytes, since siblings often are neighbours, and a byte
+-- just written is slow to read.
 abbrev pub isNoted : List ℕ → ℕ → Bool
-isNoted seen w = bitOf (getD seen (w / 8) 0) (w % 8)
+isNoted seen w = bitOf (getD seen (w % 8192) 0) (w / 8192)
 
 -- the bit of `w` set
 abbrev pub withNote : List ℕ → ℕ → List ℕ
-withNote seen w = set seen (w / 8) (withBit (getD seen (w / 8) 0) (w % 8))
+withNote seen w = set seen (w % 8192) (withBit (getD seen (w % 8192) 0) (w / 8192))
 
 -- a bit for every word of 16 bits; 1 stands at the children of the marked nodes below `n`, of which none came twice
 pub record Seen (nodes marks : List ℕ) (n : ℕ) (seen : List ℕ) : Type 0 where

@@ -1,7 +1,7 @@
 // Whether two of a graph's marked nodes, or the two choices at one, lead to the same child (W-202). One look at each child.
 use bsp::Choice;
 ghost use mathlib.Core.Path.{_≡_};
-ghost use Prim.Native.Nat.{_+_, _*_, _/_, _<_, _≤_};
+ghost use Prim.Native.Nat.{_+_, _*_, _<_, _≤_};
 ghost use lib.ListN.{length};
 ghost use Rattle.bsp.specs.Heights.{repeats};
 ghost use Rattle.built.specs.Nodes.{nodeSize};
@@ -53,12 +53,12 @@ fn meets_again(nodes: &[u8], marks: &[u16], seen: &mut [u8], node: usize) -> boo
 
 // Whether the word was seen before. It is from now on.
 fn visit(seen: &mut [u8], word: usize) -> bool
-    requires { ⌜ word / 8 < length (now seen) ⌝ }
+    requires { ⌜ (word < 65536) × (length (now seen) ≡ 8192) ⌝ }
     ensures { λ r. ⌜ r ≡ isNoted (now (seen .entry)) word ⌝ }
     ensures { λ _. ⌜ now (seen .exit) ≡ withNote (now (seen .entry)) word ⌝ }
 {
-    let place = word / 8;
-    let bit = (word % 8) as u8;
+    let place = word % SEEN;
+    let bit = (word / SEEN) as u8;
     let byte = seen[place];
     seen[place] = with_bit(byte, bit);
     bit_of(byte, bit)

@@ -1,5 +1,5 @@
 -- `sharing::visit` meets its contract: the word's bit as it was, and that bit set. Assumes nothing.
-use Prim.Native.Nat.{_/_}
+use Prim.Native.Nat.{_%_}
 use mathlib.Core.Path.{ap}
 use borrow.Author.Needs.{needs}
 use denote.Ref.{now}
@@ -10,7 +10,7 @@ use Rattle.sharing.proofs.visit.Tie as tie
 returns : tie.Need-returns
 returns c =
     let e = c .before .before .before .before .args in
-    (c .bit-of .ensures, ap (set (now (e .seen)) (e .word / 8)) (c .before .with-bit .ensures))
+    (c .bit-of .ensures, ap (set (now (e .seen)) (e .word % 8192)) (c .before .with-bit .ensures))
 
 pub visit-spec : {M : Type 1} → statement M
 visit-spec =
