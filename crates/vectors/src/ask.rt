@@ -2,123 +2,165 @@
 use crate::print;
 use crate::records;
 use crate::script;
+use meshpigeon::files;
+use meshpigeon::maps;
 use meshpigeon::pictures;
 
-// Which question a word names: its place among these.
+// Which question a word names: its place among these. Those from RECORDS on read and write one.
+const RECORDS: usize = 10;
+
 pub(crate) fn number_of(word: &[u8]) -> usize {
     script::place_among(
-        b"base title directory entry marker descend map picture \
-        THINGS LINEDEFS SIDEDEFS VERTEXES SEGS SSECTORS NODES SECTORS ",
+        b"base title directory entry marker game descend map order picture \
+        THINGS THINGS.DH THINGS.HD THINGS.H LINEDEFS LINEDEFS.DH LINEDEFS.HD LINEDEFS.H \
+        SIDEDEFS VERTEXES SEGS SSECTORS NODES SECTORS ",
         word,
     )
 }
 
-pub(crate) fn put(asked: usize, store: &[u8], r: &[usize; 11]) {
-    let with = script::part(store, 0, r[0]);
-    let colour = script::part(store, 65536, r[1]);
-    let cover = script::part(store, 131072, r[2]);
-    let file = script::part(store, script::FILE_START, r[3]);
+pub(crate) fn put(asked: usize, with: &[u8], file: &[u8], word: usize, words: usize) {
     match asked {
         0 | 1 => {}
         2 => directory(file),
         3 => entry(file, with),
         4 => marker(file, with),
-        5 => descend(file, with),
-        6 => map(file, with, r[script::WORD], r[script::WORDS]),
-        7 => picture(file, colour, cover),
-        8..=15 => record(asked - 8, file, with),
+        5 => game(file, with),
+        6 => descend(file, with),
+        7 | 8 => lend_words(asked == 8, file, with, word, words),
+        9 => picture(file, with),
+        RECORDS..=23 => record(asked - RECORDS, file, with),
         _ => print::ill_formed(),
     }
 }
 
 // A number of 32 bits that a question is asked with.
-fn argument(with: &[u8], i: usize) -> u32 {
-    let bytes = wad::part_if(with, i, 4);
+fn argument(with: &[u8], at: usize) -> usize {
+    let bytes = wad::part_if(with, at, 4);
     if bytes.len() == 4 {
-        return endian::u32_at(bytes, 0);
+        return endian::u32_at(bytes, 0) as usize;
     }
     print::ill_formed();
     0
 }
 
+// A coordinate, of which the lowest 16 bits count.
+fn coordinate(with: &[u8], at: usize) -> i16 {
+    endian::signed16((argument(with, at) % 65536) as u16)
+}
+
+// An entry's number has 64 bits.
+fn entry_number(with: &[u8]) -> usize {
+    argument(with, 0) % 4294967296 + 4294967296 * (argument(with, 4) % 4294967296)
+}
+
 fn directory(file: &[u8]) {
-    let a = meshpigeon::files::meshpigeon_directory(file);
-    print::answer(a.status, b" count, start", &[a.count, a.start]);
+    let a = files::meshpigeon_directory(file);
+    print::answer(a.status, a.count, a.start);
 }
 
 // Where an entry lies, after its bytes.
 fn entry(file: &[u8], with: &[u8]) {
-    let number = argument(with, 0) as usize + 4294967296 * (argument(with, 4) as usize);
-    let a = meshpigeon::files::meshpigeon_entry(file, number);
+    let a = files::meshpigeon_entry(file, entry_number(with));
     print::bytes(wad::part_if(file, a.offset, a.size));
-    print::answer(a.status, b" offset, size", &[a.offset, a.size]);
+    print::answer(a.status, a.offset, a.size);
 }
 
 fn marker(file: &[u8], name: &[u8]) {
-    let a = meshpigeon::files::meshpigeon_find_map(file, name);
-    print::answer(a.status, b" entry", &[a.marker]);
-    print::numbers(b" compared", &[a.compared]);
+    let a = files::meshpigeon_find_map(file, name);
+    print::answer(a.status, a.marker, a.compared);
+}
+
+fn game(file: &[u8], with: &[u8]) {
+    let a = maps::meshpigeon_map_game(file, entry_number(with));
+    print::status(a.status);
+    print::flag(a.hexen);
 }
 
 // Asked with the count of subsectors, then x and y.
 fn descend(nodes: &[u8], with: &[u8]) {
-    let x = endian::signed16((argument(with, 4) % 65536) as u16);
-    let y = endian::signed16((argument(with, 8) % 65536) as u16);
-    let a = meshpigeon::maps::meshpigeon_descend(nodes, argument(with, 0) as usize, x, y);
-    print::answer(a.status, b" subsector, count", &[a.subsector, a.count]);
+    let x = coordinate(with, 4);
+    let a = maps::meshpigeon_descend(nodes, argument(with, 0), x, coordinate(with, 8));
+    print::answer(a.status, a.subsector, a.count);
 }
 
-fn map(file: &[u8], name: &[u8], word: usize, count: usize) {
+fn lend_words(order: bool, file: &[u8], with: &[u8], word: usize, count: usize) {
     if 131072 < count {
         return print::ill_formed();
     }
     let mut words = [(word % 65536) as u16; 131072];
-    judge_map(file, name, &mut words[..count]);
+    fill_words(order, file, with, &mut words[..count]);
 }
 
-fn judge_map(file: &[u8], name: &[u8], words: &mut [u16]) {
-    let a = meshpigeon::maps::meshpigeon_judge_map(file, name, words);
-    print::answer(a.status, b" depth, marker", &[a.depth, a.marker]);
-    print::text(b" words");
+fn fill_words(order: bool, file: &[u8], with: &[u8], words: &mut [u16]) {
+    if order {
+        draw_order(file, with, words);
+        return print::words(words);
+    }
+    let a = maps::meshpigeon_judge_map(file, with, words);
+    print::answer(a.status, a.depth, a.marker);
     print::words(words);
 }
 
-// The store is lent as it is, so that what is written is a copy; one of more than 64000 bytes is ill-formed.
-fn plane(bytes: &[u8]) -> [u8; 64000] {
-    let mut copy = [0u8; 64000];
-    script::copy(&mut copy, 0, bytes);
-    copy
+// Asked as a descent is.
+fn draw_order(nodes: &[u8], with: &[u8], words: &mut [u16]) {
+    let x = coordinate(with, 4);
+    let y = coordinate(with, 8);
+    let a = maps::meshpigeon_draw_order(nodes, argument(with, 0), x, y, words);
+    print::status(a.status);
+    print::number(a.count);
+    print::text(b" words");
 }
 
-fn picture(lump: &[u8], colours: &[u8], covers: &[u8]) {
-    let mut colour = plane(colours);
-    let mut cover = plane(covers);
+// Asked with the length of the colour plane, then what both planes hold.
+fn picture(lump: &[u8], with: &[u8]) {
+    let end = script::plus(4, argument(with, 0));
+    let colours = script::part(with, 4, end);
+    let covers = script::part(with, end, with.len());
+    let m = colours.len() % 64001;
     let n = covers.len() % 64001;
-    paint(lump, &mut colour[..colours.len() % 64001], &mut cover[..n]);
+    let mut colour = copied(colours);
+    let mut cover = copied(covers);
+    paint(lump, &mut colour[..m], &mut cover[..n]);
 }
 
+// Judged, painted, and both planes.
 fn paint(lump: &[u8], colour: &mut [u8], cover: &mut [u8]) {
-    answer(b" judge", pictures::meshpigeon_judge_picture(lump));
-    let painted = pictures::meshpigeon_paint_picture(lump, colour, cover);
-    answer(b" paint", painted);
-    print::text(b" colour");
+    picture_answer(pictures::meshpigeon_judge_picture(lump));
+    picture_answer(pictures::meshpigeon_paint_picture(lump, colour, cover));
     print::bytes(colour);
     print::text(b" cover");
     print::bytes(cover);
 }
 
-fn answer(name: &[u8], a: pictures::PictureAnswer) {
-    print::text(name);
+fn picture_answer(a: pictures::PictureAnswer) {
     let p = a.picture;
-    print::answer(a.status, b" width, height", &[p.width, p.height]);
-    print::text(b" left, top");
+    print::answer(a.status, p.width, p.height);
     print::signed(&[p.left, p.top]);
 }
 
-// With an index alone the record is read; with an index and a record's bytes that one is written.
+// With an index alone the record is read from the lump, with an index and its bytes from those. It is written to the index.
 fn record(kind: usize, lump: &[u8], with: &[u8]) {
-    let index = argument(with, 0) as usize;
-    let new = script::part(with, 4, with.len());
-    let mut copy = plane(lump);
-    records::put(kind, &mut copy[..lump.len() % 64001], index, new);
+    let i = argument(with, 0);
+    if with.len() == 4 {
+        return copy_record(kind, lump, i, lump, i);
+    }
+    copy_record(kind, script::part(with, 4, with.len()), 0, lump, i);
+}
+
+fn copy_record(kind: usize, from: &[u8], index: usize, lump: &[u8], i: usize) {
+    let n = lump.len() % 64001;
+    let mut copy = copied(lump);
+    records::put(kind, from, index, &mut copy[..n], i);
+}
+
+// The store is lent as it is, so that a copy is written.
+fn copied(bytes: &[u8]) -> [u8; 64000] {
+    if 64000 < bytes.len() {
+        print::ill_formed();
+    }
+    let mut copy = [0u8; 64000];
+    for i in 0..64000 {
+        copy[i] = script::byte(bytes, i);
+    }
+    copy
 }

@@ -12,14 +12,14 @@ fn main() {
     let mut text = io::large_buffer();
     let n = io::read_full(0, &mut text);
     let mut store = [0u8; STORE];
-    let mut r = [0usize; 11];
+    let mut r = [0usize; 9];
     go_over(&text[..n], &mut store, &mut r);
     if n == 65536 {
         print::ill_formed();
     }
 }
 
-fn go_over(text: &[u8], store: &mut [u8; STORE], r: &mut [usize; 11]) {
+fn go_over(text: &[u8], store: &mut [u8; STORE], r: &mut [usize; 9]) {
     script::lend(text, 0, store, r);
     for _statement in 0..text.len() {
         if r[script::NEXT] < text.len() {
@@ -29,7 +29,7 @@ fn go_over(text: &[u8], store: &mut [u8; STORE], r: &mut [usize; 11]) {
 }
 
 // A question's word, its label, and changes of what the last base lends.
-fn statement(text: &[u8], store: &mut [u8], r: &mut [usize; 11]) {
+fn statement(text: &[u8], store: &mut [u8], r: &mut [usize; 9]) {
     let at = r[script::NEXT];
     let from = script::find(text, at, b'"');
     let to = script::plus(script::find(text, script::plus(from, 1), b'"'), 1);
@@ -39,6 +39,16 @@ fn statement(text: &[u8], store: &mut [u8], r: &mut [usize; 11]) {
         r[script::BASE] = to;
     }
     script::lend_both(text, to, store, r);
-    ask::put(asked, store, r);
+    put(asked, store, r);
+}
+
+fn put(asked: usize, store: &[u8], r: &[usize; 9]) {
+    ask::put(
+        asked,
+        script::part(store, 0, r[0]),
+        script::part(store, script::FILE_START, r[1]),
+        r[script::WORD],
+        r[script::WORDS],
+    );
     print::text(b"\n");
 }

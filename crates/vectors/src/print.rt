@@ -1,4 +1,6 @@
-// Answers as text on standard output.
+// Answers as text on standard output: numbers, each after a space.
+use meshpigeon::status::Status;
+
 pub(crate) fn text(s: &[u8]) {
     io::write_all(1, s);
 }
@@ -7,25 +9,31 @@ pub(crate) fn ill_formed() {
     text(b" ILL-FORMED\n");
 }
 
-fn number(before: &[u8], n: usize) {
-    text(before);
+pub(crate) fn number(n: usize) {
+    text(b" ");
     io::print_decimal(1, n as u64);
 }
 
-// What was answered, or the refusal.
-pub(crate) fn answer(s: meshpigeon::status::Status, names: &[u8], answered: &[usize]) {
-    if s.number == 0 {
-        return numbers(names, answered);
-    }
-    numbers(b" refused", &[s.number as usize]);
-    numbers(b" place, record", &[s.place, s.record]);
+pub(crate) fn flag(b: bool) {
+    number(if b { 1 } else { 0 });
 }
 
-pub(crate) fn numbers(names: &[u8], s: &[usize]) {
-    text(names);
-    for i in 0..s.len() {
-        number(b" ", s[i]);
+// A refusal is its number, place and record.
+pub(crate) fn status(s: Status) {
+    if s.number == 0 {
+        return text(b" pass");
     }
+    text(b" refused");
+    number(s.number as usize);
+    number(s.place);
+    number(s.record);
+}
+
+// A refusal, too, has the other parts of its answer behind it.
+pub(crate) fn answer(s: Status, first: usize, second: usize) {
+    status(s);
+    number(first);
+    number(second);
 }
 
 pub(crate) fn signed(s: &[i16]) {
@@ -37,51 +45,51 @@ pub(crate) fn signed(s: &[i16]) {
 fn signed_number(n: i16) {
     let bits = endian::bits16(n);
     if bits < 32768 {
-        return number(b" ", bits as usize);
+        return number(bits as usize);
     }
-    number(b" -", 65536 - (bits as usize));
+    text(b" -");
+    io::print_decimal(1, 65536 - (bits as u64));
 }
 
-// A row of the same as 0*8.
+// A run of the same is printed as 0*8.
 pub(crate) fn bytes(s: &[u8]) {
+    let mut last: u16 = 0;
     let mut times: usize = 0;
     for i in 0..s.len() {
-        times = row(byte_at(s, i), byte_at(s, i + 1), times);
+        let n = endian::wide(s[i]);
+        times = longer_run(n, last, times);
+        last = n;
     }
+    run(last, times);
 }
 
 pub(crate) fn words(s: &[u16]) {
+    let mut last: u16 = 0;
     let mut times: usize = 0;
     for i in 0..s.len() {
-        times = row(word_at(s, i), word_at(s, i + 1), times);
+        let n = s[i];
+        times = longer_run(n, last, times);
+        last = n;
     }
+    run(last, times);
 }
 
-fn byte_at(s: &[u8], i: usize) -> usize {
-    if i < s.len() { wide(s[i]) } else { 65536 }
-}
-
-fn wide(b: u8) -> usize {
-    b as usize
-}
-
-fn word_at(s: &[u16], i: usize) -> usize {
-    if i < s.len() { wider(s[i]) } else { 65536 }
-}
-
-fn wider(w: u16) -> usize {
-    w as usize
-}
-
-// A number is printed where another comes next; returns how often it stood so far.
-fn row(n: usize, next: usize, before: usize) -> usize {
-    let times = std::num::wrapping_add_usize(before, 1);
-    if n == next {
-        return times;
+// How often a number stood so far, where the last one did so many times; a run that ends is printed.
+fn longer_run(n: u16, last: u16, times: usize) -> usize {
+    if n == last {
+        return std::num::wrapping_add_usize(times, 1);
     }
-    number(b" ", n);
-    if 1 < times {
-        number(b"*", times);
+    run(last, times);
+    1
+}
+
+fn run(n: u16, times: usize) {
+    if times == 0 {
+        return;
     }
-    0
+    number(n as usize);
+    if times != 1 {
+        text(b"*");
+        io::print_decimal(1, times as u64);
+    }
 }

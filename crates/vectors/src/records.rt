@@ -1,112 +1,101 @@
-// The eight kinds of map record, by their places. With a new record's bytes it is written, else the fields are printed in
-// their order.
+// The eight kinds of map record. One is read, its fields are printed, and it is written into a lump, which is printed too.
 use crate::print;
 use meshpigeon::records;
 use meshpigeon::status::Status;
 
-pub(crate) fn put(kind: usize, lump: &mut [u8], i: usize, new: &[u8]) {
-    print::answer(ask(kind, lump, i, new), b" pass", &[]);
-    if new.len() != 0 {
-        print::text(b" bytes");
-        print::bytes(lump);
-    }
+pub(crate) fn put(kind: usize, from: &[u8], index: usize, to: &mut [u8], i: usize) {
+    print::status(write(kind, from, index, to, i));
+    print::bytes(to);
 }
 
-fn ask(kind: usize, lump: &mut [u8], i: usize, new: &[u8]) -> Status {
+// Things and linedefs have four kinds each: read as Doom's or, the later two, as Hexen's; written as Doom's or, the second of
+// two, as Hexen's.
+fn write(kind: usize, from: &[u8], index: usize, to: &mut [u8], i: usize) -> Status {
     match kind {
-        0 => thing(lump, i, new),
-        1 => linedef(lump, i, new),
-        2 => sidedef(lump, i, new),
-        3 => vertex(lump, i, new),
-        4 => seg(lump, i, new),
-        5 => subsector(lump, i, new),
-        6 => node(lump, i, new),
-        _ => sector(lump, i, new),
+        0..=3 => thing(kind, from, index, to, i),
+        4..=7 => linedef(kind - 4, from, index, to, i),
+        8 => sidedef(from, index, to, i),
+        9 => vertex(from, index, to, i),
+        10 => seg(from, index, to, i),
+        11 => subsector(from, index, to, i),
+        12 => node(from, index, to, i),
+        _ => sector(from, index, to, i),
     }
 }
 
-fn thing(lump: &mut [u8], i: usize, new: &[u8]) -> Status {
-    if new.len() == record::Thing::SIZE {
-        return records::meshpigeon_write_thing(lump, i, record::Thing::parse(new, false));
-    }
-    let a = records::meshpigeon_read_thing(lump, i, false);
-    print::signed(&[a.thing.x, a.thing.y]);
-    print::words(&[a.thing.angle, a.thing.kind, a.thing.flags]);
-    a.status
+fn thing(games: usize, from: &[u8], index: usize, to: &mut [u8], i: usize) -> Status {
+    let a = records::meshpigeon_read_thing(from, index, 2 <= games);
+    let mut t = a.thing;
+    print::signed(&[t.id, t.x, t.y, t.height]);
+    print::words(&[t.angle, t.kind, t.flags, t.action as u16]);
+    print::bytes(&t.args);
+    print::flag(t.hexen);
+    print::status(a.status);
+    t.hexen = games % 2 == 1;
+    records::meshpigeon_write_thing(to, i, t)
 }
 
-fn linedef(lump: &mut [u8], i: usize, new: &[u8]) -> Status {
-    if new.len() == record::Linedef::SIZE {
-        return records::meshpigeon_write_linedef(lump, i, record::Linedef::parse(new, false));
-    }
-    let a = records::meshpigeon_read_linedef(lump, i, false);
-    let l = a.linedef;
+fn linedef(games: usize, from: &[u8], index: usize, to: &mut [u8], i: usize) -> Status {
+    let a = records::meshpigeon_read_linedef(from, index, 2 <= games);
+    let mut l = a.linedef;
     print::words(&[l.start, l.end, l.flags, l.special, l.tag, l.right, l.left]);
-    a.status
+    print::bytes(&l.args);
+    print::flag(l.hexen);
+    print::status(a.status);
+    l.hexen = games % 2 == 1;
+    records::meshpigeon_write_linedef(to, i, l)
 }
 
-fn sidedef(lump: &mut [u8], i: usize, new: &[u8]) -> Status {
-    if new.len() == record::Sidedef::SIZE {
-        return records::meshpigeon_write_sidedef(lump, i, record::Sidedef::parse(new));
-    }
-    let a = records::meshpigeon_read_sidedef(lump, i);
+fn sidedef(from: &[u8], index: usize, to: &mut [u8], i: usize) -> Status {
+    let a = records::meshpigeon_read_sidedef(from, index);
     print::signed(&[a.sidedef.x_offset, a.sidedef.y_offset]);
     print::bytes(&a.sidedef.upper);
     print::bytes(&a.sidedef.lower);
     print::bytes(&a.sidedef.middle);
     print::words(&[a.sidedef.sector]);
-    a.status
+    print::status(a.status);
+    records::meshpigeon_write_sidedef(to, i, a.sidedef)
 }
 
-fn vertex(lump: &mut [u8], i: usize, new: &[u8]) -> Status {
-    if new.len() == record::Vertex::SIZE {
-        return records::meshpigeon_write_vertex(lump, i, record::Vertex::parse(new));
-    }
-    let a = records::meshpigeon_read_vertex(lump, i);
+fn vertex(from: &[u8], index: usize, to: &mut [u8], i: usize) -> Status {
+    let a = records::meshpigeon_read_vertex(from, index);
     print::signed(&[a.vertex.x, a.vertex.y]);
-    a.status
+    print::status(a.status);
+    records::meshpigeon_write_vertex(to, i, a.vertex)
 }
 
-fn seg(lump: &mut [u8], i: usize, new: &[u8]) -> Status {
-    if new.len() == built::Seg::SIZE {
-        return records::meshpigeon_write_seg(lump, i, built::Seg::parse(new));
-    }
-    let a = records::meshpigeon_read_seg(lump, i);
+fn seg(from: &[u8], index: usize, to: &mut [u8], i: usize) -> Status {
+    let a = records::meshpigeon_read_seg(from, index);
     let s = a.seg;
     print::words(&[s.start, s.end, s.angle, s.linedef, s.direction]);
     print::signed(&[s.offset]);
-    a.status
+    print::status(a.status);
+    records::meshpigeon_write_seg(to, i, s)
 }
 
-fn subsector(lump: &mut [u8], i: usize, new: &[u8]) -> Status {
-    if new.len() == built::Subsector::SIZE {
-        return records::meshpigeon_write_subsector(lump, i, built::Subsector::parse(new));
-    }
-    let a = records::meshpigeon_read_subsector(lump, i);
+fn subsector(from: &[u8], index: usize, to: &mut [u8], i: usize) -> Status {
+    let a = records::meshpigeon_read_subsector(from, index);
     print::words(&[a.subsector.number, a.subsector.first]);
-    a.status
+    print::status(a.status);
+    records::meshpigeon_write_subsector(to, i, a.subsector)
 }
 
-fn node(lump: &mut [u8], i: usize, new: &[u8]) -> Status {
-    if new.len() == built::Node::SIZE {
-        return records::meshpigeon_write_node(lump, i, built::Node::parse(new));
-    }
-    let a = records::meshpigeon_read_node(lump, i);
+fn node(from: &[u8], index: usize, to: &mut [u8], i: usize) -> Status {
+    let a = records::meshpigeon_read_node(from, index);
     print::signed(&[a.node.x, a.node.y, a.node.dx, a.node.dy]);
     print::signed(&a.node.right_box);
     print::signed(&a.node.left_box);
     print::words(&[a.node.right, a.node.left]);
-    a.status
+    print::status(a.status);
+    records::meshpigeon_write_node(to, i, a.node)
 }
 
-fn sector(lump: &mut [u8], i: usize, new: &[u8]) -> Status {
-    if new.len() == record::Sector::SIZE {
-        return records::meshpigeon_write_sector(lump, i, record::Sector::parse(new));
-    }
-    let a = records::meshpigeon_read_sector(lump, i);
+fn sector(from: &[u8], index: usize, to: &mut [u8], i: usize) -> Status {
+    let a = records::meshpigeon_read_sector(from, index);
     print::signed(&[a.sector.floor, a.sector.ceiling]);
     print::bytes(&a.sector.floor_flat);
     print::bytes(&a.sector.ceiling_flat);
     print::words(&[a.sector.light, a.sector.special, a.sector.tag]);
-    a.status
+    print::status(a.status);
+    records::meshpigeon_write_sector(to, i, a.sector)
 }

@@ -1,26 +1,25 @@
-// The script: what its statements lend is written into one store of four parts, and the registers hold how far each goes.
+// The script: what its statements lend is written into one store of two parts, and the registers hold how far each goes.
 use crate::print;
 
-// The store's parts, each from a multiple of 65536 on: 0 is what is asked with, 1 and 2 are the planes, 3 is the file or lump.
-// Register i is where part i ends.
+// The store's parts: 0 is what is asked with, from 0 on; 1 is the file or lump. Register i is where part i ends.
 pub(crate) const FILE_START: usize = 196608;
 
 // The word that is lent, and how many of it.
-pub(crate) const WORD: usize = 4;
+pub(crate) const WORD: usize = 2;
 
-pub(crate) const WORDS: usize = 5;
+pub(crate) const WORDS: usize = 3;
 
 // Where the last base begins, and where reading goes on.
-pub(crate) const BASE: usize = 6;
+pub(crate) const BASE: usize = 4;
 
-pub(crate) const NEXT: usize = 7;
+pub(crate) const NEXT: usize = 5;
 
 // The part that is written, where writing goes on, and what the next number is for.
-const PART: usize = 8;
+const PART: usize = 6;
 
-const AT: usize = 9;
+const AT: usize = 7;
 
-const USE: usize = 10;
+const USE: usize = 8;
 
 // Past the end every byte is a line's end.
 pub(crate) fn byte(s: &[u8], at: usize) -> u8 {
@@ -31,8 +30,12 @@ pub(crate) fn plus(m: usize, n: usize) -> usize {
     std::num::wrapping_add_usize(m, n)
 }
 
+fn minus(m: usize, n: usize) -> usize {
+    std::num::wrapping_sub_usize(m, n)
+}
+
 pub(crate) fn part(s: &[u8], from: usize, to: usize) -> &[u8] {
-    wad::part_if(s, from, std::num::wrapping_sub_usize(to, from))
+    wad::part_if(s, from, minus(to, from))
 }
 
 // Where a byte stands next, or the line ends.
@@ -64,75 +67,94 @@ pub(crate) fn place_among(names: &[u8], word: &[u8]) -> usize {
 }
 
 // What the last base lends, and then what the statement says from a place on.
-pub(crate) fn lend_both(text: &[u8], from: usize, store: &mut [u8], r: &mut [usize; 11]) {
-    *r = [0, 65536, 131072, FILE_START, 0, 0, r[BASE], 0, 0, 0, 0];
+pub(crate) fn lend_both(text: &[u8], from: usize, store: &mut [u8], r: &mut [usize; 9]) {
+    r[0] = 0;
+    r[1] = FILE_START;
+    r[WORDS] = 0;
     lend(text, r[BASE], store, r);
     lend(text, from, store, r);
 }
 
 // Reads on to the next line that begins with a word.
-pub(crate) fn lend(text: &[u8], from: usize, store: &mut [u8], r: &mut [usize; 11]) {
+pub(crate) fn lend(text: &[u8], from: usize, store: &mut [u8], r: &mut [usize; 9]) {
     r[NEXT] = from;
     for _token in from..text.len() {
         let b = byte(text, r[NEXT]);
-        if (b'A' <= b) & (byte(text, std::num::wrapping_sub_usize(r[NEXT], 1)) == b'\n') {
+        if (b'A' <= b) & (byte(text, minus(r[NEXT], 1)) == b'\n') {
             return;
         }
         token(b, text, store, r);
     }
 }
 
-fn token(b: u8, text: &[u8], store: &mut [u8], r: &mut [usize; 11]) {
+fn token(b: u8, text: &[u8], store: &mut [u8], r: &mut [usize; 9]) {
     let at = r[NEXT];
     r[NEXT] = find(text, at, b' ');
     let token = part(text, at, r[NEXT]);
     match b {
         b' ' | b'\n' => r[NEXT] = plus(at, 1),
         b'#' => r[NEXT] = find(text, at, b'\n'),
-        b'"' => write(part(token, 1, find(token, 1, b'"')), store, r),
+        b'"' => quoted(part(token, 1, token.len()), store, r),
         b'-' | b'0'..=b'9' => number(token, store, r),
         _ => word(token, r),
     }
 }
 
 // A word says which part is written next, or what the next number is for.
-fn word(word: &[u8], r: &mut [usize; 11]) {
-    let place = place_among(b"with colour cover file words at again rise ", word);
-    if place < 4 {
-        r[PART] = place;
-        r[AT] = 65536 * place;
-        r[place] = 65536 * place;
-        return;
+fn word(word: &[u8], r: &mut [usize; 9]) {
+    let place = place_among(b"with file words at again rise ", word);
+    if place < 2 {
+        r[place] = FILE_START * place;
+        go_to(place, FILE_START * place, r);
     }
     r[USE] = place;
-    if place == 8 {
+    if place == 6 {
         print::ill_formed();
     }
 }
 
-// A number, the letter of its width, then * and how many times. It is written, unless a word said what else it is for.
-fn number(token: &[u8], store: &mut [u8], r: &mut [usize; 11]) {
+fn go_to(part: usize, at: usize, r: &mut [usize; 9]) {
+    r[PART] = part;
+    r[AT] = at;
+    if r[part % 2] < at {
+        print::ill_formed();
+    }
+}
+
+// A number, a letter for its width, then * and how many times.
+fn number(token: &[u8], store: &mut [u8], r: &mut [usize; 9]) {
     let star = find(token, 0, b'*');
-    let last = std::num::wrapping_sub_usize(star, 1);
-    let width = match byte(token, last) {
+    let times = sum(part(token, plus(star, 1), token.len()));
+    let width = width_of(byte(token, minus(star, 1)));
+    let digits = part(token, 0, if width == 1 { star } else { minus(star, 1) });
+    use_number(sum(digits), width, times, store, r);
+}
+
+fn width_of(letter: u8) -> usize {
+    match letter {
         b'w' => 2,
         b'd' => 4,
         b'q' => 8,
         _ => 1,
-    };
-    let n = sum(part(token, 0, if width == 1 { star } else { last }));
-    let times = sum(part(token, plus(star, 1), token.len()));
+    }
+}
+
+// It is written, unless a word said what else it is for.
+fn use_number(n: usize, width: usize, times: usize, store: &mut [u8], r: &mut [usize; 9]) {
     let purpose = r[USE];
     r[USE] = 0;
     match purpose {
-        4 => {
+        2 => {
             r[WORD] = n;
             r[WORDS] = times;
         }
-        5 => go_to(n, r),
-        6 => again(n, times, store, r),
-        7 => rise(n, times, store, r[AT]),
-        _ => write_number(n, width, times, store, r),
+        3 => go_to(1, plus(FILE_START, n), r),
+        4 => again(n, times, store, r),
+        5 => rise(n, times, store, r),
+        _ => {
+            write_number(n, width, store, r);
+            again(width, if times == 0 { 0 } else { times - 1 }, store, r);
+        }
     }
 }
 
@@ -150,7 +172,7 @@ fn sum(s: &[u8]) -> usize {
         }
     }
     let n = plus(before, last);
-    if from == 1 { plus(!n, 1) } else { n }
+    if from == 1 { minus(0, n) } else { n }
 }
 
 // A number with one more digit; 16 digits are enough.
@@ -161,80 +183,50 @@ fn longer(n: usize, digit: u8) -> usize {
     10 * (n % 1000000000000000) + (digit % 16) as usize
 }
 
-// Writing goes on at a place of the file.
-fn go_to(n: usize, r: &mut [usize; 11]) {
-    r[PART] = 3;
-    r[AT] = plus(FILE_START, n);
-    if r[3] < r[AT] {
-        print::ill_formed();
+// The lowest byte first. What does not fit the width is ill-formed, but for a negative number's upper bits.
+fn write_number(n: usize, width: usize, store: &mut [u8], r: &mut [usize; 9]) {
+    let mut rest = n;
+    for _byte in 0..width {
+        write((rest % 256) as u8, store, r);
+        rest = rest / 256;
     }
-}
-
-// What does not fit the width is ill-formed, but for a negative number's upper bits.
-fn write_number(n: usize, width: usize, times: usize, store: &mut [u8], r: &mut [usize; 11]) {
-    if (put(store, r[AT], width, n) != 0) & (n < 9223372036854775808) {
+    if (rest != 0) & (n < 9223372036854775808) {
         print::ill_formed();
-    }
-    wrote(plus(r[AT], width), r);
-    if 1 < times {
-        again(width, times - 1, store, r);
     }
 }
 
 // The last n bytes, so many times more.
-fn again(n: usize, times: usize, store: &mut [u8], r: &mut [usize; 11]) {
-    let end = plus(r[AT], (n % 4194304) * (times % 4194304));
-    if store.len() < end {
-        return print::ill_formed();
+fn again(n: usize, times: usize, store: &mut [u8], r: &mut [usize; 9]) {
+    let at = r[AT];
+    for _byte in at..plus(at, (n % 2097152) * (times % 2097152)) {
+        write(byte(store, minus(r[AT], n)), store, r);
     }
-    for i in r[AT]..end {
-        store[i] = byte(store, std::num::wrapping_sub_usize(i, n));
-    }
-    wrote(end, r);
 }
 
 // The words 0, 1, 2 and so on, at each n bytes.
-fn rise(n: usize, times: usize, store: &mut [u8], from: usize) {
-    let mut at = from;
+fn rise(n: usize, times: usize, store: &mut [u8], r: &mut [usize; 9]) {
     for i in 0..times {
-        put(store, at, 2, i);
-        at = plus(at, n);
+        write_number(i, 2, store, r);
+        r[AT] = plus(r[AT], minus(n, 2));
     }
 }
 
-// Writes the lowest bytes, and returns what is left of the number.
-fn put(store: &mut [u8], at: usize, width: usize, bits: usize) -> usize {
-    let mut rest = bits;
-    for i in 0..width {
-        set(store, plus(at, i), (rest % 256) as u8);
-        rest = rest / 256;
-    }
-    rest
-}
-
-fn write(bytes: &[u8], store: &mut [u8], r: &mut [usize; 11]) {
-    copy(store, r[AT], bytes);
-    wrote(plus(r[AT], bytes.len()), r);
-}
-
-pub(crate) fn copy(store: &mut [u8], at: usize, bytes: &[u8]) {
-    for i in 0..bytes.len() {
-        set(store, plus(at, i), bytes[i]);
+fn quoted(s: &[u8], store: &mut [u8], r: &mut [usize; 9]) {
+    for i in 0..find(s, 0, b'"') {
+        write(byte(s, i), store, r);
     }
 }
 
-fn set(store: &mut [u8], at: usize, b: u8) {
+// Writing goes on there, and so does the part, unless it was longer already.
+fn write(b: u8, store: &mut [u8], r: &mut [usize; 9]) {
+    let at = r[AT];
     if store.len() <= at {
         return print::ill_formed();
     }
     store[at] = b;
-}
-
-// Writing goes on there, and so does the part, unless it was longer already.
-fn wrote(end: usize, r: &mut [usize; 11]) {
-    let part = r[PART] % 4;
-    r[AT] = end;
-    if r[part] < end {
-        r[part] = end;
+    r[AT] = plus(at, 1);
+    let part = r[PART] % 2;
+    if r[part] <= at {
+        r[part] = plus(at, 1);
     }
 }

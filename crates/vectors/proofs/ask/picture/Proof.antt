@@ -9,11 +9,15 @@ pub picture-spec : {M : Type 1} → statement M
 picture-spec =
     tie.close
     (tie.spec
-    (λ c κs. search needs)
-    (λ c κs. search needs)
+    (λ c. search needs)
+    (λ c. search needs)
+    (λ c. search needs)
+    (λ c. search needs)
+    (λ c. search needs)
+    (λ c. search needs)
     (λ c. search needs)
     (λ c. sym (length-take-le _ _ (search needs)))
     (λ c. search needs)
     (λ c. sym (length-take-le _ _ (search needs)))
-    (λ c κs. search needs)
+    (λ c. search needs)
     (λ c. search needs))

@@ -7,10 +7,10 @@ use Rattle.vectors.proofs.print.words.Statement.{statement}
 use Rattle.vectors.proofs.print.words.Tie as tie
 
 abbrev Inv-loop : tie.InvT-loop
-Inv-loop s times₀ i₀ i-end times i = i-end ≡ length s
+Inv-loop s last₀ times₀ i₀ i-end last times i = i-end ≡ length s
 
 abbrev μ-loop : tie.MeasureT-loop
-μ-loop s times₀ i₀ i-end times i = length s - i
+μ-loop s last₀ times₀ i₀ i-end last times i = length s - i
 
 pub words-spec : {M : Type 1} → statement M
 words-spec =
@@ -19,11 +19,11 @@ words-spec =
     Inv-loop
     μ-loop
     (λ c. search needs)
+    (λ c. search needs)
+    (λ c. search needs)
     (λ c κs. search needs)
     (λ c. search needs)
+    (λ c. search needs)
+    (λ c. search needs)
     (λ c κs. search needs)
-    (λ c κs. search needs)
-    (λ c. search needs)
-    (λ c. search needs)
-    (λ c. search needs)
     (λ c. search needs))

@@ -1,4 +1,4 @@
--- `vectors::script::again` ends: the measure is what is left of the range. Assumes nothing.
+-- `vectors::script::again` ends: the measure is how many bytes are left. Assumes nothing.
 use Prim.Native.Nat.{_-_}
 use mathlib.Core.Path.{_≡_}
 use borrow.Author.Needs.{needs, scaled-fits}
@@ -8,10 +8,10 @@ use Rattle.vectors.proofs.script.again.Statement.{statement}
 use Rattle.vectors.proofs.script.again.Tie as tie
 
 abbrev Inv-loop : tie.InvT-loop
-Inv-loop n times store₀ r end i₀ store i = length store ≡ length store₀
+Inv-loop n times store₀ r₀ at -byte₀ -byte-end store r -byte = length store ≡ length store₀
 
 abbrev μ-loop : tie.MeasureT-loop
-μ-loop n times store₀ r end i₀ store i = end - i
+μ-loop n times store₀ r₀ at -byte₀ -byte-end store r -byte = -byte-end - -byte
 
 pub again-spec : {M : Type 1} → statement M
 again-spec =
@@ -20,18 +20,15 @@ again-spec =
     Inv-loop
     μ-loop
     (λ c. search needs)
-    (λ c. scaled-fits _ 4194304 _ (omega arith) (omega arith))
-    (λ c κs. search needs)
-    (λ c κs. search needs)
-    (λ c. search needs)
-    (λ c. search needs)
-    (λ c. search needs)
-    (λ c κs. search needs)
+    (λ c. scaled-fits _ 2097152 _ (omega arith) (omega arith))
     (λ c κs. search needs)
     (λ c. search needs)
     (λ c. search needs)
-    (λ c. search needs)
-    (λ c. search needs)
     (λ c κs. search needs)
+    (λ c κs. search needs)
+    (λ c κs. search needs)
+    (λ c. search needs)
+    (λ c. search needs)
+    (λ c. search needs)
     (λ c. search needs)
     (λ c. search needs))

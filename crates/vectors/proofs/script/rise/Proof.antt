@@ -7,10 +7,10 @@ use Rattle.vectors.proofs.script.rise.Statement.{statement}
 use Rattle.vectors.proofs.script.rise.Tie as tie
 
 abbrev Inv-loop : tie.InvT-loop
-Inv-loop n times store₀ from at₀ i₀ store at i = length store ≡ length store₀
+Inv-loop n times store₀ r₀ i₀ store r i = length store ≡ length store₀
 
 abbrev μ-loop : tie.MeasureT-loop
-μ-loop n times store₀ from at₀ i₀ store at i = times - i
+μ-loop n times store₀ r₀ i₀ store r i = times - i
 
 pub rise-spec : {M : Type 1} → statement M
 rise-spec =
@@ -20,7 +20,10 @@ rise-spec =
     μ-loop
     (λ c. search needs)
     (λ c κs. search needs)
+    (λ c. search needs)
     (λ c κs. search needs)
+    (λ c κs. search needs)
+    (λ c. search needs)
     (λ c. search needs)
     (λ c. search needs)
     (λ c. search needs)
