@@ -93,10 +93,13 @@ fn lend_words(order: bool, file: &[u8], with: &[u8], word: usize, count: usize) 
 
 fn fill_words(order: bool, file: &[u8], with: &[u8], words: &mut [u16]) {
     if order {
-        draw_order(file, with, words);
-        return print::words(words);
+        return draw_order(file, with, words);
     }
-    let a = maps::meshpigeon_judge_map(file, with, words);
+    judge_map(file, with, words);
+}
+
+fn judge_map(file: &[u8], name: &[u8], words: &mut [u16]) {
+    let a = maps::meshpigeon_judge_map(file, name, words);
     print::answer(a.status, a.depth, a.marker);
     print::words(words);
 }
@@ -108,7 +111,7 @@ fn draw_order(nodes: &[u8], with: &[u8], words: &mut [u16]) {
     let a = maps::meshpigeon_draw_order(nodes, argument(with, 0), x, y, words);
     print::status(a.status);
     print::number(a.count);
-    print::text(b" words");
+    print::words(words);
 }
 
 // Asked with the length of the colour plane, then what both planes hold.

@@ -48,20 +48,22 @@ fn linedef(games: usize, from: &[u8], index: usize, to: &mut [u8], i: usize) -> 
 
 fn sidedef(from: &[u8], index: usize, to: &mut [u8], i: usize) -> Status {
     let a = records::meshpigeon_read_sidedef(from, index);
-    print::signed(&[a.sidedef.x_offset, a.sidedef.y_offset]);
-    print::bytes(&a.sidedef.upper);
-    print::bytes(&a.sidedef.lower);
-    print::bytes(&a.sidedef.middle);
-    print::words(&[a.sidedef.sector]);
+    let s = a.sidedef;
+    print::signed(&[s.x_offset, s.y_offset]);
+    print::bytes(&s.upper);
+    print::bytes(&s.lower);
+    print::bytes(&s.middle);
+    print::words(&[s.sector]);
     print::status(a.status);
-    records::meshpigeon_write_sidedef(to, i, a.sidedef)
+    records::meshpigeon_write_sidedef(to, i, s)
 }
 
 fn vertex(from: &[u8], index: usize, to: &mut [u8], i: usize) -> Status {
     let a = records::meshpigeon_read_vertex(from, index);
-    print::signed(&[a.vertex.x, a.vertex.y]);
+    let v = a.vertex;
+    print::signed(&[v.x, v.y]);
     print::status(a.status);
-    records::meshpigeon_write_vertex(to, i, a.vertex)
+    records::meshpigeon_write_vertex(to, i, v)
 }
 
 fn seg(from: &[u8], index: usize, to: &mut [u8], i: usize) -> Status {
@@ -75,27 +77,30 @@ fn seg(from: &[u8], index: usize, to: &mut [u8], i: usize) -> Status {
 
 fn subsector(from: &[u8], index: usize, to: &mut [u8], i: usize) -> Status {
     let a = records::meshpigeon_read_subsector(from, index);
-    print::words(&[a.subsector.number, a.subsector.first]);
+    let s = a.subsector;
+    print::words(&[s.number, s.first]);
     print::status(a.status);
-    records::meshpigeon_write_subsector(to, i, a.subsector)
+    records::meshpigeon_write_subsector(to, i, s)
 }
 
 fn node(from: &[u8], index: usize, to: &mut [u8], i: usize) -> Status {
     let a = records::meshpigeon_read_node(from, index);
-    print::signed(&[a.node.x, a.node.y, a.node.dx, a.node.dy]);
-    print::signed(&a.node.right_box);
-    print::signed(&a.node.left_box);
-    print::words(&[a.node.right, a.node.left]);
+    let n = a.node;
+    print::signed(&[n.x, n.y, n.dx, n.dy]);
+    print::signed(&n.right_box);
+    print::signed(&n.left_box);
+    print::words(&[n.right, n.left]);
     print::status(a.status);
-    records::meshpigeon_write_node(to, i, a.node)
+    records::meshpigeon_write_node(to, i, n)
 }
 
 fn sector(from: &[u8], index: usize, to: &mut [u8], i: usize) -> Status {
     let a = records::meshpigeon_read_sector(from, index);
-    print::signed(&[a.sector.floor, a.sector.ceiling]);
-    print::bytes(&a.sector.floor_flat);
-    print::bytes(&a.sector.ceiling_flat);
-    print::words(&[a.sector.light, a.sector.special, a.sector.tag]);
+    let s = a.sector;
+    print::signed(&[s.floor, s.ceiling]);
+    print::bytes(&s.floor_flat);
+    print::bytes(&s.ceiling_flat);
+    print::words(&[s.light, s.special, s.tag]);
     print::status(a.status);
-    records::meshpigeon_write_sector(to, i, a.sector)
+    records::meshpigeon_write_sector(to, i, s)
 }

@@ -151,10 +151,7 @@ fn use_number(n: usize, width: usize, times: usize, store: &mut [u8], r: &mut [u
         3 => go_to(1, plus(FILE_START, n), r),
         4 => again(n, times, store, r),
         5 => rise(n, times, store, r),
-        _ => {
-            write_number(n, width, store, r);
-            again(width, if times == 0 { 0 } else { times - 1 }, store, r);
-        }
+        _ => write_times(n, width, times, store, r),
     }
 }
 
@@ -181,6 +178,13 @@ fn longer(n: usize, digit: u8) -> usize {
         print::ill_formed();
     }
     10 * (n % 1000000000000000) + (digit % 16) as usize
+}
+
+fn write_times(n: usize, width: usize, times: usize, store: &mut [u8], r: &mut [usize; 9]) {
+    write_number(n, width, store, r);
+    if 1 < times {
+        again(width, times - 1, store, r);
+    }
 }
 
 // The lowest byte first. What does not fit the width is ill-formed, but for a negative number's upper bits.
