@@ -248,6 +248,13 @@ pub fn deep_doublings(nodes: usize) -> Vec<u8> {
     encode(&(0..nodes).map(children).map(node).collect::<Vec<_>>())
 }
 
+/// A NODES lump of `nodes` nodes, each with both children the next: 2 to the power `nodes` ways down.
+pub fn double_nodes(nodes: usize) -> Vec<u8> {
+    let child = |at: usize| at.checked_sub(1).map_or(SUBSECTOR_BIT, |below| below as u16);
+    let node = |at: usize| Node { dy: 64, right: child(at), left: child(at), ..Node::default() };
+    encode(&(0..nodes).map(node).collect::<Vec<_>>())
+}
+
 /// A NODES lump that is a chain of `nodes` nodes, always on the near side of a point in the east.
 pub fn deep_chain(nodes: usize) -> Vec<u8> {
     let child = |at: usize| at.checked_sub(1).map_or(SUBSECTOR_BIT, |below| below as u16);

@@ -77,6 +77,7 @@ fn pairs_are_an_ordinary_one_and_one_searched_in_vain() {
 fn hostile_draw_orders_are_refused_for_their_length_and_their_depth() {
     let number = |nodes: &[u8]| draw_order(nodes, 32_767, 1, 0, &mut vec![7; 32_768]).map_err(|refusal| refusal.number);
     assert_eq!([deep_doublings(300), deep_doublings(32_767)].map(|nodes| number(&nodes)), [Err(46); 2]);
+    assert_eq!([double_nodes(30), double_nodes(32_767)].map(|nodes| number(&nodes)), [Err(46), Err(44)]);
     assert_eq!([deep_chain(256), deep_chain(257), deep_chain(32_767)].map(|nodes| number(&nodes)), [Ok(257), Err(44), Err(44)]);
     assert_eq!([halving_nodes(14), mixed_nodes(14)].map(|nodes| number(&nodes)), [Ok(16_384); 2]);
 }

@@ -56,6 +56,8 @@ pub enum Command {
         x: i16,
         /// The point, northward.
         y: i16,
+        /// Where they are drawn, if they are.
+        output: Option<OsString>,
     },
     /// Write a picture lump as PNG.
     Picture {
@@ -178,7 +180,7 @@ fn fits(command: &OsStr, parts: &Parts) -> Result<(), Misuse> {
         "--map"
     } else if parts.base.is_some() && !takes(&["judge", "picture"]) {
         "--base"
-    } else if parts.output.is_some() && !takes(&["picture"]) {
+    } else if parts.output.is_some() && !takes(&["order", "picture"]) {
         "-o"
     } else if parts.quiet && !takes(&["judge", "picture"]) {
         "--quiet"
@@ -219,7 +221,7 @@ fn descend(parts: &Parts) -> Result<Command, Misuse> {
 fn order(parts: &Parts) -> Result<Command, Misuse> {
     let [file, map, x, y] = words(parts, "order needs FILE MAP X Y")?;
     let (x, y) = (coordinate(&x)?, coordinate(&y)?);
-    Ok(Command::Order { file, map, x, y })
+    Ok(Command::Order { file, map, x, y, output: parts.output.clone() })
 }
 
 fn picture(parts: &Parts) -> Result<Command, Misuse> {

@@ -15,10 +15,12 @@ mod judge;
 mod list;
 mod name;
 mod order;
+mod output;
 mod pair;
 mod picture;
 mod png;
 mod report;
+mod svg;
 mod verdict;
 mod wad;
 
@@ -49,7 +51,7 @@ fn run(request: &Request, report: &mut Report) {
         Command::Judge { files, base, maps } => judge::run(files, base.as_deref(), maps, report),
         Command::List { file } => list::run(file, report),
         Command::Descend { file, map, x, y } => descend::run(file, map, (*x, *y), report),
-        Command::Order { file, map, x, y } => order::run(file, map, (*x, *y), report),
+        Command::Order { file, map, x, y, output } => order::run(file, map, (*x, *y), output.as_deref(), report),
         Command::Picture { file, base, lump, output } => picture::run(file, base.as_deref(), lump, output, report),
     }
 }

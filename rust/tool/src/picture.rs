@@ -3,14 +3,13 @@
 use crate::finding::Finding;
 use crate::json::Object;
 use crate::name::{self, shown};
+use crate::output::{is_same, put};
 use crate::pair::{Base, Opened};
 use crate::png;
 use crate::report::Report;
 use crate::verdict::{Outcome, Source, Subject, Verdict};
 use meshpigeon::Picture;
 use std::ffi::OsStr;
-use std::fs;
-use std::os::unix::fs::MetadataExt;
 
 /// Pixels of the largest picture.
 const MOST_PIXELS: usize = 320 * 200;
@@ -48,15 +47,6 @@ pub fn run(file: &OsStr, base: Option<&OsStr>, lump: &OsStr, output: &OsStr, rep
     }
 }
 
-/// Whether both names lead to one file, by whatever links; `-` is none.
-fn is_same(file: &OsStr, output: &OsStr) -> bool {
-    if file == "-" || output == "-" {
-        return false;
-    }
-    let identity = |name| fs::metadata(name).map(|it| (it.dev(), it.ino()));
-    matches!((identity(file), identity(output)), (Ok(file), Ok(output)) if file == output)
-}
-
 /// The first palette of file or pair, or greys.
 fn palette(opened: &Opened) -> Vec<u8> {
     let own = opened.lump(PLAYPAL).and_then(|(_, lump)| lump.get(..PALETTE));
@@ -70,17 +60,6 @@ fn pixels(colour: &[u8], cover: &[u8], palette: &[u8]) -> Vec<[u8; 4]> {
         _ => [0; 4],
     };
     colour.iter().zip(cover).map(pixel).collect()
-}
-
-/// Writes the PNG, and then tells of it unless it went to standard output itself.
-fn put(bytes: &[u8], output: &OsStr, report: &mut Report, tell: impl FnOnce(&mut Report)) {
-    if output == "-" {
-        return report.bytes(bytes);
-    }
-    match fs::write(output, bytes) {
-        Ok(()) => tell(report),
-        Err(error) => report.trouble(output, &error.to_string()),
-    }
 }
 
 fn tell(file: &str, name: &str, source: Source, picture: Picture, output: &OsStr, report: &mut Report) {

@@ -227,8 +227,27 @@ fn inputs() -> Vec<Input> {
             reader: reader_order,
         },
         Input {
+            name: "thirty doublings, drawn (46)",
+            sized: |n| given::double_nodes(30 * n / 4),
+            library: library_order,
+            reader: reader_order,
+        },
+        Input {
+            name: "32,767 doublings, drawn (44)",
+            sized: |n| given::double_nodes(32_767 * n / 4),
+            library: library_order,
+            reader: reader_order,
+        },
+        Input {
             name: "deep doublings, drawn (46)",
             sized: |n| given::deep_doublings(32_767 * n / 4),
+            library: library_order,
+            reader: reader_order,
+        },
+        Input { name: "chain of 256, drawn", sized: |n| given::deep_chain(64 * n), library: library_order, reader: reader_order },
+        Input {
+            name: "chain of 257, drawn (44)",
+            sized: |n| given::deep_chain(257 * n / 4),
             library: library_order,
             reader: reader_order,
         },

@@ -38,10 +38,12 @@ fn a_map_without_nodes_is_one_subsector() {
 #[test]
 fn the_answer_is_an_object_too() {
     let folder = Folder::with("a.wad", &good());
-    let line = r#"{"file":"a.wad","map":"MAP01","number":0,"x":300,"y":-1,"count":4,"subsectors":[1,0,2,3]}"#;
+    let line = r#"{"file":"a.wad","map":"MAP01","number":0,"x":300,"y":-1,"count":4,"subsectors":[1,0,2,3],"output":null}"#;
     folder.run(&["order", "a.wad", "MAP01", "300", "-1", "--json"]).is(0, &[line]);
     let list = [1, 0, 2, 3].map(Value::Number).into();
-    assert_eq!(object(line).pop(), Some(("subsectors".to_string(), Value::List(list))));
+    assert_eq!(object(line).iter().rev().nth(1), Some(&("subsectors".to_string(), Value::List(list))));
+    let line = line.replace("null", "\"a.svg\"");
+    folder.run(&["order", "a.wad", "MAP01", "300", "-1", "-o", "a.svg", "--json"]).is(0, &[&line]);
 }
 
 #[test]
@@ -100,4 +102,62 @@ fn the_rest_of_the_map_may_be_bad_but_its_lumps_must_be_there() {
     let said = folder.run(&["order", "a.wad", "E1M1", "0", "0", "--json"]);
     assert!(said.out.contains(r#""map":"E1M1","number":11,"#), "{said:?}");
     assert_eq!(said.status, 1);
+}
+
+/// The titles of a picture's subsectors, in the order in which they are drawn.
+fn titles(svg: &str) -> Vec<&str> {
+    svg.split("<title>").skip(1).filter_map(|it| it.split_once("</title>")).map(|(title, _)| title).collect()
+}
+
+#[test]
+fn a_picture_is_drawn_from_far_to_near() {
+    let folder = Folder::with("a.wad", &good());
+    let line = "a.wad:MAP01: from (300, 0) 4 subsectors, front first: 1 0 2 3, drawn to a.svg";
+    folder.run(&["order", "a.wad", "MAP01", "300", "0", "-o", "a.svg"]).is(0, &[line]);
+    let svg = std::fs::read_to_string(folder.file("a.svg")).expect("the picture");
+    let far = ["subsector 3, 4 of 4", "subsector 2, 3 of 4", "subsector 0, 2 of 4", "subsector 1, 1 of 4", "the point"];
+    assert_eq!(titles(&svg), far);
+    assert!(
+        svg.contains(r##"stroke="#a50026""##) && svg.contains(r##"stroke="#abd9e9""##),
+        "near and far have their shades: {svg}"
+    );
+    assert!(
+        svg.contains(r#"d="M256 0L256 -256M256 -256L512 -256M512 -256L512 0M512 0L256 0"><title>subsector 1,"#),
+        "north is up: {svg}"
+    );
+    assert!(svg.contains(r#"<circle cx="300" cy="0""#), "{svg}");
+    let said = folder.run(&["order", "a.wad", "MAP01", "300", "0", "-o", "-"]);
+    assert_eq!((said.status, said.out), (0, svg));
+}
+
+#[test]
+fn no_picture_of_a_refused_list_and_none_over_its_file() {
+    let bad = changed(|map| map.nodes[1].right = 3);
+    let folder = Folder::with("a.wad", &bad);
+    assert_eq!(folder.run(&["order", "a.wad", "MAP01", "0", "0", "-o", "a.svg"]).status, 1);
+    assert_eq!(folder.run(&["order", "a.wad", "MAP01", "0", "0", "-o", "a.wad"]).status, 3);
+    assert_eq!(folder.run(&["order", "a.wad", "MAP01", "0", "0", "-o", "none/a.svg"]).status, 1);
+    assert_eq!((folder.names(), std::fs::read(folder.file("a.wad")).expect("the file")), (vec!["a.wad".to_string()], bad));
+    let folder = Folder::with("a.wad", &good());
+    assert_eq!(folder.run(&["order", "a.wad", "MAP01", "0", "0", "-o", "none/a.svg"]).status, 2);
+}
+
+#[test]
+fn a_seg_that_many_subsectors_have_is_drawn_once_and_a_line_without_its_vertex_not_at_all() {
+    let wad = changed(|map| {
+        map.subsectors.iter_mut().for_each(|it| (it.first, it.number) = (0, 16));
+        map.segs[3].end = 500;
+        map.linedefs[0].start = 500;
+    });
+    let said = Folder::with("a.wad", &wad).run(&["order", "a.wad", "MAP01", "300", "0", "-o", "-"]);
+    let lines: Vec<usize> = said.out.lines().filter(|it| it.starts_with("<path")).map(|it| it.matches('L').count()).collect();
+    assert_eq!((lines, said.status), (vec![12, 0, 0, 0, 15], 0), "{}", said.out);
+}
+
+#[test]
+fn a_map_of_hexen_is_drawn() {
+    let folder = Folder::with("a.wad", &Plan::wad_of(hexen_rooms()));
+    let hexen = folder.run(&["order", "a.wad", "MAP01", "300", "0", "-o", "-"]).out;
+    let doom = Folder::with("a.wad", &good()).run(&["order", "a.wad", "MAP01", "300", "0", "-o", "-"]).out;
+    assert_eq!(hexen, doom, "the same rooms");
 }
