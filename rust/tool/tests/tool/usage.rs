@@ -47,7 +47,7 @@ fn each_command_has_its_options() {
     misused(&["list", "a.wad", "--quiet"], "list does not take --quiet");
     misused(&["descend", "a.wad", "MAP01", "0", "0", "-q"], "descend does not take --quiet");
     misused(&["order", "a.wad", "MAP01", "0", "0", "-q"], "order does not take --quiet");
-    misused(&["order", "a.wad", "MAP01", "0", "0", "-o", "b"], "order does not take -o");
+    misused(&["descend", "a.wad", "MAP01", "0", "0", "-o", "b"], "descend does not take -o");
     misused(&["list", "a.wad", "--base", "a.wad"], "list does not take --base");
     misused(&["descend", "a.wad", "MAP01", "0", "0", "--base", "a.wad"], "descend does not take --base");
     misused(&["order", "a.wad", "MAP01", "0", "0", "--base", "a.wad"], "order does not take --base");
