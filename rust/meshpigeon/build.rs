@@ -1,4 +1,4 @@
-//! Tells cargo where the proved library is: `MESHPIGEON_LIB_DIR`, else the place where `rt staticlib meshpigeon` writes it.
+//! Tells cargo where the proved library is: `MESHPIGEON_LIB_DIR`, else the place where scripts/prove writes it.
 
 use std::env;
 use std::path::PathBuf;

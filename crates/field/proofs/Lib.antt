@@ -4,3 +4,4 @@ pub mod FieldRows
 pub mod Fields
 pub mod Records
 pub mod Lossless
+pub mod Games

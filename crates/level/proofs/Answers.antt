@@ -5,10 +5,9 @@ use mathlib.Core.Bool.{Bool, true, false}
 use mathlib.Core.List.{List}
 use mathlib.Core.Path.{_≡_, refl, sym, ap, _∙_}
 use native.Mathlib.Omega.{arith}
-use lib.Dec.{ltb}
 use lib.ListN.{length}
 use Rattle.refusal.specs.declared.Refusal.{Refusal}
-use Rattle.refusal.specs.declared.Refusal.the-variants.{EntryNumber, MapName}
+use Rattle.refusal.specs.declared.Refusal.the-variants.{MapName}
 use Rattle.refusal.specs.declared.Check.{Check}
 use Rattle.refusal.specs.declared.Check.the-variants.{Pass, Refused}
 use Rattle.refusal.specs.Checks.{unless, _andThen_}
@@ -24,7 +23,6 @@ use Rattle.bsp.specs.Heights.{graphVerdict}
 use Rattle.level.specs.declared.Verdict.{Verdict}
 use Rattle.level.specs.declared.Verdict.the-variants.{Refused as NotAccepted}
 use Rattle.level.specs.Verdict.{judged, wordsBy, checkAt, nodesAt, verdictBy, wordsAfterBy, Answered, AnsweredAt}
-use Rattle.level.specs.Games.{gameAt, gameBy, gameAnswer}
 use Rattle.level.specs.Inner.{AnsweredBy}
 
 -- ---- a marker that was found
@@ -51,14 +49,6 @@ marker-known wad name e =
       andThen-pass (fileCheck wad) (unless (mapNameOk name) MapName) (p .0) .0,
       findMarker-below (directoryOf wad) name (entryCount (headOf wad)) (p .1),
     )
-
--- ---- a map's game
-
--- what is answered by what the file, the marker's number and the eleventh entry after it are
-pub game-by : (wad : List ℕ) (marker : ℕ) {file : Check} {below hexen : Bool} → fileCheck wad ≡ file
-    → ltb marker (entryCount (headOf wad)) ≡ below → gameAt (directoryOf wad) (entryCount (headOf wad)) marker ≡ hexen
-    → gameBy (file andThen unless below EntryNumber) hexen ≡ gameAnswer wad marker
-game-by wad marker e b g = λ i. gameBy (sym e i andThen unless (sym b i) EntryNumber) (sym g i)
 
 -- ---- answers
 

@@ -25,7 +25,7 @@ use Rattle.wad.specs.Entries.{directoryOf}
 use Rattle.wad.specs.Lump.{entrySize, entryOffset, lumpAt, entryAnswer, partOf}
 use Rattle.wad.specs.Map.{markerBy, markerAnswer}
 use Rattle.wad.proofs.Answers.{entry-at, handed-whole}
-use Rattle.record.specs.Linedefs.{linedefSize}
+use Rattle.linedef.specs.Linedefs.{linedefSize}
 use Rattle.built.specs.Subsectors.{subsectorSize}
 use Rattle.wad.proofs.Numbers.{marker-atMost}
 use Rattle.bsp.specs.declared.Graph.{Graph}
@@ -41,15 +41,16 @@ use Rattle.blockmap.specs.Blockmap.{blockmapCheck}
 use Rattle.level.specs.declared.Verdict.{Verdict}
 use Rattle.level.specs.declared.Verdict.the-variants.{Accepted, Refused as NotAccepted}
 use Rattle.table.specs.Lumps.{LINEDEFS, SSECTORS, NODES, BLOCKMAP}
-use Rattle.level.specs.Lumps.{mapLumps, mapLump, recordCount}
-use Rattle.level.specs.Run.{runCheck}
-use Rattle.level.specs.Games.{gameAt}
-use Rattle.level.specs.Sizes.{sizesCheck}
+use Rattle.lump.specs.Lumps.{mapLumps, mapLump, recordCount}
+use Rattle.run.specs.Run.{runCheck}
+use Rattle.run.specs.Games.{gameAt}
+use Rattle.size.specs.Sizes.{sizesCheck}
 use Rattle.level.specs.References.{referencesCheck}
 use Rattle.level.specs.Verdict.{lumpsCheck, mapCheck, graphAnswer, judged, checkAt, nodesAt, subsectorsAt, verdictBy, verdict}
 use Rattle.level.specs.Demands.{MapAt, SameMap, SameShortage, Frame, Below31, HandedOver, Demand3, GameTold}
 use Rattle.level.proofs.Passing.{run-long, passed}
-use Rattle.level.proofs.Answers.{marker-known, game-by}
+use Rattle.level.proofs.Answers.{marker-known}
+use Rattle.run.proofs.Telling.{game-by}
 use Rattle.level.proofs.Numbers.{map-atMost}
 
 -- ---- demand 2

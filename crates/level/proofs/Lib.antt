@@ -1,6 +1,5 @@
 -- The laws of the map check. Assumes nothing.
 
-pub mod Places
 pub mod Passing
 pub mod Answers
 pub mod Numbers

@@ -13,7 +13,7 @@ use Rattle.refusal.proofs.Numbers.{AtMost, unless-atMost, andThen-atMost, each-
 use Rattle.wad.specs.Lump.{entrySize}
 use Rattle.table.specs.Lumps.{lumpName, LINEDEFS, SIDEDEFS, VERTEXES, SEGS, SSECTORS, NODES, SECTORS, REJECT, BLOCKMAP}
 use Rattle.field.specs.Records.{recordBytes}
-use Rattle.record.specs.Linedefs.{linedefSize, linedefOf}
+use Rattle.linedef.specs.Linedefs.{linedefSize, linedefOf}
 use Rattle.record.specs.Sidedefs.{sidedefSize, sidedefOf}
 use Rattle.record.specs.Vertexes.{vertexSize}
 use Rattle.built.specs.Segs.{segSize, segOf}
@@ -23,10 +23,10 @@ use Rattle.record.specs.Sectors.{sectorSize}
 use Rattle.bsp.specs.Nodes.{nodeOk}
 use Rattle.reference.specs.References.{linedefOk, segOk, subsectorOk}
 use Rattle.blockmap.specs.Blockmap.{wordAt, cellsOf, headerOk, listOk, blockmapCheck}
-use Rattle.level.specs.Lumps.{mapLump, recordCount}
-use Rattle.level.specs.Run.{namedOk, runCheck}
-use Rattle.level.specs.Games.{gameAt}
-use Rattle.level.specs.Sizes.{wholeOk, recordCountOk, rejectSize, sizeCheck, sizesCheck}
+use Rattle.lump.specs.Lumps.{mapLump, recordCount}
+use Rattle.run.specs.Run.{namedOk, runCheck}
+use Rattle.run.specs.Games.{gameAt}
+use Rattle.size.specs.Sizes.{wholeOk, recordCountOk, rejectSize, sizeCheck, sizesCheck}
 use Rattle.level.specs.References.{linedefsCheck, sidedefsCheck, segsCheck, subsectorsCheck, nodesCheck, referencesCheck}
 use Rattle.level.specs.Verdict.{mapCheck}
 

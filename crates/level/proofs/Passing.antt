@@ -15,7 +15,7 @@ use Rattle.wad.specs.Entries.{entryName}
 use Rattle.wad.specs.Lump.{entrySize}
 use Rattle.name.specs.Names.{sameName}
 use Rattle.table.specs.Lumps.{lumpName, recordSize, leastCount, mostCount, LINEDEFS, SSECTORS, NODES, BLOCKMAP}
-use Rattle.record.specs.Linedefs.{linedefSize}
+use Rattle.linedef.specs.Linedefs.{linedefSize}
 use Rattle.built.specs.Subsectors.{subsectorSize}
 use Rattle.built.specs.Nodes.{nodeSize}
 use Rattle.bsp.specs.Nodes.{nodesOf, nodeOk}
@@ -24,12 +24,12 @@ use Rattle.bsp.proofs.Nodes.{nodes-ok, nodes-in-range}
 use Rattle.bsp.proofs.Descends.{Passed}
 use Rattle.reference.specs.References.{nodeCheck}
 use Rattle.blockmap.specs.Blockmap.{blockmapCheck}
-use Rattle.level.specs.Lumps.{mapLump, recordCount, eachPlace}
-use Rattle.level.specs.Run.{namedOk, placeCheck, runCheck}
-use Rattle.level.specs.Sizes.{wholeOk, aloneOk, recordCountOk, sizeCheck, rejectCheck, sizesCheck}
+use Rattle.lump.specs.Lumps.{mapLump, recordCount, eachPlace}
+use Rattle.run.specs.Run.{namedOk, placeCheck, runCheck}
+use Rattle.size.specs.Sizes.{wholeOk, aloneOk, recordCountOk, sizeCheck, rejectCheck, sizesCheck}
 use Rattle.level.specs.References.{linedefsCheck, sidedefsCheck, segsCheck, subsectorsCheck, nodesCheck, referencesCheck}
 use Rattle.level.specs.Verdict.{workCheck, lumpsCheck}
-use Rattle.level.proofs.Places.{eachPlace-pass, subsectors-size, nodes-size}
+use Rattle.lump.proofs.Places.{eachPlace-pass, subsectors-size, nodes-size}
 
 -- ---- 12: the ten lumps follow the marker
 

@@ -4,7 +4,7 @@ use mathlib.Core.Bool.{Bool}
 use mathlib.Core.List.{List}
 use Rattle.refusal.specs.declared.Check.{Check}
 use Rattle.refusal.specs.Checks.{_andThen_, each}
-use Rattle.record.specs.Linedefs.{linedefSize}
+use Rattle.linedef.specs.Linedefs.{linedefSize}
 use Rattle.record.specs.Sidedefs.{sidedefSize}
 use Rattle.record.specs.Vertexes.{vertexSize}
 use Rattle.built.specs.Segs.{segSize}
@@ -13,7 +13,7 @@ use Rattle.built.specs.Nodes.{nodeSize}
 use Rattle.record.specs.Sectors.{sectorSize}
 use Rattle.reference.specs.References.{linedefCheck, sidedefCheck, segCheck, subsectorCheck, nodeCheck}
 use Rattle.table.specs.Lumps.{LINEDEFS, SIDEDEFS, VERTEXES, SEGS, SSECTORS, NODES, SECTORS}
-use Rattle.level.specs.Lumps.{mapLump, recordCount}
+use Rattle.lump.specs.Lumps.{mapLump, recordCount}
 
 -- each over all records of its lump in turn; linedefs by the game
 abbrev pub linedefsCheck : Bool → List (List ℕ) → Check

@@ -23,14 +23,14 @@ use Rattle.graph.specs.Judging.{cleared}
 use Rattle.blockmap.specs.Blockmap.{blockmapCheck}
 use Rattle.level.specs.declared.Verdict.{Verdict}
 use Rattle.level.specs.declared.Verdict.the-variants.{Accepted, Refused as NotAccepted}
-use Rattle.record.specs.Linedefs.{linedefSize}
+use Rattle.linedef.specs.Linedefs.{linedefSize}
 use Rattle.built.specs.Subsectors.{subsectorSize}
 use Rattle.built.specs.Nodes.{nodeSize}
 use Rattle.table.specs.Lumps.{LINEDEFS, SSECTORS, NODES, BLOCKMAP}
-use Rattle.level.specs.Lumps.{mapLumps, mapLump, recordCount}
-use Rattle.level.specs.Run.{runCheck}
-use Rattle.level.specs.Games.{gameAt}
-use Rattle.level.specs.Sizes.{sizesCheck}
+use Rattle.lump.specs.Lumps.{mapLumps, mapLump, recordCount}
+use Rattle.run.specs.Run.{runCheck}
+use Rattle.run.specs.Games.{gameAt}
+use Rattle.size.specs.Sizes.{sizesCheck}
 use Rattle.level.specs.References.{referencesCheck}
 
 -- 30: fewer than four work words for each node

@@ -1,7 +1,5 @@
 // The map check: one map of a file, by its name, judged whole. The definitions are in specs/.
 mod lumps;
-mod run;
-mod sizes;
 
 ghost use mathlib.Core.Path.{_≡_};
 ghost use Prim.Native.Nat.{_*_, _/_, _<_, _≤_};
@@ -11,9 +9,8 @@ ghost use Rattle.wad.specs.Header.{headOf, entryCount};
 ghost use Rattle.wad.specs.Entries.{fileCheck};
 ghost use Rattle.bsp.specs.Nodes.{nodesOf};
 ghost use Rattle.graph.specs.Judging.{Judgeable};
-ghost use Rattle.level.specs.Lumps.{mapLumps};
+ghost use Rattle.lump.specs.Lumps.{mapLumps};
 ghost use Rattle.level.specs.Inner.{AnsweredBy};
-ghost use Rattle.level.specs.Games.{gameAnswer};
 ghost use Rattle.level.specs.Verdict.{mapCheck, Answered, AnsweredAt};
 use bsp::Graph;
 use built::Node;
@@ -25,13 +22,6 @@ use wad::Marker;
 pub enum Verdict {
     // the largest number of nodes on a route, and the marker's entry number
     Accepted { depth: usize, marker: usize },
-    Refused(Refusal),
-}
-
-// What is answered of a map's game.
-pub enum Game {
-    Doom,
-    Hexen,
     Refused(Refusal),
 }
 
@@ -55,11 +45,7 @@ pub fn judge_at(wad: &[u8], marker: usize, words: &mut [u16]) -> Verdict
     if let Check::Refused(r) = judge_below(wad, dir, wad::entry_count(wad), marker, words.len()) {
         return Verdict::Refused(r);
     }
-    judge_graph(
-        sizes::map_lump(wad, dir, marker, Node::PLACE),
-        marker,
-        words,
-    )
+    judge_graph(lump::map_lump(wad, dir, marker, Node::PLACE), marker, words)
 }
 
 // 12 to 30.
@@ -83,21 +69,4 @@ fn judge_graph(nodes: &[u8], marker: usize, words: &mut [u16]) -> Verdict
         Graph::HasShared => Verdict::Refused(Refusal::NodeShared),
         Graph::HasDepth(depth) => Verdict::Accepted { depth, marker },
     }
-}
-
-// The game of the map whose marker is an entry, 1 to 7. Nothing is asked of the entry itself.
-pub fn map_game(wad: &[u8], marker: usize) -> Game
-    ensures { λ r. ⌜ r ≡ gameAnswer (now (wad .entry)) marker ⌝ }
-{
-    if let Check::Refused(r) = wad::judge_file(wad) {
-        return Game::Refused(r);
-    }
-    let count = wad::entry_count(wad);
-    if count <= marker {
-        return Game::Refused(Refusal::EntryNumber);
-    }
-    if run::game_at(wad::directory_of(wad), count, marker) {
-        return Game::Hexen;
-    }
-    Game::Doom
 }

@@ -1,4 +1,3 @@
--- The laws of the kinds that are drawn. Assumes nothing.
+-- The laws of sidedefs, vertices and sectors. Assumes nothing.
 
-pub mod Games
 pub mod Codecs

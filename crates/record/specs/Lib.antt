@@ -1,7 +1,5 @@
--- The kinds of record that a map's author draws: things, linedefs, sidedefs, vertices and sectors. Assumes nothing.
+-- The kinds of record that are drawn and have one layout in both games: sidedefs, vertices and sectors. Assumes nothing.
 
-pub mod Things
-pub mod Linedefs
 pub mod Sidedefs
 pub mod Vertexes
 pub mod Sectors

@@ -7,11 +7,11 @@ use lib.ListN.{length}
 use Rattle.refusal.specs.declared.Check.{Check}
 use Rattle.refusal.specs.declared.Refusal.the-variants.{LinedefReference, SidedefReference, SegReference, SubsectorReference, NodeReference}
 use Rattle.refusal.specs.Checks.{unless}
-use Rattle.record.specs.declared.linedef.Linedef.{Linedef}
+use Rattle.linedef.specs.declared.Linedef.{Linedef}
 use Rattle.built.specs.declared.seg.Seg.{Seg}
 use Rattle.built.specs.declared.subsector.Subsector.{Subsector}
 use Rattle.field.specs.Records.{recordBytes}
-use Rattle.record.specs.Linedefs.{linedefSize, linedefOf, noSidedef}
+use Rattle.linedef.specs.Linedefs.{linedefSize, linedefOf, noSidedef}
 use Rattle.record.specs.Sidedefs.{sidedefSize, sidedefOf}
 use Rattle.built.specs.Segs.{segSize, segOf}
 use Rattle.built.specs.Subsectors.{subsectorSize, subsectorOf}

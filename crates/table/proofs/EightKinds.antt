@@ -1,11 +1,13 @@
 -- Each of the eight kinds is lossless, by what is its own and the law for every kind and game. Assumes nothing.
 use Rattle.field.proofs.Lossless.{lossless}
-use Rattle.record.specs.Things.{thingSize, thingOf, thingBytes, ThingFits}
-use Rattle.record.specs.Linedefs.{linedefSize, linedefOf, linedefBytes, LinedefFits}
+use Rattle.thing.specs.Things.{thingSize, thingOf, thingBytes, ThingFits}
+use Rattle.linedef.specs.Linedefs.{linedefSize, linedefOf, linedefBytes, LinedefFits}
 use Rattle.record.specs.Sidedefs.{sidedefOf, sidedefBytes, SidedefFits}
 use Rattle.record.specs.Vertexes.{vertexOf, vertexBytes, VertexFits}
 use Rattle.record.specs.Sectors.{sectorOf, sectorBytes, SectorFits}
-use Rattle.record.proofs.Codecs.{thing, thing-good, linedef, linedef-good, sidedef, vertex, sector}
+use Rattle.thing.proofs.Codecs.{thing, thing-good}
+use Rattle.linedef.proofs.Codecs.{linedef, linedef-good}
+use Rattle.record.proofs.Codecs.{sidedef, vertex, sector}
 use Rattle.built.specs.Segs.{segOf, segBytes, SegFits}
 use Rattle.built.specs.Subsectors.{subsectorOf, subsectorBytes, SubsectorFits}
 use Rattle.built.specs.Nodes.{nodeOf, nodeBytes, NodeFits}

@@ -6,8 +6,8 @@ use mathlib.Core.List.{List}
 use mathlib.Core.Path.{_≡_}
 use Rattle.endian.specs.Unsigned.{Bytes}
 use Rattle.field.specs.Lossless.{Lossless}
-use Rattle.record.specs.Things.{thingSize, thingOf, thingFieldsOk, thingBytes, ThingFits}
-use Rattle.record.specs.Linedefs.{linedefSize, linedefOf, linedefFieldsOk, linedefBytes, LinedefFits}
+use Rattle.thing.specs.Things.{thingSize, thingOf, thingFieldsOk, thingBytes, ThingFits}
+use Rattle.linedef.specs.Linedefs.{linedefSize, linedefOf, linedefFieldsOk, linedefBytes, LinedefFits}
 use Rattle.record.specs.Sidedefs.{sidedefSize, sidedefOf, sidedefBytes, SidedefFits}
 use Rattle.record.specs.Vertexes.{vertexSize, vertexOf, vertexBytes, VertexFits}
 use Rattle.built.specs.Segs.{segSize, segOf, segBytes, SegFits}

@@ -6,8 +6,8 @@ use mathlib.Core.Path.{_≡_}
 use mathlib.Core.List.{List, [], _∷_}
 use lib.Dec.{eqb}
 use lib.ListN.{getD}
-use Rattle.record.specs.Things.{thingSize, thingPlace}
-use Rattle.record.specs.Linedefs.{linedefSize, linedefPlace}
+use Rattle.thing.specs.Things.{thingSize, thingPlace}
+use Rattle.linedef.specs.Linedefs.{linedefSize, linedefPlace}
 use Rattle.record.specs.Sidedefs.{sidedefSize, sidedefPlace}
 use Rattle.record.specs.Vertexes.{vertexSize, vertexPlace}
 use Rattle.built.specs.Segs.{segSize, segPlace}

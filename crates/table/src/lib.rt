@@ -6,11 +6,11 @@ ghost use Rattle.table.specs.Lumps.{lumpName, recordSize, leastCount, mo
 use built::Node;
 use built::Seg;
 use built::Subsector;
-use record::Linedef;
+use linedef::Linedef;
 use record::Sector;
 use record::Sidedef;
-use record::Thing;
 use record::Vertex;
+use thing::Thing;
 
 // The places of the two lumps without records; a kind of record carries its own.
 pub const REJECT: usize = 9;

@@ -2,9 +2,6 @@
 use crate::print;
 use crate::records;
 use crate::script;
-use meshpigeon::files;
-use meshpigeon::maps;
-use meshpigeon::pictures;
 
 // Which question a word names: its place among these. Those from RECORDS on read and write one.
 const RECORDS: usize = 10;
@@ -54,24 +51,24 @@ fn entry_number(with: &[u8]) -> usize {
 }
 
 fn directory(file: &[u8]) {
-    let a = files::meshpigeon_directory(file);
+    let a = export_files::meshpigeon_directory(file);
     print::answer(a.status, a.count, a.start);
 }
 
 // Where an entry lies, after its bytes.
 fn entry(file: &[u8], with: &[u8]) {
-    let a = files::meshpigeon_entry(file, entry_number(with));
+    let a = export_files::meshpigeon_entry(file, entry_number(with));
     print::bytes(wad::part_if(file, a.offset, a.size));
     print::answer(a.status, a.offset, a.size);
 }
 
 fn marker(file: &[u8], name: &[u8]) {
-    let a = files::meshpigeon_find_map(file, name);
+    let a = export_files::meshpigeon_find_map(file, name);
     print::answer(a.status, a.marker, a.compared);
 }
 
 fn game(file: &[u8], with: &[u8]) {
-    let a = maps::meshpigeon_map_game(file, entry_number(with));
+    let a = export_maps::meshpigeon_map_game(file, entry_number(with));
     print::status(a.status);
     print::flag(a.hexen);
 }
@@ -79,7 +76,7 @@ fn game(file: &[u8], with: &[u8]) {
 // Asked with the count of subsectors, then x and y.
 fn descend(nodes: &[u8], with: &[u8]) {
     let x = coordinate(with, 4);
-    let a = maps::meshpigeon_descend(nodes, argument(with, 0), x, coordinate(with, 8));
+    let a = export_maps::meshpigeon_descend(nodes, argument(with, 0), x, coordinate(with, 8));
     print::answer(a.status, a.subsector, a.count);
 }
 
@@ -99,7 +96,7 @@ fn fill_words(order: bool, file: &[u8], with: &[u8], words: &mut [u16]) {
 }
 
 fn judge_map(file: &[u8], name: &[u8], words: &mut [u16]) {
-    let a = maps::meshpigeon_judge_map(file, name, words);
+    let a = export_maps::meshpigeon_judge_map(file, name, words);
     print::answer(a.status, a.depth, a.marker);
     print::words(words);
 }
@@ -108,7 +105,7 @@ fn judge_map(file: &[u8], name: &[u8], words: &mut [u16]) {
 fn draw_order(nodes: &[u8], with: &[u8], words: &mut [u16]) {
     let x = coordinate(with, 4);
     let y = coordinate(with, 8);
-    let a = maps::meshpigeon_draw_order(nodes, argument(with, 0), x, y, words);
+    let a = export_maps::meshpigeon_draw_order(nodes, argument(with, 0), x, y, words);
     print::status(a.status);
     print::number(a.count);
     print::words(words);
@@ -128,14 +125,14 @@ fn picture(lump: &[u8], with: &[u8]) {
 
 // Judged, painted, and both planes.
 fn paint(lump: &[u8], colour: &mut [u8], cover: &mut [u8]) {
-    picture_answer(pictures::meshpigeon_judge_picture(lump));
-    picture_answer(pictures::meshpigeon_paint_picture(lump, colour, cover));
+    picture_answer(export_pictures::meshpigeon_judge_picture(lump));
+    picture_answer(export_pictures::meshpigeon_paint_picture(lump, colour, cover));
     print::bytes(colour);
     print::text(b" cover");
     print::bytes(cover);
 }
 
-fn picture_answer(a: pictures::PictureAnswer) {
+fn picture_answer(a: export_pictures::PictureAnswer) {
     let p = a.picture;
     print::answer(a.status, p.width, p.height);
     print::signed(&[p.left, p.top]);

@@ -1,5 +1,5 @@
 // Answers as text on standard output: numbers, each after a space.
-use meshpigeon::status::Status;
+use status::Status;
 
 pub(crate) fn text(s: &[u8]) {
     io::write_all(1, s);

@@ -1,7 +1,6 @@
 // The eight kinds of map record. One is read, its fields are printed, and it is written into a lump, which is printed too.
 use crate::print;
-use meshpigeon::records;
-use meshpigeon::status::Status;
+use status::Status;
 
 pub(crate) fn put(kind: usize, from: &[u8], index: usize, to: &mut [u8], i: usize) {
     print::status(write(kind, from, index, to, i));
@@ -24,7 +23,7 @@ fn write(kind: usize, from: &[u8], index: usize, to: &mut [u8], i: usize) -> Sta
 }
 
 fn thing(games: usize, from: &[u8], index: usize, to: &mut [u8], i: usize) -> Status {
-    let a = records::meshpigeon_read_thing(from, index, 2 <= games);
+    let a = export_records::meshpigeon_read_thing(from, index, 2 <= games);
     let mut t = a.thing;
     print::signed(&[t.id, t.x, t.y, t.height]);
     print::words(&[t.angle, t.kind, t.flags, t.action as u16]);
@@ -32,22 +31,22 @@ fn thing(games: usize, from: &[u8], index: usize, to: &mut [u8], i: usize) -> St
     print::flag(t.hexen);
     print::status(a.status);
     t.hexen = games % 2 == 1;
-    records::meshpigeon_write_thing(to, i, t)
+    export_records::meshpigeon_write_thing(to, i, t)
 }
 
 fn linedef(games: usize, from: &[u8], index: usize, to: &mut [u8], i: usize) -> Status {
-    let a = records::meshpigeon_read_linedef(from, index, 2 <= games);
+    let a = export_records::meshpigeon_read_linedef(from, index, 2 <= games);
     let mut l = a.linedef;
     print::words(&[l.start, l.end, l.flags, l.special, l.tag, l.right, l.left]);
     print::bytes(&l.args);
     print::flag(l.hexen);
     print::status(a.status);
     l.hexen = games % 2 == 1;
-    records::meshpigeon_write_linedef(to, i, l)
+    export_records::meshpigeon_write_linedef(to, i, l)
 }
 
 fn sidedef(from: &[u8], index: usize, to: &mut [u8], i: usize) -> Status {
-    let a = records::meshpigeon_read_sidedef(from, index);
+    let a = export_records::meshpigeon_read_sidedef(from, index);
     let s = a.sidedef;
     print::signed(&[s.x_offset, s.y_offset]);
     print::bytes(&s.upper);
@@ -55,52 +54,52 @@ fn sidedef(from: &[u8], index: usize, to: &mut [u8], i: usize) -> Status {
     print::bytes(&s.middle);
     print::words(&[s.sector]);
     print::status(a.status);
-    records::meshpigeon_write_sidedef(to, i, s)
+    export_records::meshpigeon_write_sidedef(to, i, s)
 }
 
 fn vertex(from: &[u8], index: usize, to: &mut [u8], i: usize) -> Status {
-    let a = records::meshpigeon_read_vertex(from, index);
+    let a = export_records::meshpigeon_read_vertex(from, index);
     let v = a.vertex;
     print::signed(&[v.x, v.y]);
     print::status(a.status);
-    records::meshpigeon_write_vertex(to, i, v)
+    export_records::meshpigeon_write_vertex(to, i, v)
 }
 
 fn seg(from: &[u8], index: usize, to: &mut [u8], i: usize) -> Status {
-    let a = records::meshpigeon_read_seg(from, index);
+    let a = export_records::meshpigeon_read_seg(from, index);
     let s = a.seg;
     print::words(&[s.start, s.end, s.angle, s.linedef, s.direction]);
     print::signed(&[s.offset]);
     print::status(a.status);
-    records::meshpigeon_write_seg(to, i, s)
+    export_records::meshpigeon_write_seg(to, i, s)
 }
 
 fn subsector(from: &[u8], index: usize, to: &mut [u8], i: usize) -> Status {
-    let a = records::meshpigeon_read_subsector(from, index);
+    let a = export_records::meshpigeon_read_subsector(from, index);
     let s = a.subsector;
     print::words(&[s.number, s.first]);
     print::status(a.status);
-    records::meshpigeon_write_subsector(to, i, s)
+    export_records::meshpigeon_write_subsector(to, i, s)
 }
 
 fn node(from: &[u8], index: usize, to: &mut [u8], i: usize) -> Status {
-    let a = records::meshpigeon_read_node(from, index);
+    let a = export_records::meshpigeon_read_node(from, index);
     let n = a.node;
     print::signed(&[n.x, n.y, n.dx, n.dy]);
     print::signed(&n.right_box);
     print::signed(&n.left_box);
     print::words(&[n.right, n.left]);
     print::status(a.status);
-    records::meshpigeon_write_node(to, i, n)
+    export_records::meshpigeon_write_node(to, i, n)
 }
 
 fn sector(from: &[u8], index: usize, to: &mut [u8], i: usize) -> Status {
-    let a = records::meshpigeon_read_sector(from, index);
+    let a = export_records::meshpigeon_read_sector(from, index);
     let s = a.sector;
     print::signed(&[s.floor, s.ceiling]);
     print::bytes(&s.floor_flat);
     print::bytes(&s.ceiling_flat);
     print::words(&[s.light, s.special, s.tag]);
     print::status(a.status);
-    records::meshpigeon_write_sector(to, i, s)
+    export_records::meshpigeon_write_sector(to, i, s)
 }

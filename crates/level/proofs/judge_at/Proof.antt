@@ -13,9 +13,9 @@ use Rattle.wad.proofs.Listing.{file-header}
 use Rattle.table.specs.Lumps.{NODES}
 use Rattle.bsp.specs.Nodes.{nodesOf}
 use Rattle.graph.specs.Judging.{Judgeable}
-use Rattle.level.specs.Lumps.{mapLumps, mapLump}
-use Rattle.level.specs.Run.{runCheck}
-use Rattle.level.specs.Games.{gameAt}
+use Rattle.lump.specs.Lumps.{mapLumps, mapLump}
+use Rattle.run.specs.Run.{runCheck}
+use Rattle.run.specs.Games.{gameAt}
 use Rattle.level.specs.Verdict.{lumpsCheck, mapCheck, checkAt, nodesAt}
 use Rattle.level.specs.Inner.{AnsweredBy}
 use Rattle.level.proofs.Passing.{run-long, judgeable}

@@ -7,8 +7,8 @@ use borrow.Author.Needs.{needs}
 use denote.Ref.{now}
 use lib.ListN.{length}
 use Rattle.refusal.proofs.Scans.{Scanned, scanned-none, scanned-done, tested-more, tested-stop}
-use Rattle.record.specs.Linedefs.{linedefSize}
-use Rattle.record.proofs.Games.{linedef-positive}
+use Rattle.linedef.specs.Linedefs.{linedefSize}
+use Rattle.linedef.proofs.Fields.{linedef-positive}
 use Rattle.reference.specs.References.{linedefCheck}
 use Rattle.reference.proofs.judge_linedefs.Statement.{statement}
 use Rattle.reference.proofs.judge_linedefs.Tie as tie

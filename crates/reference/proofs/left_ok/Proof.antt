@@ -1,7 +1,7 @@
 -- `reference::left_ok` meets its contract, by the linedef's number. Assumes nothing.
 use borrow.Author.Tests.{lt-ltb, le-ltb}
 use borrow.Author.Needs.{needs}
-use Rattle.record.proofs.Games.{linedef-positive, linedef-left}
+use Rattle.linedef.proofs.Fields.{linedef-positive, linedef-left}
 use Rattle.reference.proofs.left_ok.Statement.{statement}
 use Rattle.reference.proofs.left_ok.Tie as tie
 

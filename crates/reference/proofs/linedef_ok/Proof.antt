@@ -5,7 +5,7 @@ use native.Mathlib.Omega.{arith}
 use borrow.Author.Needs.{needs}
 use denote.Ref.{now}
 use lib.ListN.{length}
-use Rattle.record.proofs.Games.{linedef-right, linedef-left, linedef-front}
+use Rattle.linedef.proofs.Fields.{linedef-right, linedef-left, linedef-front}
 use Rattle.reference.proofs.linedef_ok.Statement.{statement}
 use Rattle.reference.proofs.linedef_ok.Tie as tie
 

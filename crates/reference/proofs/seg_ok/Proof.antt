@@ -1,6 +1,6 @@
 -- `reference::seg_ok` meets its contract, from those of the functions that it calls. Assumes nothing.
 use borrow.Author.Needs.{needs}
-use Rattle.record.proofs.Games.{linedef-positive}
+use Rattle.linedef.proofs.Fields.{linedef-positive}
 use Rattle.reference.proofs.seg_ok.Statement.{statement}
 use Rattle.reference.proofs.seg_ok.Tie as tie
 

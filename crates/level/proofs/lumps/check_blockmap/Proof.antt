@@ -1,6 +1,6 @@
 -- `level::lumps::check_blockmap` meets its contract, from those of the functions that it calls. Assumes nothing.
 use borrow.Author.Needs.{needs}
-use Rattle.record.proofs.Games.{linedef-positive}
+use Rattle.linedef.proofs.Fields.{linedef-positive}
 use Rattle.level.proofs.lumps.check_blockmap.Statement.{statement}
 use Rattle.level.proofs.lumps.check_blockmap.Tie as tie
 

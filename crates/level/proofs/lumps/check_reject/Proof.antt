@@ -2,8 +2,8 @@
 use native.Mathlib.Omega.{arith}
 use denote.Ref.{now}
 use Rattle.table.specs.Lumps.{SECTORS}
-use Rattle.level.specs.Lumps.{mapLumps}
-use Rattle.level.proofs.Places.{sectors-size}
+use Rattle.lump.specs.Lumps.{mapLumps}
+use Rattle.lump.proofs.Places.{sectors-size}
 use Rattle.level.proofs.Passing.{count-most}
 use borrow.Author.Needs.{needs}
 use Rattle.level.proofs.lumps.check_reject.Statement.{statement}

@@ -1,0 +1,33 @@
+-- Answers on a picture. Assumes nothing.
+use Prim.Native.Nat.{ℕ}
+use mathlib.Core.List.{List}
+use mathlib.Core.Path.{_≡_}
+use lib.IntN.{pos}
+use lib.ListN.{length}
+use Rattle.picture.specs.declared.Picture.{Picture}
+use Rattle.picture.specs.declared.PictureVerdict.{PictureVerdict}
+use Rattle.picture.specs.declared.PictureVerdict.the-variants.{Accepted, Refused as NotAccepted}
+use Rattle.picture.specs.Judging.{pictureCheck, answerOf}
+use Rattle.canvas.specs.Buffers.{paintCheck}
+use Rattle.canvas.specs.Pixels.{planeOf, byColour, byCover, bufferAfter}
+use Rattle.export_pictures.specs.declared.PictureAnswer.{PictureAnswer}
+use Rattle.status.specs.Status.{accepted, refused}
+
+-- a header of zeros
+abbrev pub noPicture : Picture
+noPicture = record { width = 0; height = 0; left = pos 0; top = pos 0 }
+
+-- the header of an accepted picture
+abbrev pub pictureOut : PictureVerdict → PictureAnswer
+pictureOut (Accepted picture) = record { status = accepted; picture = picture }
+pictureOut (NotAccepted r) = record { status = refused r; picture = noPicture }
+
+-- the judging entry's answer
+abbrev pub pictureJudged : List ℕ → PictureAnswer
+pictureJudged lump = pictureOut (answerOf (pictureCheck lump) lump)
+
+-- the painting entry's answer, and both buffers afterwards
+pub record PicturePainted (lump colour cover : List ℕ) (answer : PictureAnswer) (colour′ cover′ : List ℕ) : Type 0 where
+  pub answers : answer ≡ pictureOut (answerOf (paintCheck lump (length colour) (length cover)) lump)
+  pub colours : colour′ ≡ bufferAfter (paintCheck lump (length colour) (length cover)) (planeOf byColour lump) colour
+  pub covered : cover′ ≡ bufferAfter (paintCheck lump (length colour) (length cover)) (planeOf byCover lump) cover

@@ -1,0 +1,54 @@
+// Pictures.
+ghost use mathlib.Core.Path.{_≡_};
+ghost use Rattle.export_pictures.specs.Pictures.{pictureOut, pictureJudged, PicturePainted};
+use picture::Picture;
+use picture::PictureVerdict;
+use status::Status;
+use status::nothing_refused;
+use status::refused;
+
+#[repr(C)]
+pub struct PictureAnswer {
+    pub status: Status,
+    pub picture: Picture,
+}
+
+fn answer(verdict: PictureVerdict) -> PictureAnswer
+    ensures { λ r. ⌜ r ≡ pictureOut verdict ⌝ }
+{
+    match verdict {
+        PictureVerdict::Accepted(picture) => PictureAnswer {
+            status: nothing_refused(),
+            picture,
+        },
+        PictureVerdict::Refused(r) => PictureAnswer {
+            status: refused(r),
+            picture: Picture {
+                width: 0,
+                height: 0,
+                left: 0,
+                top: 0,
+            },
+        },
+    }
+}
+
+// A picture judged, 50 to 54.
+#[no_mangle]
+pub extern "C" fn meshpigeon_judge_picture(lump: &[u8]) -> PictureAnswer
+    ensures { λ r. ⌜ r ≡ pictureJudged (now (lump .entry)) ⌝ }
+{
+    answer(picture::judge(lump))
+}
+
+// A picture painted into two lent buffers, 50 to 55.
+#[no_mangle]
+pub extern "C" fn meshpigeon_paint_picture(
+    lump: &[u8],
+    colour: &mut [u8],
+    cover: &mut [u8],
+) -> PictureAnswer
+    ensures { λ r. ⌜ PicturePainted (now (lump .entry)) (now (colour .entry)) (now (cover .entry)) r (now (colour .exit)) (now (cover .exit)) ⌝ }
+{
+    answer(canvas::paint(lump, colour, cover))
+}

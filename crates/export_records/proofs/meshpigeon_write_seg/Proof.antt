@@ -1,0 +1,16 @@
+-- `export_records::meshpigeon_write_seg` meets its contract, from those of the two functions that it calls.
+-- Assumes nothing.
+use mathlib.Core.Path.{ap, _∙_}
+use Rattle.status.specs.Status.{statusOf}
+use borrow.Author.Needs.{needs}
+use Rattle.export_records.proofs.meshpigeon_write_seg.Statement.{statement}
+use Rattle.export_records.proofs.meshpigeon_write_seg.Tie as tie
+
+returns : tie.Need-returns
+returns c =
+    let write = c .before .before .before .write in
+    record { answers = c .status-of .ensures ∙ ap statusOf (write .ensures .answers); leaves = write .ensures .leaves }
+
+pub meshpigeon-write-seg-spec : {M : Type 1} → statement M
+meshpigeon-write-seg-spec =
+    tie.close (tie.spec (λ c κs. search needs) (λ c κs. search needs) (λ c. search needs) returns)

@@ -1,0 +1,258 @@
+// The eight kinds of map record, read and written by number: 60. Things and linedefs are read by their game, and say which
+// they are of; a write of one may be refused 61.
+ghost use mathlib.Core.Path.{_≡_};
+ghost use Rattle.thing.specs.Things.{thingSize, thingAt, thingFieldsOk, thingBytes};
+ghost use Rattle.linedef.specs.Linedefs.{linedefSize, linedefAt, linedefFieldsOk, linedefBytes};
+ghost use Rattle.record.specs.Sidedefs.{sidedefSize, sidedefAt, sidedefBytes};
+ghost use Rattle.record.specs.Vertexes.{vertexSize, vertexAt, vertexBytes};
+ghost use Rattle.built.specs.Segs.{segSize, segAt, segBytes};
+ghost use Rattle.built.specs.Subsectors.{subsectorSize, subsectorAt, subsectorBytes};
+ghost use Rattle.built.specs.Nodes.{nodeSize, nodeAt, nodeBytes};
+ghost use Rattle.record.specs.Sectors.{sectorSize, sectorAt, sectorBytes};
+ghost use Rattle.export_records.specs.Records.{RecordWritten, RecordWrittenIf, thingOut, linedefOut, sidedefOut, vertexOut, segOut, subsectorOut, nodeOut, sectorOut};
+use built::Node;
+use built::Seg;
+use built::Subsector;
+use linedef::Linedef;
+use record::Sector;
+use record::Sidedef;
+use record::Vertex;
+use status::Status;
+use status::status_of;
+use thing::Thing;
+
+#[repr(C)]
+pub struct ThingAnswer {
+    pub status: Status,
+    pub thing: Thing,
+}
+
+// Record `index` of THINGS.
+#[no_mangle]
+pub extern "C" fn meshpigeon_read_thing(lump: &[u8], index: usize, hexen: bool) -> ThingAnswer
+    ensures { λ r. ⌜ r ≡ thingOut (thingAt hexen (now (lump .entry)) index) ⌝ }
+{
+    let read = Thing::read(lump, index, hexen);
+    let check = read.check;
+    let thing = read.thing;
+    ThingAnswer {
+        status: status_of(check),
+        thing,
+    }
+}
+
+// Record `index` of THINGS of its game replaced.
+#[no_mangle]
+pub extern "C" fn meshpigeon_write_thing(lump: &mut [u8], index: usize, thing: Thing) -> Status
+    ensures { λ r. ⌜ RecordWrittenIf (thingFieldsOk thing) (now (lump .entry)) (thingSize (thing .hexen)) index (thingBytes (thing .hexen) thing) r (now (lump .exit)) ⌝ }
+{
+    status_of(Thing::write(lump, index, thing))
+}
+
+#[repr(C)]
+pub struct LinedefAnswer {
+    pub status: Status,
+    pub linedef: Linedef,
+}
+
+// Record `index` of LINEDEFS.
+#[no_mangle]
+pub extern "C" fn meshpigeon_read_linedef(lump: &[u8], index: usize, hexen: bool) -> LinedefAnswer
+    ensures { λ r. ⌜ r ≡ linedefOut (linedefAt hexen (now (lump .entry)) index) ⌝ }
+{
+    let read = Linedef::read(lump, index, hexen);
+    let check = read.check;
+    let linedef = read.linedef;
+    LinedefAnswer {
+        status: status_of(check),
+        linedef,
+    }
+}
+
+// Record `index` of LINEDEFS of its game replaced.
+#[no_mangle]
+pub extern "C" fn meshpigeon_write_linedef(
+    lump: &mut [u8],
+    index: usize,
+    linedef: Linedef,
+) -> Status
+    ensures { λ r. ⌜ RecordWrittenIf (linedefFieldsOk linedef) (now (lump .entry)) (linedefSize (linedef .hexen)) index (linedefBytes (linedef .hexen) linedef) r (now (lump .exit)) ⌝ }
+{
+    status_of(Linedef::write(lump, index, linedef))
+}
+
+#[repr(C)]
+pub struct SidedefAnswer {
+    pub status: Status,
+    pub sidedef: Sidedef,
+}
+
+// Record `index` of SIDEDEFS.
+#[no_mangle]
+pub extern "C" fn meshpigeon_read_sidedef(lump: &[u8], index: usize) -> SidedefAnswer
+    ensures { λ r. ⌜ r ≡ sidedefOut (sidedefAt (now (lump .entry)) index) ⌝ }
+{
+    let read = Sidedef::read(lump, index);
+    let check = read.check;
+    let sidedef = read.sidedef;
+    SidedefAnswer {
+        status: status_of(check),
+        sidedef,
+    }
+}
+
+// Record `index` of SIDEDEFS replaced.
+#[no_mangle]
+pub extern "C" fn meshpigeon_write_sidedef(
+    lump: &mut [u8],
+    index: usize,
+    sidedef: Sidedef,
+) -> Status
+    ensures { λ r. ⌜ RecordWritten (now (lump .entry)) sidedefSize index (sidedefBytes sidedef) r (now (lump .exit)) ⌝ }
+{
+    status_of(Sidedef::write(lump, index, sidedef))
+}
+
+#[repr(C)]
+pub struct VertexAnswer {
+    pub status: Status,
+    pub vertex: Vertex,
+}
+
+// Record `index` of VERTEXES.
+#[no_mangle]
+pub extern "C" fn meshpigeon_read_vertex(lump: &[u8], index: usize) -> VertexAnswer
+    ensures { λ r. ⌜ r ≡ vertexOut (vertexAt (now (lump .entry)) index) ⌝ }
+{
+    let read = Vertex::read(lump, index);
+    let check = read.check;
+    let vertex = read.vertex;
+    VertexAnswer {
+        status: status_of(check),
+        vertex,
+    }
+}
+
+// Record `index` of VERTEXES replaced.
+#[no_mangle]
+pub extern "C" fn meshpigeon_write_vertex(lump: &mut [u8], index: usize, vertex: Vertex) -> Status
+    ensures { λ r. ⌜ RecordWritten (now (lump .entry)) vertexSize index (vertexBytes vertex) r (now (lump .exit)) ⌝ }
+{
+    status_of(Vertex::write(lump, index, vertex))
+}
+
+#[repr(C)]
+pub struct SegAnswer {
+    pub status: Status,
+    pub seg: Seg,
+}
+
+// Record `index` of SEGS.
+#[no_mangle]
+pub extern "C" fn meshpigeon_read_seg(lump: &[u8], index: usize) -> SegAnswer
+    ensures { λ r. ⌜ r ≡ segOut (segAt (now (lump .entry)) index) ⌝ }
+{
+    let read = Seg::read(lump, index);
+    let check = read.check;
+    let seg = read.seg;
+    SegAnswer {
+        status: status_of(check),
+        seg,
+    }
+}
+
+// Record `index` of SEGS replaced.
+#[no_mangle]
+pub extern "C" fn meshpigeon_write_seg(lump: &mut [u8], index: usize, seg: Seg) -> Status
+    ensures { λ r. ⌜ RecordWritten (now (lump .entry)) segSize index (segBytes seg) r (now (lump .exit)) ⌝ }
+{
+    status_of(Seg::write(lump, index, seg))
+}
+
+#[repr(C)]
+pub struct SubsectorAnswer {
+    pub status: Status,
+    pub subsector: Subsector,
+}
+
+// Record `index` of SSECTORS.
+#[no_mangle]
+pub extern "C" fn meshpigeon_read_subsector(lump: &[u8], index: usize) -> SubsectorAnswer
+    ensures { λ r. ⌜ r ≡ subsectorOut (subsectorAt (now (lump .entry)) index) ⌝ }
+{
+    let read = Subsector::read(lump, index);
+    let check = read.check;
+    let subsector = read.subsector;
+    SubsectorAnswer {
+        status: status_of(check),
+        subsector,
+    }
+}
+
+// Record `index` of SSECTORS replaced.
+#[no_mangle]
+pub extern "C" fn meshpigeon_write_subsector(
+    lump: &mut [u8],
+    index: usize,
+    subsector: Subsector,
+) -> Status
+    ensures { λ r. ⌜ RecordWritten (now (lump .entry)) subsectorSize index (subsectorBytes subsector) r (now (lump .exit)) ⌝ }
+{
+    status_of(Subsector::write(lump, index, subsector))
+}
+
+#[repr(C)]
+pub struct NodeAnswer {
+    pub status: Status,
+    pub node: Node,
+}
+
+// Record `index` of NODES.
+#[no_mangle]
+pub extern "C" fn meshpigeon_read_node(lump: &[u8], index: usize) -> NodeAnswer
+    ensures { λ r. ⌜ r ≡ nodeOut (nodeAt (now (lump .entry)) index) ⌝ }
+{
+    let read = Node::read(lump, index);
+    let check = read.check;
+    let node = read.node;
+    NodeAnswer {
+        status: status_of(check),
+        node,
+    }
+}
+
+// Record `index` of NODES replaced.
+#[no_mangle]
+pub extern "C" fn meshpigeon_write_node(lump: &mut [u8], index: usize, node: Node) -> Status
+    ensures { λ r. ⌜ RecordWritten (now (lump .entry)) nodeSize index (nodeBytes node) r (now (lump .exit)) ⌝ }
+{
+    status_of(Node::write(lump, index, node))
+}
+
+#[repr(C)]
+pub struct SectorAnswer {
+    pub status: Status,
+    pub sector: Sector,
+}
+
+// Record `index` of SECTORS.
+#[no_mangle]
+pub extern "C" fn meshpigeon_read_sector(lump: &[u8], index: usize) -> SectorAnswer
+    ensures { λ r. ⌜ r ≡ sectorOut (sectorAt (now (lump .entry)) index) ⌝ }
+{
+    let read = Sector::read(lump, index);
+    let check = read.check;
+    let sector = read.sector;
+    SectorAnswer {
+        status: status_of(check),
+        sector,
+    }
+}
+
+// Record `index` of SECTORS replaced.
+#[no_mangle]
+pub extern "C" fn meshpigeon_write_sector(lump: &mut [u8], index: usize, sector: Sector) -> Status
+    ensures { λ r. ⌜ RecordWritten (now (lump .entry)) sectorSize index (sectorBytes sector) r (now (lump .exit)) ⌝ }
+{
+    status_of(Sector::write(lump, index, sector))
+}

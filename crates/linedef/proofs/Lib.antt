@@ -1,0 +1,4 @@
+-- The laws of linedefs. Assumes nothing.
+
+pub mod Fields
+pub mod Codecs

@@ -1,0 +1,3 @@
+-- The linedefs of a map. Assumes nothing.
+
+pub mod Linedefs

@@ -1,0 +1,3 @@
+-- The laws of a map's lumps by their places. Assumes nothing.
+
+pub mod Places

@@ -1,0 +1,3 @@
+-- A map's ten lumps. Assumes nothing.
+
+pub mod Lumps

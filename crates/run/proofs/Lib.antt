@@ -1,0 +1,3 @@
+-- The laws of a map's game. Assumes nothing.
+
+pub mod Telling

@@ -1,0 +1,3 @@
+-- The sizes of a map's lumps. Assumes nothing.
+
+pub mod Sizes

@@ -1,0 +1,3 @@
+-- What every answer begins with. Assumes nothing.
+
+pub mod Status

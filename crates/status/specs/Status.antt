@@ -1,0 +1,19 @@
+-- What every answer begins with: number 0 is accepted. Assumes nothing.
+use Rattle.refusal.specs.declared.Refusal.{Refusal}
+use Rattle.refusal.specs.declared.Check.{Check}
+use Rattle.refusal.specs.declared.Check.the-variants.{Pass, Refused}
+use Rattle.refusal.specs.Table.{numberOf, placeOf, recordOf}
+use Rattle.status.specs.declared.Status.{Status}
+
+-- nothing was refused
+abbrev pub accepted : Status
+accepted = record { number = 0; place = 0; «record» = 0 }
+
+-- a refusal by the paper's table
+abbrev pub refused : Refusal → Status
+refused r = record { number = numberOf r; place = placeOf r; «record» = recordOf r }
+
+-- what a check answered
+abbrev pub statusOf : Check → Status
+statusOf Pass = accepted
+statusOf (Refused r) = refused r

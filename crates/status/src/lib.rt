@@ -1,0 +1,42 @@
+// What every answer begins with.
+ghost use mathlib.Core.Path.{_≡_};
+ghost use Rattle.status.specs.Status.{accepted, refused, statusOf};
+use refusal::Check;
+use refusal::Refusal;
+
+// The refusal's number, place and record; all 0 where nothing was refused.
+#[repr(C)]
+pub struct Status {
+    pub number: u32,
+    pub place: usize,
+    pub record: usize,
+}
+
+pub fn nothing_refused() -> Status
+    ensures { λ r. ⌜ r ≡ accepted ⌝ }
+{
+    Status {
+        number: 0,
+        place: 0,
+        record: 0,
+    }
+}
+
+pub fn refused(r: Refusal) -> Status
+    ensures { λ a. ⌜ a ≡ refused r ⌝ }
+{
+    Status {
+        number: refusal::number_of(r),
+        place: refusal::place_of(r),
+        record: refusal::record_of(r),
+    }
+}
+
+pub fn status_of(c: Check) -> Status
+    ensures { λ r. ⌜ r ≡ statusOf c ⌝ }
+{
+    match c {
+        Check::Pass => nothing_refused(),
+        Check::Refused(r) => refused(r),
+    }
+}

@@ -1,0 +1,3 @@
+-- The laws of things. Assumes nothing.
+
+pub mod Codecs

@@ -1,0 +1,3 @@
+-- The things of a map. Assumes nothing.
+
+pub mod Things
