@@ -14,6 +14,7 @@ use Rattle.refusal.specs.declared.Refusal.the-variants.{DescentNodes, De
 use Rattle.refusal.specs.declared.Refusal.the-variants.{OrderDepth, OrderWords, OrderLength}
 use Rattle.refusal.specs.declared.Refusal.the-variants.{PictureLength, PictureSize, PictureOffsets}
 use Rattle.refusal.specs.declared.Refusal.the-variants.{PostBounds, PostRows, PixelBuffer}
+use Rattle.refusal.specs.declared.Refusal.the-variants.{EncodeSize, EncodeCover, EncodeRoom}
 use Rattle.refusal.specs.declared.Refusal.the-variants.{RecordBounds, RecordFields}
 
 -- a row of the table: number, place, record
@@ -57,6 +58,9 @@ rowOf PictureOffsets = row 52 0 0
 rowOf (PostBounds column) = row 53 0 column
 rowOf (PostRows column) = row 54 0 column
 rowOf PixelBuffer = row 55 0 0
+rowOf EncodeSize = row 56 0 0
+rowOf EncodeCover = row 57 0 0
+rowOf EncodeRoom = row 58 0 0
 rowOf RecordBounds = row 60 0 0
 rowOf RecordFields = row 61 0 0
 

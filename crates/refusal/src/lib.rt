@@ -72,6 +72,12 @@ pub enum Refusal {
     PostRows(usize),
     // 55: a pixel buffer under width × height
     PixelBuffer,
+    // 56: a picture to be written, its width or height
+    EncodeSize,
+    // 57: a picture to be written, a cover byte other than 0 and 1
+    EncodeCover,
+    // 58: a picture to be written, an output buffer under its length
+    EncodeRoom,
     // 60: a record not wholly inside its lump
     RecordBounds,
     // 61: a field that the record's game lacks is not 0, or a Hexen special is over 255
@@ -127,6 +133,9 @@ pub fn row_of(r: Refusal) -> Row
         Refusal::PostBounds(column) => Row(53, 0, column),
         Refusal::PostRows(column) => Row(54, 0, column),
         Refusal::PixelBuffer => Row(55, 0, 0),
+        Refusal::EncodeSize => Row(56, 0, 0),
+        Refusal::EncodeCover => Row(57, 0, 0),
+        Refusal::EncodeRoom => Row(58, 0, 0),
         Refusal::RecordBounds => Row(60, 0, 0),
         Refusal::RecordFields => Row(61, 0, 0),
     }

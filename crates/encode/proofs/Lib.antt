@@ -1,0 +1,3 @@
+-- The laws of encoding. Assumes nothing.
+
+pub mod Examples

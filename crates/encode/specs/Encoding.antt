@@ -1,0 +1,48 @@
+-- Which pixels are refused, and with what (02, W-201: 55, 56, 57 and 58, in that order), and what a lent output holds
+-- afterwards. Assumes nothing.
+use Prim.Native.Nat.{ℕ, zero, suc}
+use mathlib.Core.Bool.{Bool, true, _&&_}
+use mathlib.Core.List.{List}
+use mathlib.Core.Path.{_≡_}
+use lib.Dec.{leb}
+use lib.ListN.{length, getD}
+use Rattle.refusal.specs.declared.Refusal.the-variants.{PixelBuffer, EncodeSize, EncodeCover, EncodeRoom}
+use Rattle.refusal.specs.declared.Check.{Check}
+use Rattle.refusal.specs.declared.Check.the-variants.{Pass, Refused}
+use Rattle.refusal.specs.Checks.{unless, _andThen_}
+use Rattle.picture.specs.declared.Picture.{Picture}
+use Rattle.picture.specs.Judging.{sizeOk}
+use Rattle.canvas.specs.Pixels.{bufferAfter}
+use Rattle.encode.specs.declared.Encoding.{Encoding}
+use Rattle.encode.specs.declared.Encoding.the-variants.{Written, Refused as NotWritten}
+use Rattle.encode.specs.Lump.{pixelsOf, writtenLength, writtenOf}
+
+-- the first `count` cover bytes are 0 or 1
+unfoldable pub coverOk : List ℕ → ℕ → Bool
+coverOk cover zero = true
+coverOk cover (suc count) = coverOk cover count && leb (getD cover count 0) 1
+
+-- 55, 56 and 57: what is given can be written. Buffers of width × height at least, over whole numbers, and a size that the
+-- picture check accepts; then the first width × height bytes of cover.
+abbrev pub givenCheck : Picture → List ℕ → List ℕ → Check
+givenCheck picture colour cover =
+    unless (leb (pixelsOf picture) (length colour) && leb (pixelsOf picture) (length cover)) PixelBuffer
+    andThen unless (sizeOk (picture .width) (picture .height)) EncodeSize
+    andThen unless (coverOk cover (pixelsOf picture)) EncodeCover
+
+-- and 58: an output of `room` bytes has place for it
+abbrev pub encodeCheck : Picture → List ℕ → List ℕ → ℕ → Check
+encodeCheck picture colour cover room =
+    givenCheck picture colour cover andThen unless (leb (writtenLength picture cover) room) EncodeRoom
+
+-- the answer: how many bytes are written, or the refusal
+abbrev pub answerOf : Check → ℕ → Encoding
+answerOf Pass count = Written count
+answerOf (Refused r) count = NotWritten r
+
+-- what encoding answers, and what the output holds afterwards
+pub record Encoded (picture : Picture) (colour cover out : List ℕ) (answer : Encoding) (out' : List ℕ) : Type 0 where
+  -- the layout's sum, or the first refusal of 55 to 58
+  pub answered : answer ≡ answerOf (encodeCheck picture colour cover (length out)) (writtenLength picture cover)
+  -- the lump, then as it was; with a refusal all as it was
+  pub leaves : out' ≡ bufferAfter (encodeCheck picture colour cover (length out)) (writtenOf picture colour cover) out

@@ -1,0 +1,60 @@
+-- The lump that is written: header, column offsets, columns in order with no shared bytes (02, W-201). Pixel (column, row)
+-- stands at row × width + column of both buffers. Assumes nothing.
+use Prim.Native.Nat.{ℕ, _+_, _*_, _/_, _%_}
+use mathlib.Core.Bool.{Bool}
+use mathlib.Core.List.{List, _++_}
+use lib.Dec.{eqb}
+use lib.ListN.{getD}
+use Rattle.endian.specs.Unsigned.{u16Bytes}
+use Rattle.endian.specs.Signed.{bitsOf}
+use Rattle.picture.specs.declared.Picture.{Picture}
+use Rattle.picture.specs.Layout.{tableEnd}
+use Rattle.encode.specs.Runs.{sumOf, joined, columnBytes, columnLength}
+
+-- the number of pixels, width × height
+abbrev pub pixelsOf : Picture → ℕ
+pixelsOf picture = picture .height * picture .width
+
+-- the pixel's byte in a buffer with rows of `width`
+abbrev pub pixelAt : List ℕ → ℕ → ℕ → ℕ → ℕ
+pixelAt buffer width column row = getD buffer (row * width + column) 0
+
+-- the pixel is covered
+abbrev pub coveredAt : List ℕ → ℕ → ℕ → ℕ → Bool
+coveredAt cover width column row = eqb (pixelAt cover width column row) 1
+
+-- one column's bytes
+abbrev pub columnOf : Picture → List ℕ → List ℕ → ℕ → List ℕ
+columnOf picture colour cover column =
+    columnBytes (pixelAt colour (picture .width) column) (coveredAt cover (picture .width) column) (picture .height)
+
+-- and how many they are
+abbrev pub lengthOf : Picture → List ℕ → ℕ → ℕ
+lengthOf picture cover column = columnLength (coveredAt cover (picture .width) column) (picture .height)
+
+-- where the column begins: after the header, the offsets and the columns before it
+abbrev pub offsetOf : Picture → List ℕ → ℕ → ℕ
+offsetOf picture cover column = tableEnd (picture .width) + sumOf (lengthOf picture cover) column
+
+-- the lump's length, the layout's sum: 8 + 4 × width, and for each column 1 + 4 × runs + covered pixels
+abbrev pub writtenLength : Picture → List ℕ → ℕ
+writtenLength picture cover = offsetOf picture cover (picture .width)
+
+-- the four bytes of `n`
+abbrev pub u32Bytes : ℕ → List ℕ
+u32Bytes n = u16Bytes (n % 65536) ++ u16Bytes (n / 65536)
+
+-- width, height, left and top offset
+abbrev pub headerBytes : Picture → List ℕ
+headerBytes picture =
+    u16Bytes (picture .width)
+    ++ u16Bytes (picture .height)
+    ++ u16Bytes (bitsOf 32768 (picture .left))
+    ++ u16Bytes (bitsOf 32768 (picture .top))
+
+-- the lump
+abbrev pub writtenOf : Picture → List ℕ → List ℕ → List ℕ
+writtenOf picture colour cover =
+    headerBytes picture
+    ++ joined (λ column. u32Bytes (offsetOf picture cover column)) (picture .width)
+    ++ joined (columnOf picture colour cover) (picture .width)

@@ -1,0 +1,41 @@
+-- What was written, read again (02, W-201: "reading what was written gives the cover back, and the colour wherever
+-- covered"). Assumes nothing.
+use Prim.Native.Nat.{ℕ}
+use mathlib.Core.Bool.{cond}
+use mathlib.Core.List.{List}
+use mathlib.Core.Path.{_≡_}
+use lib.Dec.{eqb}
+use lib.ListN.{length, getD, take}
+use mir.Syntax.{w16}
+use mir.Val.{SFits}
+use Rattle.refusal.specs.declared.Check.the-variants.{Pass}
+use Rattle.picture.specs.declared.Picture.{Picture}
+use Rattle.picture.specs.Layout.{pictureOf}
+use Rattle.picture.specs.Judging.{pictureCheck}
+use Rattle.canvas.specs.Pixels.{byColour, byCover, listOf, planeOf}
+use Rattle.encode.specs.Lump.{pixelsOf, writtenLength, writtenOf}
+use Rattle.encode.specs.Encoding.{givenCheck}
+
+-- the given colour where `cover` covers pixel `i`, 0 elsewhere
+abbrev pub colourWhere : List ℕ → List ℕ → ℕ → ℕ
+colourWhere colour cover i = cond (eqb (getD cover i 0) 1) (getD colour i 0) 0
+
+-- of one lump: what the picture check and the painter make of it
+pub record ReadBack (picture : Picture) (colour cover lump : List ℕ) : Type 0 where
+  -- it is accepted
+  pub accepted : pictureCheck lump ≡ Pass
+  -- its width, height and offsets are the given ones
+  pub header : pictureOf lump ≡ picture
+  -- painted, its cover is the given one
+  pub covers : planeOf byCover lump ≡ take (pixelsOf picture) cover
+  -- and its colour the given one wherever that covers, 0 elsewhere
+  pub colours : planeOf byColour lump ≡ listOf (colourWhere colour cover) 0 (pixelsOf picture)
+  -- it is as long as the layout's sum
+  pub long : length lump ≡ writtenLength picture cover
+
+-- whatever is given and can be written reads back, with offsets of 16 bits as a header holds them
+abbrev pub RoundTrip : Type 0
+RoundTrip =
+    (picture : Picture) (colour cover : List ℕ)
+    → SFits w16 (picture .left) → SFits w16 (picture .top) → givenCheck picture colour cover ≡ Pass
+    → ReadBack picture colour cover (writtenOf picture colour cover)
