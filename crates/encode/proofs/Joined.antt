@@ -1,0 +1,87 @@
+-- Laws of sums and of joined bytes: one more, how long they are, and what stands where. Assumes nothing.
+use Prim.Native.Nat.{ℕ, zero, suc, _+_, _*_, _≤_, _<_}
+use mathlib.Core.Bool.{Bool, true, false, cond}
+use mathlib.Core.List.{List, [], _++_}
+use mathlib.Core.Logic.{⊎-elim}
+use mathlib.Core.Path.{_≡_, refl, sym, ap, _∙_}
+use native.Mathlib.Nat.{not-suc-le-zero, le-of-suc-le-suc, eq-or-lt-of-le}
+use native.Mathlib.Numerals.{add-one}
+use native.Mathlib.Omega.{arith}
+use lib.ListN.{length, getD, length-append, List·getD-append}
+use lib.Seq.{getD-append-add}
+use Rattle.encode.specs.Runs.{sumOf, countOf, joined}
+
+module _ (f : ℕ → ℕ) where
+  pub sum-none : sumOf f 0 ≡ 0
+  unfolding sumOf
+  sum-none = refl
+
+  pub sum-suc : (n : ℕ) → sumOf f (suc n) ≡ sumOf f n + f n
+  unfolding sumOf
+  sum-suc n = refl
+
+  pub sum-more : (n : ℕ) → sumOf f (n + 1) ≡ sumOf f n + f n
+  sum-more n = rw (add-one n) (sum-suc n)
+
+  -- the sum of the first is no more than that of all
+  pub sum-le : (i n : ℕ) → i ≤ n → sumOf f i ≤ sumOf f n
+  sum-le i zero h = let z : i ≡ 0 = omega arith in rw z (omega arith)
+  sum-le i (suc n) h =
+      ⊎-elim
+      (λ (q : i ≡ suc n). rw q (omega arith))
+      (λ (l : i < suc n). let k = sum-le i n (le-of-suc-le-suc l) in omega (arith, sum-suc n))
+      (eq-or-lt-of-le h)
+
+  pub sum-most : (most n : ℕ) → ((i : ℕ) → f i ≤ most) → sumOf f n ≤ n * most
+  sum-most most zero h = rw sum-none (omega arith)
+  sum-most most (suc n) h =
+      let k = sum-most most n h in
+      let e : suc n * most ≡ n * most + most = omega arith in
+      omega (arith, sum-suc n, h n, e)
+
+count-one : (b : Bool) → cond b 1 0 ≤ 1
+count-one true = omega arith
+count-one false = omega arith
+
+pub count-most : (f : ℕ → Bool) (n : ℕ) → countOf f n ≤ n
+count-most f n = let h = sum-most (λ i. cond (f i) 1 0) 1 n (λ i. count-one (f i)) in omega arith
+
+module _ (f : ℕ → List ℕ) where
+  pub joined-none : joined f 0 ≡ []
+  unfolding joined
+  joined-none = refl
+
+  pub joined-suc : (n : ℕ) → joined f (suc n) ≡ joined f n ++ f n
+  unfolding joined
+  joined-suc n = refl
+
+  pub joined-more : (n : ℕ) → joined f (n + 1) ≡ joined f n ++ f n
+  joined-more n = rw (add-one n) (joined-suc n)
+
+  pub length-joined-suc : (n : ℕ) → length (joined f (suc n)) ≡ length (joined f n) + length (f n)
+  length-joined-suc n = ap length (joined-suc n) ∙ length-append (joined f n) (f n)
+
+  -- as long as the lengths' sum
+  pub length-joined : (g : ℕ → ℕ) (n : ℕ) → ((i : ℕ) → i < n → length (f i) ≡ g i) → length (joined f n) ≡ sumOf g n
+  length-joined g zero h = ap length joined-none ∙ sym (sum-none g)
+  length-joined g (suc n) h =
+      let k = length-joined g n (λ i l. h i (omega arith)) in
+      length-joined-suc n ∙ rw (k, h n (omega arith)) (sym (sum-suc g n))
+
+  pub length-joined-le : (i n : ℕ) → i ≤ n → length (joined f i) ≤ length (joined f n)
+  length-joined-le i n h =
+      let e : (n : ℕ) → length (joined f n) ≡ sumOf (λ i. length (f i)) n = λ n. length-joined (λ i. length (f i)) n (λ i l. refl) in
+      rw (e i, e n) (sum-le (λ i. length (f i)) i n h)
+
+  -- byte `k` of part `i` stands after the parts before it
+  pub getD-joined : (i n k : ℕ) → i < n → k < length (f i) → getD (joined f n) (length (joined f i) + k) 0 ≡ getD (f i) k 0
+  getD-joined i zero k h l = absurd (not-suc-le-zero h)
+  getD-joined i (suc n) k h l =
+      ap (λ (x : List ℕ). getD x (length (joined f i) + k) 0) (joined-suc n)
+      ∙ ⊎-elim
+      (λ (q : i ≡ n). rw q (getD-append-add (joined f n) (f n) k 0))
+      (λ (j : i < n).
+      let part = length-joined-le (suc i) n j in
+      let e = length-joined-suc i in
+      List·getD-append (joined f n) (f n) 0 (length (joined f i) + k) (omega arith) ∙ getD-joined i n k j l)
+      (eq-or-lt-of-le (le-of-suc-le-suc h))

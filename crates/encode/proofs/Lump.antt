@@ -1,0 +1,37 @@
+-- Laws of the lump: it is as long as the layout's sum. Assumes nothing.
+use Prim.Native.Nat.{ℕ, zero, suc, _+_, _*_}
+use mathlib.Core.List.{List, _++_}
+use mathlib.Core.Path.{_≡_, refl, ap, _∙_}
+use native.Mathlib.Omega.{arith}
+use lib.ListN.{length, length-append}
+use Rattle.picture.specs.declared.Picture.{Picture}
+use Rattle.encode.specs.Runs.{sumOf, joined}
+use Rattle.encode.specs.Lump.{pixelAt, coveredAt, columnOf, lengthOf, offsetOf, u32Bytes, headerBytes, writtenOf, writtenLength}
+use Rattle.encode.proofs.Joined.{sum-none, sum-suc, length-joined}
+use Rattle.encode.proofs.Runs.{length-column}
+
+sum-fours : (n : ℕ) → sumOf (λ i. 4) n ≡ 4 * n
+sum-fours zero = sum-none (λ i. 4)
+sum-fours (suc n) = let k = sum-fours n in omega (arith, sum-suc (λ i. 4) n)
+
+module _ (picture : Picture) (colour cover : List ℕ) where
+  abbrev pub offsets : ℕ → List ℕ
+  offsets n = joined (λ column. u32Bytes (offsetOf picture cover column)) n
+
+  abbrev pub columns : ℕ → List ℕ
+  columns n = joined (columnOf picture colour cover) n
+
+  pub length-offsets : (n : ℕ) → length (offsets n) ≡ 4 * n
+  length-offsets n = length-joined (λ column. u32Bytes (offsetOf picture cover column)) (λ i. 4) n (λ i l. refl) ∙ sum-fours n
+
+  pub length-columns : (n : ℕ) → length (columns n) ≡ sumOf (lengthOf picture cover) n
+  length-columns n =
+      length-joined (columnOf picture colour cover) (lengthOf picture cover) n
+      (λ i l. length-column (pixelAt colour (picture .width) i) (coveredAt cover (picture .width) i) (picture .height))
+
+  pub length-written : length (writtenOf picture colour cover) ≡ writtenLength picture cover
+  length-written =
+      let w = picture .width in
+      let a = length-append (headerBytes picture ++ offsets w) (columns w) in
+      let b = length-append (headerBytes picture) (offsets w) in
+      omega (arith, a, b, length-offsets w, length-columns w)
