@@ -4,4 +4,5 @@ pub mod Runs
 pub mod Lump
 pub mod Encoding
 pub mod RoundTrip
+pub mod Inner
 pub mod Examples

@@ -34,7 +34,7 @@ pub fn picture_of(lump: &[u8]) -> Picture
     }
 }
 
-fn size_ok(width: usize, height: usize) -> bool
+pub fn size_ok(width: usize, height: usize) -> bool
     ensures { λ r. ⌜ r ≡ sizeOk width height ⌝ }
 {
     ((1 <= width) & (width <= 320)) & ((1 <= height) & (height <= 200))

@@ -8,6 +8,7 @@ mod header;
 pub use columns::skip_empty;
 pub use header::height_of;
 pub use header::judge_header;
+pub use header::size_ok;
 pub use header::width_of;
 use refusal::Check;
 use refusal::Refusal;
