@@ -2,5 +2,7 @@
 
 pub mod Joined
 pub mod Runs
+pub mod Stores
+pub mod Inner
 pub mod Lump
 pub mod Examples

@@ -1,13 +1,15 @@
 -- Laws of the lump: it is as long as the layout's sum. Assumes nothing.
-use Prim.Native.Nat.{ℕ, zero, suc, _+_, _*_}
+use Prim.Native.Nat.{ℕ, zero, suc, _+_, _*_, _≤_}
+use mathlib.Core.Bool.{Bool}
 use mathlib.Core.List.{List, _++_}
 use mathlib.Core.Path.{_≡_, refl, ap, _∙_}
 use native.Mathlib.Omega.{arith}
 use lib.ListN.{length, length-append}
 use Rattle.picture.specs.declared.Picture.{Picture}
-use Rattle.encode.specs.Runs.{sumOf, joined}
+use Rattle.encode.specs.Runs.{sumOf, joined, begins, columnLength}
 use Rattle.encode.specs.Lump.{pixelAt, coveredAt, columnOf, lengthOf, offsetOf, u32Bytes, headerBytes, writtenOf, writtenLength}
-use Rattle.encode.proofs.Joined.{sum-none, sum-suc, length-joined}
+use Rattle.encode.specs.Inner.{offsetAt}
+use Rattle.encode.proofs.Joined.{sum-none, sum-suc, sum-most, count-most, length-joined}
 use Rattle.encode.proofs.Runs.{length-column}
 
 sum-fours : (n : ℕ) → sumOf (λ i. 4) n ≡ 4 * n
@@ -35,3 +37,16 @@ module _ (picture : Picture) (colour cover : List ℕ) where
       let a = length-append (headerBytes picture ++ offsets w) (columns w) in
       let b = length-append (headerBytes picture) (offsets w) in
       omega (arith, a, b, length-offsets w, length-columns w)
+
+-- ---- bounds of a picture of the size that is accepted
+
+pub column-most : (covered : ℕ → Bool) (height : ℕ) → height ≤ 200 → columnLength covered height ≤ 1001
+column-most covered height h = omega (arith, count-most (begins covered) height, count-most covered height)
+
+-- 8 + 4 × 320 + 320 × 1001
+pub offset-most : (width height : ℕ) (cover : List ℕ) (n : ℕ) → width ≤ 320 → height ≤ 200 → n ≤ width
+    → offsetAt width height cover n ≤ 321608
+offset-most width height cover n w h l =
+    let lengths : ℕ → ℕ = λ column. columnLength (coveredAt cover width column) height in
+    let sum = sum-most lengths 1001 n (λ i. column-most (coveredAt cover width i) height h) in
+    omega (arith, sum)

@@ -4,6 +4,7 @@ use Prim.Native.Nat.{ℕ, zero, suc, _+_, _-_, _*_, _≤_, _<_}
 use mathlib.Core.Bool.{Bool, true, false, _&&_, not, cond}
 use mathlib.Core.List.{List, [], _∷_, _++_}
 use mathlib.Core.Path.{_≡_, refl, sym, ap, _∙_}
+use native.Mathlib.Nat.{not-suc-le-zero, le-of-suc-le-suc}
 use native.Mathlib.Numerals.{add-one}
 use native.Mathlib.Omega.{arith}
 use lib.ListN.{length, length-append}
@@ -29,6 +30,62 @@ module _ (covered : ℕ → Bool) where
       by-cover : {n left : ℕ} (b : Bool) → n ≤ left → cond b (suc n) 0 ≤ suc left
       by-cover true h = omega arith
       by-cover false h = omega arith
+
+  -- an uncovered row ends a run, a covered one is one more
+  pub run-stop : (row left : ℕ) → covered row ≡ false → runFrom covered row left ≡ 0
+  run-stop row zero e = run-none row
+  run-stop row (suc left) e = run-suc row left ∙ ap (λ (b : Bool). cond b (suc (runFrom covered (suc row) left)) 0) e
+
+  pub run-go : (row height : ℕ) → row < height → covered row ≡ true
+      → runFrom covered row (height - row) ≡ suc (runFrom covered (row + 1) (height - (row + 1)))
+  run-go row height h e =
+      let n : height - row ≡ suc (height - (row + 1)) = omega arith in
+      ap (runFrom covered row) n
+      ∙ run-suc row (height - (row + 1))
+      ∙ ap (λ (b : Bool). cond b (suc (runFrom covered (suc row) (height - (row + 1)))) 0) e
+      ∙ ap (λ (r : ℕ). suc (runFrom covered r (height - (row + 1)))) (sym (add-one row))
+
+  -- the rows of a run are covered, and the row after it is not
+  pub run-covered : (row left i : ℕ) → i < runFrom covered row left → covered (row + i) ≡ true
+  run-covered row zero i h = absurd (not-suc-le-zero (rw (run-none row) at h))
+  run-covered row (suc left) i h = told (covered row) refl i (rw (run-suc row left) at h) (run-covered (suc row) left)
+    where
+      told : (b : Bool) → covered row ≡ b → (i : ℕ) → i < cond b (suc (runFrom covered (suc row) left)) 0
+          → ((j : ℕ) → j < runFrom covered (suc row) left → covered (suc row + j) ≡ true) → covered (row + i) ≡ true
+      told false e i h below = absurd (not-suc-le-zero h)
+      told true e zero h below = ap covered (omega arith) ∙ e
+      told true e (suc j) h below = let q : row + suc j ≡ suc row + j = omega arith in ap covered q ∙ below j (le-of-suc-le-suc h)
+
+  pub run-ends : (row left : ℕ) → runFrom covered row left < left → covered (row + runFrom covered row left) ≡ false
+  run-ends row zero h = absurd (not-suc-le-zero h)
+  run-ends row (suc left) h =
+      ap (λ (n : ℕ). covered (row + n)) (run-suc row left)
+      ∙ told (covered row) refl (rw (run-suc row left) at h) (run-ends (suc row) left)
+    where
+      told : (b : Bool) → covered row ≡ b → cond b (suc (runFrom covered (suc row) left)) 0 < suc left
+          → (runFrom covered (suc row) left < left → covered (suc row + runFrom covered (suc row) left) ≡ false)
+          → covered (row + cond b (suc (runFrom covered (suc row) left)) 0) ≡ false
+      told false e h below = ap covered (omega arith) ∙ e
+      told true e h below =
+          let q : row + suc (runFrom covered (suc row) left) ≡ suc row + runFrom covered (suc row) left = omega arith in
+          ap covered q ∙ below (le-of-suc-le-suc h)
+
+-- ---- a post
+
+module _ (f : ℕ → ℕ) where
+  pub listOf-none : (from : ℕ) → listOf f from 0 ≡ []
+  unfolding listOf
+  listOf-none from = refl
+
+  listOf-suc : (from n : ℕ) → listOf f from (suc n) ≡ listOf f from n ++ (f (from + n) ∷ [])
+  unfolding listOf
+  listOf-suc from zero = ap (λ (k : ℕ). f k ∷ []) (omega arith)
+  listOf-suc from (suc n) =
+      let e : suc from + n ≡ from + suc n = omega arith in
+      ap (λ (r : List ℕ). f from ∷ r) (listOf-suc (suc from) n ∙ ap (λ (k : ℕ). listOf f (suc from) n ++ (f k ∷ [])) e)
+
+  pub listOf-more : (from n : ℕ) → listOf f from (n + 1) ≡ listOf f from n ++ (f (from + n) ∷ [])
+  listOf-more from n = rw (add-one n) (listOf-suc from n)
 
 pub length-post : (colour : ℕ → ℕ) (row count : ℕ) → length (postOf colour row count) ≡ 4 + count
 length-post colour row count =

@@ -37,7 +37,7 @@ fn column_length(cover: &[u8], width: usize, height: usize, column: usize) -> us
 }
 
 fn one_if(test: bool) -> usize
-    ensures { λ r. ⌜ r ≡ cond test 1 0 ⌝ }
+    ensures { λ r. ⌜ (r ≡ cond test 1 0) × (r ≤ 1) ⌝ }
 {
     if test { 1 } else { 0 }
 }
