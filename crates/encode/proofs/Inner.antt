@@ -1,5 +1,5 @@
 -- Laws of the writer's way down a column: it goes from run to run, and no run begins where it does not look. Assumes nothing.
-use Prim.Native.Nat.{ℕ, zero, suc, _+_, _-_, _≤_, _<_}
+use Prim.Native.Nat.{ℕ, zero, suc, _+_, _-_, _*_, _≤_, _<_}
 use mathlib.Core.Bool.{Bool, true, false, _&&_, not, cond, and-false}
 use mathlib.Core.List.{List, [], _∷_, _++_, append-nil}
 use mathlib.Core.Logic.{⊎-elim}
@@ -7,10 +7,18 @@ use mathlib.Core.Path.{_≡_, refl, sym, ap, _∙_}
 use native.Mathlib.Nat.{eq-or-lt-of-le}
 use native.Mathlib.Numerals.{add-one}
 use native.Mathlib.Omega.{arith}
-use Rattle.encode.specs.Runs.{joined, aboveOf, begins, runFrom, postOf, postAt}
-use Rattle.encode.specs.Inner.{runBytes}
-use Rattle.encode.proofs.Joined.{joined-suc}
-use Rattle.encode.proofs.Runs.{run-most, run-covered, run-ends}
+use lib.IntN.{pos}
+use lib.ListN.{length, length-append}
+use lib.Seq.{sets, length-sets}
+use Rattle.endian.specs.Unsigned.{putU32}
+use Rattle.picture.specs.declared.Picture.{Picture}
+use Rattle.encode.specs.Runs.{joined, aboveOf, begins, runFrom, postOf, postAt, columnBytes, columnLength}
+use Rattle.encode.specs.Lump.{pixelAt, coveredAt, u32Bytes}
+use Rattle.encode.specs.Inner.{runBytes, offsetAt, offsetsTo, columnsTo}
+use Rattle.encode.proofs.Joined.{sum-more, joined-none, joined-suc, joined-more, length-joined-le}
+use Rattle.encode.proofs.Stores.{sets-append, sets-comm, sets-u32}
+use Rattle.encode.proofs.Runs.{run-most, run-covered, run-ends, length-column}
+use Rattle.encode.proofs.Lump.{length-offsets, length-columns}
 
 module _ (colour : ℕ → ℕ) (covered : ℕ → Bool) (height : ℕ) where
   -- the posts of the runs that begin above row `n`
@@ -37,7 +45,7 @@ module _ (colour : ℕ → ℕ) (covered : ℕ → Bool) (height : ℕ) where
   below-covered row e = ap (λ (b : Bool). covered (suc row) && not b) e ∙ and-false (covered (suc row))
 
   -- a run from a row whose upper neighbour is not covered is one post
-  run-posts : (row count : ℕ) → aboveOf covered row ≡ false → count ≡ runFrom covered row (height - row)
+  pub run-posts : (row count : ℕ) → aboveOf covered row ≡ false → count ≡ runFrom covered row (height - row)
       → posts (row + count) ≡ posts row ++ runBytes colour row count
   run-posts row zero above e = ap posts (omega arith) ∙ sym (append-nil (posts row))
   run-posts row (suc count) above e =
@@ -53,14 +61,15 @@ module _ (colour : ℕ → ℕ) (covered : ℕ → Bool) (height : ℕ) where
       ∙ ap (λ (b : Bool). posts row ++ cond b (postOf colour row (runFrom covered row (height - row))) []) first
       ∙ ap (λ (n : ℕ). posts row ++ postOf colour row n) (sym e)
 
+  pub run-rows : (row count : ℕ) → row ≤ height → count ≡ runFrom covered row (height - row) → row + count ≤ height
+  run-rows row count h e = omega (arith, e, run-most covered row (height - row))
+
   -- where the writer goes from `row`, with the run's bytes written
   pub record Next (row count next : ℕ) : Type 0 where
-    pub rows : row + count ≤ height
     pub below : row < next
     pub inside : next ≤ height
-    pub open : next < height → aboveOf covered next ≡ false
-    pub wrote : posts (row + count) ≡ posts row ++ runBytes colour row count
-    pub so-far : posts next ≡ posts (row + count)
+    pub clear : next < height → aboveOf covered next ≡ false
+    pub so-far : posts next ≡ posts row ++ runBytes colour row count
 
   pub next-of : (row count next : ℕ) → row < height → aboveOf covered row ≡ false → count ≡ runFrom covered row (height - row)
       → (row + count < height → next ≡ row + count + 1) → (height ≤ row + count → next ≡ height) → Next row count next
@@ -69,26 +78,111 @@ module _ (colour : ℕ → ℕ) (covered : ℕ → Bool) (height : ℕ) where
       (λ (q : row + count ≡ height).
       let n = last (omega arith) in
       record {
-        rows = omega arith;
         below = omega arith;
         inside = omega arith;
-        open = λ l. absurd (omega arith);
-        wrote = wrote;
-        so-far = ap posts (n ∙ sym q);
+        clear = λ l. absurd (omega arith);
+        so-far = ap posts (n ∙ sym q) ∙ run-posts row count above e;
       })
       (λ (l : row + count < height).
       let n : next ≡ suc (row + count) = more l ∙ add-one (row + count) in
       let bare : covered (row + count) ≡ false =
       ap (λ (k : ℕ). covered (row + k)) e ∙ run-ends covered row (height - row) (omega (arith, e)) in
       record {
-        rows = omega arith;
         below = omega arith;
         inside = omega arith;
-        open = λ k. ap (aboveOf covered) n ∙ bare;
-        wrote = wrote;
-        so-far = ap posts n ∙ quiet-row (row + count) (uncovered (row + count) bare);
+        clear = λ k. ap (aboveOf covered) n ∙ bare;
+        so-far = ap posts n ∙ quiet-row (row + count) (uncovered (row + count) bare) ∙ run-posts row count above e;
       })
-      (eq-or-lt-of-le (omega (arith, e, run-most covered row (height - row))))
-    where
-      wrote : posts (row + count) ≡ posts row ++ runBytes colour row count
-      wrote = run-posts row count above e
+      (eq-or-lt-of-le (run-rows row count (omega arith) e))
+
+  -- one run more
+  pub column-more : (out₀ : List ℕ) (from to row count next : ℕ) {out last : List ℕ} → Next row count next
+      → to ≡ from + length (posts row) → out ≡ sets out₀ from (posts row) → last ≡ sets out to (runBytes colour row count)
+      → last ≡ sets out₀ from (posts next)
+  column-more out₀ from to row count next n t o e =
+      e
+      ∙ (λ i. sets (o i) (t i) (runBytes colour row count))
+      ∙ sets-append out₀ from (posts row) (runBytes colour row count)
+      ∙ ap (sets out₀ from) (sym (n .so-far))
+
+  pub place-more : (from to row count next : ℕ) {result : ℕ} → Next row count next → to ≡ from + length (posts row)
+      → result ≡ to + length (runBytes colour row count) → result ≡ from + length (posts next)
+  place-more from to row count next n t e =
+      omega (arith, t, e, ap length (n .so-far), length-append (posts row) (runBytes colour row count))
+
+  -- a run's bytes lie before the column's end
+  pub run-room : (from to row count room : ℕ) → row ≤ height → aboveOf covered row ≡ false → count ≡ runFrom covered row (height - row)
+      → to ≡ from + length (posts row) → from + length (columnBytes colour covered height) ≤ room
+      → to + length (runBytes colour row count) ≤ room
+  run-room from to row count room h above e t r =
+      omega (
+        arith,
+        t,
+        r,
+        ap length (run-posts row count above e),
+        length-append (posts row) (runBytes colour row count),
+        length-joined-le (postAt colour covered height) (row + count) height (run-rows row count h e),
+        length-append (posts height) (255 ∷ []),
+      )
+
+-- ---- column after column, by width and height alone
+
+abbrev sized : ℕ → ℕ → Picture
+sized width height = record { width = width; height = height; left = pos 0; top = pos 0 }
+
+module _ (width height : ℕ) (colour cover : List ℕ) where
+  -- the columns before `n` with their offsets, stored
+  abbrev pub stored : List ℕ → ℕ → List ℕ
+  stored out n = sets (sets out 8 (offsetsTo width height cover n)) (8 + 4 * width) (columnsTo width height colour cover n)
+
+  pub stored-none : (out : List ℕ) → out ≡ stored out 0
+  stored-none out =
+      sym (
+      rw (
+        joined-none (λ column. u32Bytes (offsetAt width height cover column)),
+        joined-none (λ column. columnBytes (pixelAt colour width column) (coveredAt cover width column) height),
+      )
+      )
+
+  pub length-stored : (out : List ℕ) (n : ℕ) → length (stored out n) ≡ length out
+  length-stored out n =
+      length-sets (sets out 8 (offsetsTo width height cover n)) (8 + 4 * width) (columnsTo width height colour cover n)
+      ∙ length-sets out 8 (offsetsTo width height cover n)
+
+  pub offset-more : (n : ℕ)
+      → offsetAt width height cover (n + 1)
+      ≡ offsetAt width height cover n + length (columnBytes (pixelAt colour width n) (coveredAt cover width n) height)
+  offset-more n =
+      omega (
+        arith,
+        sum-more (λ column. columnLength (coveredAt cover width column) height) n,
+        length-column (pixelAt colour width n) (coveredAt cover width n) height,
+      )
+
+  -- one column more
+  pub stored-more : (out₀ : List ℕ) (n to : ℕ) {out mid last : List ℕ} → n < width → to ≡ offsetAt width height cover n
+      → out ≡ stored out₀ n → mid ≡ putU32 out (8 + 4 * n) to
+      → last ≡ sets mid to (columnBytes (pixelAt colour width n) (coveredAt cover width n) height)
+      → last ≡ stored out₀ (n + 1)
+  stored-more out₀ n to {out} {mid} {last} h t o m e =
+      let O = offsetsTo width height cover in
+      let C = columnsTo width height colour cover in
+      let column = columnBytes (pixelAt colour width n) (coveredAt cover width n) height in
+      let table = 8 + 4 * width in
+      let offsets : sets (sets out₀ 8 (O n)) (8 + 4 * n) (u32Bytes to) ≡ sets out₀ 8 (O (n + 1)) =
+      rw (← length-offsets (sized width height) colour cover n, t) (
+      sets-append out₀ 8 (O n) (u32Bytes (offsetAt width height cover n))
+      ∙ ap (sets out₀ 8) (sym (joined-more (λ column. u32Bytes (offsetAt width height cover column)) n))
+      ) in
+      let first : mid ≡ sets (sets out₀ 8 (O (n + 1))) table (C n) =
+      m
+      ∙ sets-u32 out (8 + 4 * n) to
+      ∙ ap (λ (x : List ℕ). sets x (8 + 4 * n) (u32Bytes to)) o
+      ∙ sym (sets-comm (sets out₀ 8 (O n)) (8 + 4 * n) table (u32Bytes to) (C n) (omega arith))
+      ∙ ap (λ (x : List ℕ). sets x table (C n)) offsets in
+      let place : to ≡ table + length (C n) = omega (arith, t, length-columns (sized width height) colour cover n) in
+      e
+      ∙ (λ i. sets (first i) (place i) column)
+      ∙ sets-append (sets out₀ 8 (O (n + 1))) table (C n) column
+      ∙ ap (sets (sets out₀ 8 (O (n + 1))) table)
+      (sym (joined-more (λ column. columnBytes (pixelAt colour width column) (coveredAt cover width column) height) n))

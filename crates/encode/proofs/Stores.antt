@@ -40,6 +40,9 @@ sets-u32 l at n =
     let three : at + 2 + 1 ≡ suc (suc (suc at)) = omega arith in
     rw (three, two, one)
 
+pub length-putU32 : (l : List ℕ) (at n : ℕ) → length (putU32 l at n) ≡ length l
+length-putU32 l at n = simp length-set
+
 -- a post's first three bytes
 abbrev pub headed : List ℕ → ℕ → ℕ → ℕ → List ℕ
 headed l at row count = set (set (set l at row) (at + 1) count) (at + 2) 0

@@ -28,9 +28,12 @@ pub enum Encoding {
 pub fn encode(picture: Picture, colour: &[u8], cover: &[u8], out: &mut [u8]) -> Encoding
     ensures { λ r. ⌜ Encoded picture (now (colour .entry)) (now (cover .entry)) (now (out .entry)) r (now (out .exit)) ⌝ }
 {
-    if let Check::Refused(r) =
-        judging::judge_given(picture.width, picture.height, colour.len(), cover)
-    {
+    if let Check::Refused(r) = judging::judge_given(
+        picture.width,
+        picture.height,
+        colour.len(),
+        cover,
+    ) {
         return Encoding::Refused(r);
     }
     let length = measure::written_length(cover, picture.width, picture.height);

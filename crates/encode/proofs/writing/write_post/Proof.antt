@@ -70,8 +70,8 @@ loop-again c =
     let place : a .at + 3 + l .i ≡ a .at + 3 + length (listOf f (a .row) (l .i)) = omega (arith, length-listOf f (a .row) (l .i)) in (
       search needs,
       ap (λ (x : List ℕ). set x (a .at + 3 + l .i) (f (a .row + l .i))) (l .inv .1)
-      ∙ sets-push _ (a .at + 3) (listOf f (a .row) (l .i)) _ _ place
-      ∙ ap (sets _ (a .at + 3)) (sym (listOf-more f (a .row) (l .i))),
+          ∙ sets-push _ (a .at + 3) (listOf f (a .row) (l .i)) _ _ place
+          ∙ ap (sets _ (a .at + 3)) (sym (listOf-more f (a .row) (l .i))),
       length-set (l .out) (a .at + 3 + l .i) (f (a .row + l .i)) ∙ l .inv .2,
     )
 
