@@ -5,4 +5,5 @@ pub mod Runs
 pub mod Stores
 pub mod Inner
 pub mod Lump
+pub mod Checks
 pub mod Examples

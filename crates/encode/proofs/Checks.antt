@@ -1,0 +1,106 @@
+-- Laws of encoding as a whole: what is known of pixels that may be written, what the stores leave, and what is promised from a
+-- check's outcome. Assumes nothing.
+use Prim.Native.Nat.{ℕ, _+_, _*_, _≤_, _<_}
+use mathlib.Core.Bool.{Bool, _&&_}
+use mathlib.Core.List.{List, _++_}
+use mathlib.Core.Path.{_≡_, sym, ap, _∙_}
+use native.Mathlib.Nat.{zero-add}
+use native.Mathlib.Omega.{arith}
+use borrow.Author.Tests.{leb-true, le-leb, lt-leb}
+use lib.Dec.{leb}
+use lib.ListN.{length, drop, length-append}
+use lib.Seq.{sets, sets-eq}
+use Rattle.refusal.specs.declared.Refusal.{Refusal}
+use Rattle.refusal.specs.declared.Refusal.the-variants.{PixelBuffer, EncodeSize, EncodeCover, EncodeRoom}
+use Rattle.refusal.specs.declared.Check.{Check}
+use Rattle.refusal.specs.declared.Check.the-variants.{Pass, Refused}
+use Rattle.refusal.specs.Checks.{unless, _andThen_}
+use Rattle.refusal.proofs.Checks.{both, unless-pass, andThen-pass, refused-then, pass-then}
+use Rattle.picture.specs.declared.Picture.{Picture}
+use Rattle.picture.specs.Judging.{sizeOk}
+use Rattle.canvas.specs.Pixels.{bufferAfter}
+use Rattle.encode.specs.declared.Encoding.{Encoding}
+use Rattle.encode.specs.Lump.{pixelsOf, headerBytes, writtenOf, writtenLength}
+use Rattle.encode.specs.Encoding.{coverOk, givenCheck, encodeCheck, answerOf, Encoded}
+use Rattle.encode.proofs.Stores.{sets-append, sets-comm}
+use Rattle.encode.proofs.Lump.{offsets, columns, length-offsets, length-written}
+use Rattle.encode.proofs.Inner.{stored}
+
+module _ (picture : Picture) (colour cover : List ℕ) where
+  -- ---- pixels that may be written
+
+  pub record Given : Type 0 where
+    pub some-width : 1 ≤ picture .width
+    pub width-most : picture .width ≤ 320
+    pub some-height : 1 ≤ picture .height
+    pub height-most : picture .height ≤ 200
+    pub colours-fit : pixelsOf picture ≤ length colour
+    pub covers-fit : pixelsOf picture ≤ length cover
+
+  pub given-of : givenCheck picture colour cover ≡ Pass → Given
+  given-of e =
+      let fit = leb (pixelsOf picture) (length colour) && leb (pixelsOf picture) (length cover) in
+      let size = sizeOk (picture .width) (picture .height) in
+      let rest = unless size EncodeSize andThen unless (coverOk cover (pixelsOf picture)) EncodeCover in
+      let first = andThen-pass (unless fit PixelBuffer) rest e in
+      let second = andThen-pass (unless size EncodeSize) (unless (coverOk cover (pixelsOf picture)) EncodeCover) (first .1) in
+      let fits = both (leb (pixelsOf picture) (length colour)) (leb (pixelsOf picture) (length cover)) (unless-pass fit PixelBuffer (first .0)) in
+      let sides = both (leb 1 (picture .width) && leb (picture .width) 320) (leb 1 (picture .height) && leb (picture .height) 200)
+      (unless-pass size EncodeSize (second .0)) in
+      let wide = both (leb 1 (picture .width)) (leb (picture .width) 320) (sides .0) in
+      let high = both (leb 1 (picture .height)) (leb (picture .height) 200) (sides .1) in
+      record {
+        some-width = leb-true _ _ (wide .0);
+        width-most = leb-true _ _ (wide .1);
+        some-height = leb-true _ _ (high .0);
+        height-most = leb-true _ _ (high .1);
+        colours-fit = leb-true _ _ (fits .0);
+        covers-fit = leb-true _ _ (fits .1);
+      }
+
+  -- ---- the check's outcomes
+
+  pub given-refused : (room : ℕ) {r : Refusal} → givenCheck picture colour cover ≡ Refused r → encodeCheck picture colour cover room ≡ Refused r
+  given-refused room e = sym (refused-then (unless (leb (writtenLength picture cover) room) EncodeRoom) e)
+
+  pub room-refused : (room : ℕ) → givenCheck picture colour cover ≡ Pass → room < writtenLength picture cover
+      → encodeCheck picture colour cover room ≡ Refused EncodeRoom
+  room-refused room e h = sym (pass-then e (sym (ap (λ (b : Bool). unless b EncodeRoom) (lt-leb (writtenLength picture cover) room h))))
+
+  pub room-passed : (room : ℕ) → givenCheck picture colour cover ≡ Pass → writtenLength picture cover ≤ room
+      → encodeCheck picture colour cover room ≡ Pass
+  room-passed room e h = sym (pass-then e (sym (ap (λ (b : Bool). unless b EncodeRoom) (le-leb (writtenLength picture cover) room h))))
+
+  -- ---- the columns, then the header, are the lump
+
+  pub lump-stored : (out : List ℕ) {mid last : List ℕ} → writtenLength picture cover ≤ length out
+      → mid ≡ stored (picture .width) (picture .height) colour cover out (picture .width)
+      → last ≡ sets mid 0 (headerBytes picture)
+      → last ≡ writtenOf picture colour cover ++ drop (length (writtenOf picture colour cover)) out
+  lump-stored out {mid} {last} room m e =
+      let w = picture .width in
+      let H = headerBytes picture in
+      let O = offsets picture colour cover w in
+      let C = columns picture colour cover w in
+      let lump = writtenOf picture colour cover in
+      let table : 8 + 4 * w ≡ 0 + length (H ++ O) = omega (arith, length-append H O, length-offsets picture colour cover w) in
+      let long : 0 + length lump ≤ length out = omega (arith, room, length-written picture colour cover) in
+      e
+      ∙ ap (λ (x : List ℕ). sets x 0 H) m
+      ∙ sym (sets-comm (sets out 8 O) 0 (8 + 4 * w) H C (omega arith))
+      ∙ ap (λ (x : List ℕ). sets x (8 + 4 * w) C) (sym (sets-comm out 0 8 H O (omega arith)) ∙ sets-append out 0 H O)
+      ∙ ap (λ (n : ℕ). sets (sets out 0 (H ++ O)) n C) table
+      ∙ sets-append out 0 (H ++ O) C
+      ∙ sets-eq lump out 0 long
+      ∙ ap (λ (n : ℕ). lump ++ drop n out) (zero-add (length lump))
+
+  -- ---- what encoding promises, from the check's outcome
+
+  pub encoded-by : (out : List ℕ) (k : Check) {answer : Encoding} {out' : List ℕ} → encodeCheck picture colour cover (length out) ≡ k
+      → answer ≡ answerOf k (writtenLength picture cover) → out' ≡ bufferAfter k (writtenOf picture colour cover) out
+      → Encoded picture colour cover out answer out'
+  encoded-by out k e a b =
+      record {
+        answered = a ∙ ap (λ (k : Check). answerOf k (writtenLength picture cover)) (sym e);
+        leaves = b ∙ ap (λ (k : Check). bufferAfter k (writtenOf picture colour cover) out) (sym e);
+      }
