@@ -11,17 +11,16 @@ use lib.Dec.{leb}
 use lib.ListN.{length, drop, length-append}
 use lib.Seq.{sets, sets-eq}
 use Rattle.refusal.specs.declared.Refusal.{Refusal}
-use Rattle.refusal.specs.declared.Refusal.the-variants.{PixelBuffer, EncodeSize, EncodeCover, EncodeRoom}
+use Rattle.refusal.specs.declared.Refusal.the-variants.{PixelBuffer, EncodeSize, EncodeRoom}
 use Rattle.refusal.specs.declared.Check.{Check}
 use Rattle.refusal.specs.declared.Check.the-variants.{Pass, Refused}
 use Rattle.refusal.specs.Checks.{unless, _andThen_}
 use Rattle.refusal.proofs.Checks.{both, unless-pass, andThen-pass, refused-then, pass-then}
 use Rattle.picture.specs.declared.Picture.{Picture}
-use Rattle.picture.specs.Judging.{sizeOk}
 use Rattle.canvas.specs.Pixels.{bufferAfter}
 use Rattle.encode.specs.declared.Encoding.{Encoding}
 use Rattle.encode.specs.Lump.{pixelsOf, headerBytes, writtenOf, writtenLength}
-use Rattle.encode.specs.Encoding.{coverOk, givenCheck, encodeCheck, answerOf, Encoded}
+use Rattle.encode.specs.Encoding.{buffersCheck, sizeCheck, coverCheck, roomCheck, givenCheck, encodeCheck, answerOf, Encoded}
 use Rattle.encode.proofs.Stores.{sets-append, sets-comm}
 use Rattle.encode.proofs.Lump.{offsets, columns, length-offsets, length-written}
 use Rattle.encode.proofs.Inner.{stored}
@@ -39,14 +38,14 @@ module _ (picture : Picture) (colour cover : List ℕ) where
 
   pub given-of : givenCheck picture colour cover ≡ Pass → Given
   given-of e =
-      let fit = leb (pixelsOf picture) (length colour) && leb (pixelsOf picture) (length cover) in
-      let size = sizeOk (picture .width) (picture .height) in
-      let rest = unless size EncodeSize andThen unless (coverOk cover (pixelsOf picture)) EncodeCover in
-      let first = andThen-pass (unless fit PixelBuffer) rest e in
-      let second = andThen-pass (unless size EncodeSize) (unless (coverOk cover (pixelsOf picture)) EncodeCover) (first .1) in
-      let fits = both (leb (pixelsOf picture) (length colour)) (leb (pixelsOf picture) (length cover)) (unless-pass fit PixelBuffer (first .0)) in
+      let a = buffersCheck (picture .width) (picture .height) (length colour) (length cover) in
+      let b = sizeCheck (picture .width) (picture .height) in
+      let c = coverCheck cover (pixelsOf picture) in
+      let first = andThen-pass a (b andThen c) e in
+      let second = andThen-pass b c (first .1) in
+      let fits = both (leb (pixelsOf picture) (length colour)) (leb (pixelsOf picture) (length cover)) (unless-pass _ PixelBuffer (first .0)) in
       let sides = both (leb 1 (picture .width) && leb (picture .width) 320) (leb 1 (picture .height) && leb (picture .height) 200)
-      (unless-pass size EncodeSize (second .0)) in
+      (unless-pass _ EncodeSize (second .0)) in
       let wide = both (leb 1 (picture .width)) (leb (picture .width) 320) (sides .0) in
       let high = both (leb 1 (picture .height)) (leb (picture .height) 200) (sides .1) in
       record {
@@ -61,7 +60,7 @@ module _ (picture : Picture) (colour cover : List ℕ) where
   -- ---- the check's outcomes
 
   pub given-refused : (room : ℕ) {r : Refusal} → givenCheck picture colour cover ≡ Refused r → encodeCheck picture colour cover room ≡ Refused r
-  given-refused room e = sym (refused-then (unless (leb (writtenLength picture cover) room) EncodeRoom) e)
+  given-refused room e = sym (refused-then (roomCheck (writtenLength picture cover) room) e)
 
   pub room-refused : (room : ℕ) → givenCheck picture colour cover ≡ Pass → room < writtenLength picture cover
       → encodeCheck picture colour cover room ≡ Refused EncodeRoom

@@ -1,6 +1,6 @@
 -- Which pixels are refused, and with what (02, W-201: 55, 56, 57 and 58, in that order), and what a lent output holds
 -- afterwards. Assumes nothing.
-use Prim.Native.Nat.{ℕ, zero, suc}
+use Prim.Native.Nat.{ℕ, zero, suc, _*_}
 use mathlib.Core.Bool.{Bool, true, _&&_}
 use mathlib.Core.List.{List}
 use mathlib.Core.Path.{_≡_}
@@ -22,18 +22,32 @@ unfoldable pub coverOk : List ℕ → ℕ → Bool
 coverOk cover zero = true
 coverOk cover (suc count) = coverOk cover count && leb (getD cover count 0) 1
 
--- 55, 56 and 57: what is given can be written. Buffers of width × height at least, over whole numbers, and a size that the
--- picture check accepts; then the first width × height bytes of cover.
+-- 55: buffers of `colours` and `covers` bytes, each at least width × height, over whole numbers
+abbrev pub buffersCheck : ℕ → ℕ → ℕ → ℕ → Check
+buffersCheck width height colours covers = unless (leb (height * width) colours && leb (height * width) covers) PixelBuffer
+
+-- 56: a size that the picture check accepts
+abbrev pub sizeCheck : ℕ → ℕ → Check
+sizeCheck width height = unless (sizeOk width height) EncodeSize
+
+-- 57: the first `count` bytes of cover
+abbrev pub coverCheck : List ℕ → ℕ → Check
+coverCheck cover count = unless (coverOk cover count) EncodeCover
+
+-- 58: an output of `room` bytes has place for `count`
+abbrev pub roomCheck : ℕ → ℕ → Check
+roomCheck count room = unless (leb count room) EncodeRoom
+
+-- 55, 56 and 57: what is given can be written
 abbrev pub givenCheck : Picture → List ℕ → List ℕ → Check
 givenCheck picture colour cover =
-    unless (leb (pixelsOf picture) (length colour) && leb (pixelsOf picture) (length cover)) PixelBuffer
-    andThen unless (sizeOk (picture .width) (picture .height)) EncodeSize
-    andThen unless (coverOk cover (pixelsOf picture)) EncodeCover
+    buffersCheck (picture .width) (picture .height) (length colour) (length cover)
+    andThen sizeCheck (picture .width) (picture .height)
+    andThen coverCheck cover (pixelsOf picture)
 
--- and 58: an output of `room` bytes has place for it
+-- and 58: written into an output of `room` bytes
 abbrev pub encodeCheck : Picture → List ℕ → List ℕ → ℕ → Check
-encodeCheck picture colour cover room =
-    givenCheck picture colour cover andThen unless (leb (writtenLength picture cover) room) EncodeRoom
+encodeCheck picture colour cover room = givenCheck picture colour cover andThen roomCheck (writtenLength picture cover) room
 
 -- the answer: how many bytes are written, or the refusal
 abbrev pub answerOf : Check → ℕ → Encoding

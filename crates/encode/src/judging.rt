@@ -1,19 +1,16 @@
 // What is given, judged: 55, 56 and 57.
 ghost use mathlib.Core.Path.{_≡_};
-ghost use mathlib.Core.Bool.{_&&_};
 ghost use Prim.Native.Nat.{_*_, _≤_};
 ghost use lib.Dec.{leb};
 ghost use lib.ListN.{length};
-ghost use Rattle.refusal.specs.declared.Refusal.the-variants.{PixelBuffer, EncodeSize, EncodeCover};
-ghost use Rattle.refusal.specs.Checks.{unless, _andThen_};
-ghost use Rattle.picture.specs.Judging.{sizeOk};
-ghost use Rattle.encode.specs.Encoding.{coverOk};
+ghost use Rattle.refusal.specs.Checks.{_andThen_};
+ghost use Rattle.encode.specs.Encoding.{coverOk, buffersCheck, sizeCheck, coverCheck};
 use refusal::Check;
 use refusal::Refusal;
 
 // The buffers' lengths, then the size, then the cover.
 pub fn judge_given(width: usize, height: usize, colours: usize, cover: &[u8]) -> Check
-    ensures { λ r. ⌜ r ≡ (unless (leb (height * width) colours && leb (height * width) (length (now (cover .entry)))) PixelBuffer andThen unless (sizeOk width height) EncodeSize andThen unless (coverOk (now (cover .entry)) (height * width)) EncodeCover) ⌝ }
+    ensures { λ r. ⌜ r ≡ (buffersCheck width height colours (length (now (cover .entry))) andThen sizeCheck width height andThen coverCheck (now (cover .entry)) (height * width)) ⌝ }
 {
     if !(fits(width, height, colours) & fits(width, height, cover.len())) {
         return Check::Refused(Refusal::PixelBuffer);

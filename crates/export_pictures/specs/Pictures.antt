@@ -10,7 +10,12 @@ use Rattle.picture.specs.declared.PictureVerdict.the-variants.{Accepted, Refuse
 use Rattle.picture.specs.Judging.{pictureCheck, answerOf}
 use Rattle.canvas.specs.Buffers.{paintCheck}
 use Rattle.canvas.specs.Pixels.{planeOf, byColour, byCover, bufferAfter}
+use Rattle.encode.specs.declared.Encoding.{Encoding}
+use Rattle.encode.specs.declared.Encoding.the-variants.{Written, Refused as NotWritten}
+use Rattle.encode.specs.Lump.{writtenLength, writtenOf}
+use Rattle.encode.specs.Encoding.{encodeCheck, answerOf as encodingOf}
 use Rattle.export_pictures.specs.declared.PictureAnswer.{PictureAnswer}
+use Rattle.export_pictures.specs.declared.LengthAnswer.{LengthAnswer}
 use Rattle.status.specs.Status.{accepted, refused}
 
 -- a header of zeros
@@ -31,3 +36,13 @@ pub record PicturePainted (lump colour cover : List ℕ) (answer : PictureAnswer
   pub answers : answer ≡ pictureOut (answerOf (paintCheck lump (length colour) (length cover)) lump)
   pub colours : colour′ ≡ bufferAfter (paintCheck lump (length colour) (length cover)) (planeOf byColour lump) colour
   pub covered : cover′ ≡ bufferAfter (paintCheck lump (length colour) (length cover)) (planeOf byCover lump) cover
+
+-- how many bytes were written
+abbrev pub lengthOut : Encoding → LengthAnswer
+lengthOut (Written length) = record { status = accepted; length = length }
+lengthOut (NotWritten r) = record { status = refused r; length = 0 }
+
+-- the writing entry's answer, and the output afterwards
+pub record PictureWritten (picture : Picture) (colour cover out : List ℕ) (answer : LengthAnswer) (out′ : List ℕ) : Type 0 where
+  pub answers : answer ≡ lengthOut (encodingOf (encodeCheck picture colour cover (length out)) (writtenLength picture cover))
+  pub leaves : out′ ≡ bufferAfter (encodeCheck picture colour cover (length out)) (writtenOf picture colour cover) out

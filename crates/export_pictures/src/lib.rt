@@ -1,6 +1,7 @@
 // Pictures.
 ghost use mathlib.Core.Path.{_≡_};
-ghost use Rattle.export_pictures.specs.Pictures.{pictureOut, pictureJudged, PicturePainted};
+ghost use Rattle.export_pictures.specs.Pictures.{pictureOut, pictureJudged, PicturePainted, PictureWritten};
+use encode::Encoding;
 use picture::Picture;
 use picture::PictureVerdict;
 use status::Status;
@@ -51,4 +52,32 @@ pub extern "C" fn meshpigeon_paint_picture(
     ensures { λ r. ⌜ PicturePainted (now (lump .entry)) (now (colour .entry)) (now (cover .entry)) r (now (colour .exit)) (now (cover .exit)) ⌝ }
 {
     answer(canvas::paint(lump, colour, cover))
+}
+
+#[repr(C)]
+pub struct LengthAnswer {
+    pub status: Status,
+    pub length: usize,
+}
+
+// A picture written from its pixels into the front of a lent buffer, 55 to 58.
+#[no_mangle]
+pub extern "C" fn meshpigeon_write_picture(
+    picture: Picture,
+    colour: &[u8],
+    cover: &[u8],
+    out: &mut [u8],
+) -> LengthAnswer
+    ensures { λ r. ⌜ PictureWritten picture (now (colour .entry)) (now (cover .entry)) (now (out .entry)) r (now (out .exit)) ⌝ }
+{
+    match encode::encode(picture, colour, cover, out) {
+        Encoding::Written(length) => LengthAnswer {
+            status: nothing_refused(),
+            length,
+        },
+        Encoding::Refused(r) => LengthAnswer {
+            status: refused(r),
+            length: 0,
+        },
+    }
 }
