@@ -7,3 +7,8 @@ pub mod Inner
 pub mod Lump
 pub mod Checks
 pub mod Examples
+pub mod Standing
+pub mod Reading
+pub mod Posts
+pub mod Columns
+pub mod RoundTrip

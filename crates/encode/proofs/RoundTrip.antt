@@ -1,0 +1,188 @@
+-- The round trip: what is written is accepted, and reading it gives back what was given. Assumes nothing.
+use Prim.Native.Nat.{ℕ, zero, suc, _+_, _*_, _/_, _%_, _≤_, _<_}
+use mathlib.Core.Bool.{Bool, true, false, _&&_, cond}
+use mathlib.Core.List.{List, _++_}
+use mathlib.Core.Path.{_≡_, refl, sym, ap, _∙_, subst}
+use native.Mathlib.Nat.{not-suc-le-zero, le-of-suc-le-suc, eq-or-lt-of-le, div-add-mod', zero-add}
+use native.Mathlib.Omega.{arith}
+use mathlib.Core.Logic.{⊎-elim}
+use borrow.Author.Tests.{leb-true, eqb-true, eqb-false}
+use lib.Dec.{leb, eqb}
+use lib.IntN.{ℤ}
+use lib.ListN.{length, getD, take, length-append}
+use lib.Seq.{ext-getD, getD-take, length-take-le}
+use mir.Syntax.{w16}
+use mir.Val.{SFits}
+use Rattle.endian.specs.Unsigned.{u16At, u32At}
+use Rattle.endian.specs.Signed.{signed, bitsOf}
+use Rattle.endian.proofs.Unsigned.{u16-whole}
+use Rattle.endian.proofs.Signed.{signed-bits}
+use Rattle.refusal.specs.declared.Refusal.the-variants.{PixelBuffer, EncodeSize, EncodeCover}
+use Rattle.refusal.specs.declared.Check.the-variants.{Pass}
+use Rattle.refusal.specs.Checks.{unless, _andThen_}
+use Rattle.refusal.proofs.Checks.{both, unless-pass, andThen-pass}
+use Rattle.picture.specs.declared.Picture.{Picture}
+use Rattle.picture.specs.Layout.{widthOf, heightOf, pictureOf, tableEnd, columnOffset}
+use Rattle.picture.specs.Judging.{sizeOk, pictureCheck}
+use Rattle.canvas.specs.Pixels.{byColour, byCover, listOf, planeOf}
+use Rattle.canvas.proofs.Planes.{length-listOf, getD-listOf}
+use Rattle.encode.specs.Lump.{pixelsOf, pixelAt, coveredAt, columnOf, offsetOf, u32Bytes, headerBytes, writtenLength, writtenOf}
+use Rattle.encode.specs.Encoding.{coverOk, givenCheck}
+use Rattle.encode.specs.RoundTrip.{colourWhere, ReadBack, RoundTrip}
+use Rattle.encode.proofs.Lump.{offsets, columns, length-offsets, length-columns, length-written}
+use Rattle.encode.proofs.Standing.{Stands, stands-whole, stands-left, stands-right, stands-u16, stands-u32}
+use Rattle.encode.proofs.Posts.{stands-joined, column-reads}
+use Rattle.encode.proofs.Columns.{Given, accepted, plane-given, listOf-same}
+
+-- what the four bytes of a number say is the number
+u32-whole : (n : ℕ) → u32At (u32Bytes n) 0 ≡ n
+u32-whole n = let low = u16-whole (n % 65536) in let high = u16-whole (n / 65536) in omega arith
+
+-- a list's first elements, one by one
+listOf-take : (xs : List ℕ) (n : ℕ) → n ≤ length xs → listOf (λ i. getD xs i 0) 0 n ≡ take n xs
+listOf-take xs n h =
+    let f : (ℕ → ℕ) = λ i. getD xs i 0 in
+    let long = length-listOf f 0 n in
+    ext-getD 0 (listOf f 0 n) (take n xs) (long ∙ sym (length-take-le n xs h))
+    (λ i l.
+    let k : i < n = omega arith in
+    getD-listOf f 0 n i k ∙ ap f (zero-add i) ∙ sym (getD-take n xs i 0 k))
+
+-- ---- what is given
+
+record Fit (picture : Picture) (colour cover : List ℕ) : Type 0 where
+  pub size : sizeOk (picture .width) (picture .height) ≡ true
+  pub low : picture .height ≤ 200
+  pub some : 0 < picture .width
+  pub covers : pixelsOf picture ≤ length cover
+  pub binary : coverOk cover (pixelsOf picture) ≡ true
+
+fit-of : (picture : Picture) (colour cover : List ℕ) → givenCheck picture colour cover ≡ Pass → Fit picture colour cover
+fit-of picture colour cover e =
+    let room-ok = leb (pixelsOf picture) (length colour) && leb (pixelsOf picture) (length cover) in
+    let room-part = unless room-ok PixelBuffer in
+    let size-part = unless (sizeOk (picture .width) (picture .height)) EncodeSize in
+    let cover-part = unless (coverOk cover (pixelsOf picture)) EncodeCover in
+    let first = andThen-pass room-part (size-part andThen cover-part) e in
+    let second = andThen-pass size-part cover-part (first .1) in
+    let room = both (leb (pixelsOf picture) (length colour)) _ (unless-pass room-ok PixelBuffer (first .0)) in
+    let size = unless-pass _ EncodeSize (second .0) in
+    let parts = both (leb 1 (picture .width) && leb (picture .width) 320) _ size in
+    record {
+      size = size;
+      low = leb-true _ _ (both (leb 1 (picture .height)) _ (parts .1) .1);
+      some = leb-true _ _ (both (leb 1 (picture .width)) _ (parts .0) .0);
+      covers = leb-true _ _ (room .1);
+      binary = unless-pass _ EncodeCover (second .1);
+    }
+
+-- a cover byte is 0 or 1
+cover-bit : (cover : List ℕ) (count i : ℕ) → coverOk cover count ≡ true → i < count → getD cover i 0 ≤ 1
+unfolding coverOk
+cover-bit cover zero i e h = absurd (not-suc-le-zero h)
+cover-bit cover (suc count) i e h =
+    let parts = both (coverOk cover count) _ e in
+    ⊎-elim
+    (λ (q : i ≡ count). rw q (leb-true _ _ (parts .1)))
+    (λ (l : i < count). cover-bit cover count i (parts .0) l)
+    (eq-or-lt-of-le (le-of-suc-le-suc h))
+
+bit-shown : (n : ℕ) → n ≤ 1 → cond (eqb n 1) 1 0 ≡ n
+bit-shown n h = by (eqb n 1) refl
+  where
+    by : (b : Bool) → eqb n 1 ≡ b → cond b 1 0 ≡ n
+    by true e = sym (eqb-true n 1 e)
+    by false e = let k : (n ≡ 1 → ⊥) = eqb-false n 1 e in omega arith
+
+module _ (picture : Picture) (colour cover : List ℕ) where
+  abbrev lump : List ℕ
+  lump = writtenOf picture colour cover
+
+  abbrev wide : ℕ
+  wide = picture .width
+
+  -- ---- where the parts stand
+
+  front : Stands lump 0 (headerBytes picture ++ offsets picture colour cover wide)
+  front = stands-left _ (columns picture colour cover wide) (stands-whole lump)
+
+  header : Stands lump 0 (headerBytes picture)
+  header = stands-left _ (offsets picture colour cover wide) front
+
+  table : Stands lump 8 (offsets picture colour cover wide)
+  table = stands-right (headerBytes picture) (offsets picture colour cover wide) front
+
+  posts : Stands lump (tableEnd wide) (columns picture colour cover wide)
+  posts =
+      let first = headerBytes picture ++ offsets picture colour cover wide in
+      let n : 0 + length first ≡ tableEnd wide =
+      (let a = length-append (headerBytes picture) (offsets picture colour cover wide) in
+      let b = length-offsets picture colour cover wide in omega arith) in
+      subst (λ (at : ℕ). Stands lump at (columns picture colour cover wide)) n
+      (stands-right first (columns picture colour cover wide) (stands-whole lump))
+
+  offset-read : (column : ℕ) → column < wide → columnOffset lump column ≡ offsetOf picture cover column
+  offset-read column h =
+      let here = stands-joined (λ column. u32Bytes (offsetOf picture cover column)) wide table column h in
+      let n : 8 + 4 * column ≡ 8 + length (offsets picture colour cover column) + 0 =
+      (let a = length-offsets picture colour cover column in omega arith) in
+      ap (u32At lump) n ∙ stands-u32 here 0 (omega arith) ∙ u32-whole (offsetOf picture cover column)
+
+  column-stands : (column : ℕ) → column < wide → Stands lump (offsetOf picture cover column) (columnOf picture colour cover column)
+  column-stands column h =
+      subst (λ (n : ℕ). Stands lump (tableEnd wide + n) (columnOf picture colour cover column)) (length-columns picture colour cover column)
+      (stands-joined (columnOf picture colour cover) wide posts column h)
+
+  given : Fit picture colour cover → Given lump wide (picture .height) (coveredAt cover wide) (pixelAt colour wide)
+  given f =
+      let low = f .low in
+      record {
+        wide = u16-whole wide;
+        tall = u16-whole (picture .height);
+        size = f .size;
+        table = (let p = posts .inside in omega arith);
+        offset = λ column h. rw (offset-read column h) (omega arith);
+        column = λ column h.
+            rw (offset-read column h)
+            (column-reads lump (picture .height) column (coveredAt cover wide column) (pixelAt colour wide column) (omega arith)
+            (offsetOf picture cover column) (column-stands column h));
+      }
+
+  -- ---- the planes
+
+  plane-read : Fit picture colour cover → (by : ℕ → ℕ)
+      → planeOf by lump ≡ listOf (λ i. cond (eqb (getD cover i 0) 1) (by (getD colour i 0)) 0) 0 (pixelsOf picture)
+  plane-read f by =
+      plane-given lump wide (picture .height) (coveredAt cover wide) (pixelAt colour wide) (given f) by
+      ∙ listOf-same _ _ 0 (pixelsOf picture)
+      (λ i l m. ap (λ (k : ℕ). cond (eqb (getD cover k 0) 1) (by (getD colour k 0)) 0) (div-add-mod' i wide))
+
+  cover-read : Fit picture colour cover → planeOf byCover lump ≡ take (pixelsOf picture) cover
+  cover-read f =
+      plane-read f byCover
+      ∙ listOf-same _ _ 0 (pixelsOf picture)
+      (λ i l m. bit-shown (getD cover i 0) (cover-bit cover (pixelsOf picture) i (f .binary) (omega arith)))
+      ∙ listOf-take cover (pixelsOf picture) (f .covers)
+
+  header-read : SFits w16 (picture .left) → SFits w16 (picture .top) → pictureOf lump ≡ picture
+  header-read l t =
+      let side : (z : ℤ) → SFits w16 z → signed 32768 (bitsOf 32768 z % 256 + 256 * (bitsOf 32768 z / 256)) ≡ z =
+      λ (z : ℤ) (h : SFits w16 z). ap (signed 32768) (u16-whole (bitsOf 32768 z)) ∙ signed-bits 32768 z (h .sfits) in
+      λ i. record {
+        width = u16-whole wide i;
+        height = u16-whole (picture .height) i;
+        left = side (picture .left) l i;
+        top = side (picture .top) t i;
+      }
+
+pub round-trip : RoundTrip
+round-trip picture colour cover l t e =
+    let f = fit-of picture colour cover e in
+    let width = picture .width in
+    record {
+      accepted = accepted _ width (picture .height) (coveredAt cover width) (pixelAt colour width) (given picture colour cover f);
+      header = header-read picture colour cover l t;
+      covers = cover-read picture colour cover f;
+      colours = plane-read picture colour cover f byColour;
+      long = length-written picture colour cover;
+    }
