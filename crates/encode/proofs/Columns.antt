@@ -1,21 +1,21 @@
 -- A lump whose header and columns are read as they were given is accepted, and its planes are those that were given. Assumes
 -- nothing.
 use Prim.Native.Nat.{ℕ, zero, suc, _+_, _*_, _/_, _%_, _≤_, _<_}
-use mathlib.Core.Bool.{Bool, true, false, _&&_, cond}
+use mathlib.Core.Bool.{Bool, true, _&&_, cond}
 use mathlib.Core.List.{List, _∷_}
-use mathlib.Core.Path.{_≡_, refl, sym, ap, _∙_, subst}
-use native.Mathlib.Nat.{not-suc-le-zero, le-of-suc-le-suc, mod-lt, div-lt-iff-lt-mul}
+use mathlib.Core.Path.{_≡_, refl, subst}
+use native.Mathlib.Nat.{mod-lt, div-lt-iff-lt-mul}
 use native.Mathlib.Numerals.{add-one}
 use native.Mathlib.Omega.{arith}
 use borrow.Author.Tests.{le-leb, leb-true}
 use lib.Dec.{leb}
-use lib.ListN.{length, getD}
+use lib.ListN.{length}
 use Rattle.refusal.specs.declared.Check.{Check}
 use Rattle.refusal.specs.declared.Check.the-variants.{Pass}
 use Rattle.refusal.specs.Checks.{each}
 use Rattle.refusal.proofs.Checks.{both, each-none, each-more}
-use Rattle.picture.specs.Layout.{widthOf, heightOf, areaOf, tableEnd, columnOffset}
-use Rattle.picture.specs.Judging.{sizeOk, columnCheck, columnsCheck, pictureCheck}
+use Rattle.picture.specs.Layout.{widthOf, heightOf, tableEnd, columnOffset}
+use Rattle.picture.specs.Judging.{sizeOk, columnCheck, pictureCheck}
 use Rattle.canvas.specs.Pixels.{shown, listOf, planeOf}
 use Rattle.encode.proofs.Reading.{Reads}
 

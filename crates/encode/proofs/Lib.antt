@@ -7,6 +7,7 @@ pub mod Inner
 pub mod Lump
 pub mod Checks
 pub mod Examples
+pub mod Fits
 pub mod Standing
 pub mod Reading
 pub mod Posts

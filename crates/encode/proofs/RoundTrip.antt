@@ -1,36 +1,35 @@
 -- The round trip: what is written is accepted, and reading it gives back what was given. Assumes nothing.
-use Prim.Native.Nat.{ℕ, zero, suc, _+_, _*_, _/_, _%_, _≤_, _<_}
-use mathlib.Core.Bool.{Bool, true, false, _&&_, cond}
+use Prim.Native.Nat.{ℕ, _+_, _*_, _/_, _%_, _≤_, _<_}
+use mathlib.Core.Bool.{Bool, true, false, cond}
 use mathlib.Core.List.{List, _++_}
 use mathlib.Core.Path.{_≡_, refl, sym, ap, _∙_, subst}
-use native.Mathlib.Nat.{not-suc-le-zero, le-of-suc-le-suc, eq-or-lt-of-le, div-add-mod', zero-add}
+use native.Mathlib.Nat.{div-add-mod', zero-add}
 use native.Mathlib.Omega.{arith}
-use mathlib.Core.Logic.{⊎-elim}
-use borrow.Author.Tests.{leb-true, eqb-true, eqb-false}
-use lib.Dec.{leb, eqb}
+use borrow.Author.Tests.{eqb-true, eqb-false}
+use lib.Dec.{eqb}
 use lib.IntN.{ℤ}
-use lib.ListN.{length, getD, take, length-append}
-use lib.Seq.{ext-getD, getD-take, length-take-le}
+use lib.ListN.{length, getD, take, drop, length-append}
+use lib.Seq.{take-at, ext-getD, getD-take, length-take-le}
 use mir.Syntax.{w16}
 use mir.Val.{SFits}
-use Rattle.endian.specs.Unsigned.{u16At, u32At}
+use Rattle.endian.specs.Unsigned.{u32At}
 use Rattle.endian.specs.Signed.{signed, bitsOf}
 use Rattle.endian.proofs.Unsigned.{u16-whole}
 use Rattle.endian.proofs.Signed.{signed-bits}
-use Rattle.refusal.specs.declared.Refusal.the-variants.{PixelBuffer, EncodeSize, EncodeCover}
-use Rattle.refusal.specs.declared.Check.the-variants.{Pass}
-use Rattle.refusal.specs.Checks.{unless, _andThen_}
-use Rattle.refusal.proofs.Checks.{both, unless-pass, andThen-pass}
+use Rattle.refusal.specs.declared.Check.{Check}
+use Rattle.refusal.specs.declared.Check.the-variants.{Pass, Refused}
+use Rattle.refusal.proofs.Checks.{andThen-pass}
 use Rattle.picture.specs.declared.Picture.{Picture}
-use Rattle.picture.specs.Layout.{widthOf, heightOf, pictureOf, tableEnd, columnOffset}
-use Rattle.picture.specs.Judging.{sizeOk, pictureCheck}
-use Rattle.canvas.specs.Pixels.{byColour, byCover, listOf, planeOf}
+use Rattle.picture.specs.Layout.{pictureOf, tableEnd, columnOffset}
+use Rattle.canvas.specs.Pixels.{bufferAfter, byColour, byCover, listOf, planeOf}
 use Rattle.canvas.proofs.Planes.{length-listOf, getD-listOf}
-use Rattle.encode.specs.Lump.{pixelsOf, pixelAt, coveredAt, columnOf, offsetOf, u32Bytes, headerBytes, writtenLength, writtenOf}
-use Rattle.encode.specs.Encoding.{coverOk, givenCheck}
-use Rattle.encode.specs.RoundTrip.{colourWhere, ReadBack, RoundTrip}
+use Rattle.encode.specs.Lump.{pixelsOf, pixelAt, coveredAt, columnOf, offsetOf, u32Bytes, headerBytes, writtenOf}
+use Rattle.encode.specs.declared.Encoding.the-variants.{Written}
+use Rattle.encode.specs.Encoding.{answerOf, encodeCheck, givenCheck}
+use Rattle.encode.specs.RoundTrip.{ReadBack, RoundTrip, OutputRoundTrip}
 use Rattle.encode.proofs.Lump.{offsets, columns, length-offsets, length-columns, length-written}
-use Rattle.encode.proofs.Standing.{Stands, stands-whole, stands-left, stands-right, stands-u16, stands-u32}
+use Rattle.encode.proofs.Fits.{Fit, fit-of, cover-bit}
+use Rattle.encode.proofs.Standing.{Stands, stands-whole, stands-left, stands-right, stands-u32}
 use Rattle.encode.proofs.Posts.{stands-joined, column-reads}
 use Rattle.encode.proofs.Columns.{Given, accepted, plane-given, listOf-same}
 
@@ -48,45 +47,7 @@ listOf-take xs n h =
     let k : i < n = omega arith in
     getD-listOf f 0 n i k ∙ ap f (zero-add i) ∙ sym (getD-take n xs i 0 k))
 
--- ---- what is given
-
-record Fit (picture : Picture) (colour cover : List ℕ) : Type 0 where
-  pub size : sizeOk (picture .width) (picture .height) ≡ true
-  pub low : picture .height ≤ 200
-  pub some : 0 < picture .width
-  pub covers : pixelsOf picture ≤ length cover
-  pub binary : coverOk cover (pixelsOf picture) ≡ true
-
-fit-of : (picture : Picture) (colour cover : List ℕ) → givenCheck picture colour cover ≡ Pass → Fit picture colour cover
-fit-of picture colour cover e =
-    let room-ok = leb (pixelsOf picture) (length colour) && leb (pixelsOf picture) (length cover) in
-    let room-part = unless room-ok PixelBuffer in
-    let size-part = unless (sizeOk (picture .width) (picture .height)) EncodeSize in
-    let cover-part = unless (coverOk cover (pixelsOf picture)) EncodeCover in
-    let first = andThen-pass room-part (size-part andThen cover-part) e in
-    let second = andThen-pass size-part cover-part (first .1) in
-    let room = both (leb (pixelsOf picture) (length colour)) _ (unless-pass room-ok PixelBuffer (first .0)) in
-    let size = unless-pass _ EncodeSize (second .0) in
-    let parts = both (leb 1 (picture .width) && leb (picture .width) 320) _ size in
-    record {
-      size = size;
-      low = leb-true _ _ (both (leb 1 (picture .height)) _ (parts .1) .1);
-      some = leb-true _ _ (both (leb 1 (picture .width)) _ (parts .0) .0);
-      covers = leb-true _ _ (room .1);
-      binary = unless-pass _ EncodeCover (second .1);
-    }
-
--- a cover byte is 0 or 1
-cover-bit : (cover : List ℕ) (count i : ℕ) → coverOk cover count ≡ true → i < count → getD cover i 0 ≤ 1
-unfolding coverOk
-cover-bit cover zero i e h = absurd (not-suc-le-zero h)
-cover-bit cover (suc count) i e h =
-    let parts = both (coverOk cover count) _ e in
-    ⊎-elim
-    (λ (q : i ≡ count). rw q (leb-true _ _ (parts .1)))
-    (λ (l : i < count). cover-bit cover count i (parts .0) l)
-    (eq-or-lt-of-le (le-of-suc-le-suc h))
-
+-- a cover byte, as a plane shows it
 bit-shown : (n : ℕ) → n ≤ 1 → cond (eqb n 1) 1 0 ≡ n
 bit-shown n h = by (eqb n 1) refl
   where
@@ -105,9 +66,6 @@ module _ (picture : Picture) (colour cover : List ℕ) where
 
   front : Stands lump 0 (headerBytes picture ++ offsets picture colour cover wide)
   front = stands-left _ (columns picture colour cover wide) (stands-whole lump)
-
-  header : Stands lump 0 (headerBytes picture)
-  header = stands-left _ (offsets picture colour cover wide) front
 
   table : Stands lump 8 (offsets picture colour cover wide)
   table = stands-right (headerBytes picture) (offsets picture colour cover wide) front
@@ -186,3 +144,20 @@ round-trip picture colour cover l t e =
       colours = plane-read picture colour cover f byColour;
       long = length-written picture colour cover;
     }
+
+-- ---- the same of an output
+
+written-pass : (k : Check) {length count : ℕ} → Written count ≡ answerOf k length → (k ≡ Pass) × (count ≡ length)
+written-pass Pass e = (refl, cc)
+written-pass (Refused r) e = let z : _≡_ {A = ℕ} 0 1 = cc in absurd (omega arith)
+
+pub output-round-trip : OutputRoundTrip
+output-round-trip picture colour cover out count out' l t w =
+    let check = encodeCheck picture colour cover (length out) in
+    let lump = writtenOf picture colour cover in
+    let pass = written-pass check (w .answered) in
+    let parts = andThen-pass (givenCheck picture colour cover) _ (pass .0) in
+    let holds : out' ≡ lump ++ drop (length lump) out = w .leaves ∙ ap (λ (k : Check). bufferAfter k lump out) (pass .0) in
+    let first : take count out' ≡ lump =
+    ap (take count) holds ∙ take-at lump _ count (length-written picture colour cover ∙ sym (pass .1)) in
+    subst (ReadBack picture colour cover) (sym first) (round-trip picture colour cover l t (parts .0))

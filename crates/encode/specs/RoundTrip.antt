@@ -14,7 +14,8 @@ use Rattle.picture.specs.Layout.{pictureOf}
 use Rattle.picture.specs.Judging.{pictureCheck}
 use Rattle.canvas.specs.Pixels.{byColour, byCover, listOf, planeOf}
 use Rattle.encode.specs.Lump.{pixelsOf, writtenLength, writtenOf}
-use Rattle.encode.specs.Encoding.{givenCheck}
+use Rattle.encode.specs.declared.Encoding.the-variants.{Written}
+use Rattle.encode.specs.Encoding.{givenCheck, Encoded}
 
 -- the given colour where `cover` covers pixel `i`, 0 elsewhere
 abbrev pub colourWhere : List ℕ → List ℕ → ℕ → ℕ
@@ -39,3 +40,10 @@ RoundTrip =
     (picture : Picture) (colour cover : List ℕ)
     → SFits w16 (picture .left) → SFits w16 (picture .top) → givenCheck picture colour cover ≡ Pass
     → ReadBack picture colour cover (writtenOf picture colour cover)
+
+-- and so does what a lent output holds once it was written to: its first `count` bytes, where `count` is the answer
+abbrev pub OutputRoundTrip : Type 0
+OutputRoundTrip =
+    (picture : Picture) (colour cover out : List ℕ) (count : ℕ) (out' : List ℕ)
+    → SFits w16 (picture .left) → SFits w16 (picture .top) → Encoded picture colour cover out (Written count) out'
+    → ReadBack picture colour cover (take count out')
