@@ -19,12 +19,16 @@ use Rattle.picture.specs.Judging.{sizeOk, columnCheck, pictureCheck}
 use Rattle.canvas.specs.Pixels.{shown, listOf, planeOf}
 use Rattle.encode.proofs.Reading.{Reads}
 
+-- checks that all pass, one after the other
 each-all : (f : ℕ → Check) (n : ℕ) → ((i : ℕ) → i < n → f i ≡ Pass) → each f n ≡ Pass
 each-all f zero h = each-none f
-each-all f (suc n) h = subst (λ (k : ℕ). each f k ≡ Pass) (add-one n) (each-more f n (each-all f n (λ i l. h i (omega arith))) refl (h n (omega arith)))
+each-all f (suc n) h =
+    let before = each-all f n (λ i l. h i (omega arith)) in
+    subst (λ (k : ℕ). each f k ≡ Pass) (add-one n) (each-more f n before refl (h n (omega arith)))
 
 -- lists of equal elements are equal
-pub listOf-same : (f g : ℕ → ℕ) (from count : ℕ) → ((i : ℕ) → from ≤ i → i < from + count → f i ≡ g i) → listOf f from count ≡ listOf g from count
+pub listOf-same : (f g : ℕ → ℕ) (from count : ℕ) → ((i : ℕ) → from ≤ i → i < from + count → f i ≡ g i)
+    → listOf f from count ≡ listOf g from count
 unfolding listOf
 listOf-same f g from zero h = refl
 listOf-same f g from (suc count) h =
@@ -38,7 +42,8 @@ module _ (lump : List ℕ) (width height : ℕ) (covered : ℕ → ℕ → Bool)
     pub size : sizeOk width height ≡ true
     pub table : tableEnd width ≤ length lump
     pub offset : (column : ℕ) → column < width → tableEnd width ≤ columnOffset lump column
-    pub column : (column : ℕ) → column < width → Reads lump height column (covered column) (colour column) (columnOffset lump column) 0
+    pub column : (column : ℕ) → column < width
+        → Reads lump height column (covered column) (colour column) (columnOffset lump column) 0
 
   module _ (g : Given) where
     one-passes : (column : ℕ) → column < width → columnCheck lump width height column ≡ Pass

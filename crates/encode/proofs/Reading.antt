@@ -1,5 +1,5 @@
--- What stands at a place of a lump, told by how it is read: the posts from there on pass, and show the covered rows from `row` on.
--- Assumes nothing.
+-- What stands at a place of a lump, told by how it is read: the posts from there on pass, and show covered rows. An end byte, an
+-- uncovered row and a run's post are each read so, from what is read below them. Assumes nothing.
 use Prim.Native.Nat.{ℕ, zero, suc, _+_, _-_, _≤_, _<_}
 use mathlib.Core.Bool.{Bool, true, false, _&&_, cond}
 use mathlib.Core.List.{List}
@@ -12,6 +12,7 @@ use Rattle.refusal.specs.declared.Check.the-variants.{Pass}
 use Rattle.picture.specs.Layout.{startAt, lengthAt, endRow, postEnd}
 use Rattle.picture.specs.Judging.{postsCheck}
 use Rattle.canvas.specs.Pixels.{overPost, overPosts}
+use Rattle.canvas.proofs.Posts.{posts-ended}
 
 module _ (lump : List ℕ) (height column : ℕ) (covered : ℕ → Bool) (colour : ℕ → ℕ) where
   -- what a plane shows at row `r` by the covered rows from `row` on
@@ -32,11 +33,6 @@ module _ (lump : List ℕ) (height column : ℕ) (covered : ℕ → Bool) (colou
   ended-passes at zero from h e k = absurd (omega arith)
   ended-passes at (suc most) from h e k = simp (eq-eqb _ _ e)
 
-  ended-shows : (by : ℕ → ℕ) (at most r under : ℕ) → startAt lump at ≡ 255 → overPosts by most lump at r under ≡ under
-  unfolding overPosts
-  ended-shows by at zero r under e = refl
-  ended-shows by at (suc most) r under e = simp (eq-eqb _ _ e)
-
   -- rows above `row` are not among those from it on
   above : (by : ℕ → ℕ) (row r under : ℕ) → r < row → rowsFrom by row r under ≡ under
   above by row r under h = rw (lt-leb row r h)
@@ -45,7 +41,8 @@ module _ (lump : List ℕ) (height column : ℕ) (covered : ℕ → Bool) (colou
   reads-end at row h e k =
       record {
         passes = λ most from l m. ended-passes at most from h e l;
-        shows = λ by most r under l m. ended-shows by at most r under e ∙ sym (above by row r under (omega arith));
+        shows = λ by most r under l m.
+            sym (posts-ended lump height column by most at e r under) ∙ sym (above by row r under (omega arith));
       }
 
   -- ---- an uncovered row
@@ -76,6 +73,7 @@ module _ (lump : List ℕ) (height column : ℕ) (covered : ℕ → Bool) (colou
 
   -- ---- a run, as one post
 
+  -- a post of `count` pixels from `row` on stands at `at`, and has the colours of covered rows
   pub record PostAt (at row count : ℕ) : Type 0 where
     pub inside : at + 4 + count ≤ length lump
     pub start : startAt lump at ≡ row
@@ -94,6 +92,39 @@ module _ (lump : List ℕ) (height column : ℕ) (covered : ℕ → Bool) (colou
     here : startAt lump at ≡ 255 → ⊥
     here e = let f = p .fits in let s = p .start in omega arith
 
+    -- what the post shows at a row of the run, below it and above it
+    within : (by : ℕ → ℕ) (r under : ℕ) → row ≤ r → r < row + count → overPost by lump at r under ≡ by (colour r)
+    within by r under h k =
+        let i : row + (r - row) ≡ r = omega arith in
+        let top : startAt lump at ≤ r = rw (p .start) h in
+        let low : r < endRow lump at = rw bottom k in
+        let q : getD lump (at + 3 + (r - startAt lump at)) 0 ≡ colour r =
+        rw (p .start) (p .pixels (r - row) (omega arith) ∙ ap colour i) in
+        simp (le-leb _ _ top, lt-ltb _ _ low, q)
+
+    past : (by : ℕ → ℕ) (r under : ℕ) → row + count ≤ r → overPost by lump at r under ≡ under
+    past by r under h =
+        let top : startAt lump at ≤ r = rw (p .start) (omega arith) in
+        let low : endRow lump at ≤ r = rw bottom h in
+        simp (le-leb _ _ top, le-ltb _ _ low)
+
+    before : (by : ℕ → ℕ) (r under : ℕ) → r < row → overPost by lump at r under ≡ under
+    before by r under h = let top : r < startAt lump at = rw (p .start) h in simp (lt-leb _ _ top)
+
+    row-shows : (by : ℕ → ℕ) (r under : ℕ) (a b : Bool) → leb row r ≡ a → leb (row + count) r ≡ b
+        → rowsFrom by (row + count) r (overPost by lump at r under) ≡ rowsFrom by row r under
+    row-shows by r under a true e f =
+        let l : row + count ≤ r = leb-true (row + count) r f in
+        let k : row ≤ r = omega arith in
+        rw (past by r under l, f, le-leb row r k)
+    row-shows by r under true false e f =
+        let l : r < row + count = leb-false (row + count) r f in
+        let k : row ≤ r = leb-true row r e in
+        let i : row + (r - row) ≡ r = omega arith in
+        let c : covered r ≡ true = ap covered (sym i) ∙ p .run (r - row) (omega arith) in
+        rw (within by r under k l, f, e, c)
+    row-shows by r under false false e f = rw (before by r under (leb-false row r e), f, e)
+
     module _ (rest : Reads (at + 4 + count) (row + count)) where
       post-passes : (most from : ℕ) → length lump ≤ at + most → from ≤ row → postsCheck most lump height column at from ≡ Pass
       unfolding postsCheck
@@ -104,39 +135,6 @@ module _ (lump : List ℕ) (height column : ℕ) (covered : ℕ → Bool) (colou
           let low = le-leb (row + count) height (p .fits) in
           simp (ne-eqb _ _ here, next, bottom, inside, le-leb _ _ top, low)
           (rest .passes most (row + count) (omega arith) (omega arith))
-
-      -- what the post shows at a row of the run, below it and above it
-      within : (by : ℕ → ℕ) (r under : ℕ) → row ≤ r → r < row + count → overPost by lump at r under ≡ by (colour r)
-      within by r under h k =
-          let i : row + (r - row) ≡ r = omega arith in
-          let top : startAt lump at ≤ r = rw (p .start) h in
-          let low : r < endRow lump at = rw bottom k in
-          let q : getD lump (at + 3 + (r - startAt lump at)) 0 ≡ colour r =
-          rw (p .start) (p .pixels (r - row) (omega arith) ∙ ap colour i) in
-          simp (le-leb _ _ top, lt-ltb _ _ low, q)
-
-      past : (by : ℕ → ℕ) (r under : ℕ) → row + count ≤ r → overPost by lump at r under ≡ under
-      past by r under h =
-          let top : startAt lump at ≤ r = rw (p .start) (omega arith) in
-          let low : endRow lump at ≤ r = rw bottom h in
-          simp (le-leb _ _ top, le-ltb _ _ low)
-
-      before : (by : ℕ → ℕ) (r under : ℕ) → r < row → overPost by lump at r under ≡ under
-      before by r under h = let top : r < startAt lump at = rw (p .start) h in simp (lt-leb _ _ top)
-
-      row-shows : (by : ℕ → ℕ) (r under : ℕ) (a b : Bool) → leb row r ≡ a → leb (row + count) r ≡ b
-          → rowsFrom by (row + count) r (overPost by lump at r under) ≡ rowsFrom by row r under
-      row-shows by r under a true e f =
-          let l : row + count ≤ r = leb-true (row + count) r f in
-          let k : row ≤ r = omega arith in
-          rw (past by r under l, f, le-leb row r k)
-      row-shows by r under true false e f =
-          let l : r < row + count = leb-false (row + count) r f in
-          let k : row ≤ r = leb-true row r e in
-          let i : row + (r - row) ≡ r = omega arith in
-          let c : covered r ≡ true = ap covered (sym i) ∙ p .run (r - row) (omega arith) in
-          rw (within by r under k l, f, e, c)
-      row-shows by r under false false e f = rw (before by r under (leb-false row r e), f, e)
 
       post-shows : (by : ℕ → ℕ) (most r under : ℕ) → length lump ≤ at + most → r < height
           → overPosts by most lump at r under ≡ rowsFrom by row r under

@@ -88,7 +88,8 @@ module _ (picture : Picture) (colour cover : List ℕ) where
 
   column-stands : (column : ℕ) → column < wide → Stands lump (offsetOf picture cover column) (columnOf picture colour cover column)
   column-stands column h =
-      subst (λ (n : ℕ). Stands lump (tableEnd wide + n) (columnOf picture colour cover column)) (length-columns picture colour cover column)
+      subst (λ (n : ℕ). Stands lump (tableEnd wide + n) (columnOf picture colour cover column))
+      (length-columns picture colour cover column)
       (stands-joined (columnOf picture colour cover) wide posts column h)
 
   given : Fit picture colour cover → Given lump wide (picture .height) (coveredAt cover wide) (pixelAt colour wide)
