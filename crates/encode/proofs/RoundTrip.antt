@@ -5,7 +5,7 @@ use mathlib.Core.List.{List, _++_}
 use mathlib.Core.Path.{_≡_, refl, sym, ap, _∙_, subst}
 use native.Mathlib.Nat.{div-add-mod', zero-add}
 use native.Mathlib.Omega.{arith}
-use borrow.Author.Tests.{eqb-true, eqb-false}
+use borrow.Author.Tests.{le-leb, eqb-true, eqb-false}
 use lib.Dec.{eqb}
 use lib.IntN.{ℤ}
 use lib.ListN.{length, getD, take, drop, length-append}
@@ -18,15 +18,19 @@ use Rattle.endian.proofs.Unsigned.{u16-whole}
 use Rattle.endian.proofs.Signed.{signed-bits}
 use Rattle.refusal.specs.declared.Check.{Check}
 use Rattle.refusal.specs.declared.Check.the-variants.{Pass, Refused}
-use Rattle.refusal.proofs.Checks.{andThen-pass}
+use Rattle.refusal.proofs.Checks.{pass-then, andThen-pass}
 use Rattle.picture.specs.declared.Picture.{Picture}
-use Rattle.picture.specs.Layout.{pictureOf, tableEnd, columnOffset}
+use Rattle.picture.specs.declared.PictureVerdict.the-variants.{Accepted}
+use Rattle.picture.specs.Layout.{pictureOf, areaOf, tableEnd, columnOffset}
+use Rattle.picture.specs.Judging.{pictureHeaderCheck, columnsCheck, answerOf as pictureAnswer}
+use Rattle.canvas.specs.Buffers.{roomCheck, paintCheck}
 use Rattle.canvas.specs.Pixels.{bufferAfter, byColour, byCover, listOf, planeOf}
+use Rattle.canvas.proofs.Checks.{room-passed}
 use Rattle.canvas.proofs.Planes.{length-listOf, getD-listOf}
 use Rattle.encode.specs.Lump.{pixelsOf, pixelAt, coveredAt, columnOf, offsetOf, u32Bytes, headerBytes, writtenOf}
 use Rattle.encode.specs.declared.Encoding.the-variants.{Written}
 use Rattle.encode.specs.Encoding.{answerOf, encodeCheck, givenCheck}
-use Rattle.encode.specs.RoundTrip.{ReadBack, RoundTrip, OutputRoundTrip}
+use Rattle.encode.specs.RoundTrip.{ReadBack, RoundTrip, OutputRoundTrip, PaintedRoundTrip}
 use Rattle.encode.proofs.Lump.{offsets, columns, length-offsets, length-columns, length-written}
 use Rattle.encode.proofs.Fits.{Fit, fit-of, cover-bit}
 use Rattle.encode.proofs.Standing.{Stands, stands-whole, stands-left, stands-right, stands-u32}
@@ -162,3 +166,30 @@ output-round-trip picture colour cover out count out' l t w =
     let first : take count out' ≡ lump =
     ap (take count) holds ∙ take-at lump _ count (length-written picture colour cover ∙ sym (pass .1)) in
     subst (ReadBack picture colour cover) (sym first) (round-trip picture colour cover l t (parts .0))
+
+-- ---- painted again
+
+-- pixels of a plane, in front of what a buffer has behind its first `n` bytes
+over : (n : ℕ) {plane pixels : List ℕ} (buffer : List ℕ) → length plane ≡ n → plane ≡ pixels
+    → plane ++ drop (length plane) buffer ≡ pixels ++ drop n buffer
+over n buffer h e = (λ i. e i ++ drop (h i) buffer)
+
+pub painted-round-trip : PaintedRoundTrip
+painted-round-trip picture colour cover lump colour₁ cover₁ answer colour₂ cover₂ r h k p =
+    let n = pixelsOf picture in
+    let area : areaOf lump ≡ n = ap (λ (p : Picture). p .height * p .width) (r .header) in
+    let colour-room : areaOf lump ≤ length colour₁ = rw area h in
+    let cover-room : areaOf lump ≤ length cover₁ = rw area k in
+    let room : roomCheck lump (length colour₁) (length cover₁) ≡ Pass = simp (le-leb _ _ colour-room, le-leb _ _ cover-room) in
+    let parts = andThen-pass (pictureHeaderCheck lump) (columnsCheck lump) (r .accepted) in
+    let pass : paintCheck lump (length colour₁) (length cover₁) ≡ Pass =
+    room-passed lump (length colour₁) (length cover₁) (sym (pass-then (parts .0) (sym room))) ∙ r .accepted in
+    record {
+      answered = p .answered ∙ ap (λ (k : Check). pictureAnswer k lump) pass ∙ ap Accepted (r .header);
+      colours = p .colours
+          ∙ ap (λ (k : Check). bufferAfter k (planeOf byColour lump) colour₁) pass
+          ∙ over n colour₁ (length-listOf _ 0 (areaOf lump) ∙ area) (r .colours);
+      covered = p .covered
+          ∙ ap (λ (k : Check). bufferAfter k (planeOf byCover lump) cover₁) pass
+          ∙ over n cover₁ (length-listOf _ 0 (areaOf lump) ∙ area) (r .covers);
+    }

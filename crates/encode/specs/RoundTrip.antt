@@ -1,18 +1,20 @@
 -- What was written, read again (02, W-201: "reading what was written gives the cover back, and the colour wherever
 -- covered"). Assumes nothing.
-use Prim.Native.Nat.{ℕ}
+use Prim.Native.Nat.{ℕ, _≤_}
 use mathlib.Core.Bool.{cond}
-use mathlib.Core.List.{List}
+use mathlib.Core.List.{List, _++_}
 use mathlib.Core.Path.{_≡_}
 use lib.Dec.{eqb}
-use lib.ListN.{length, getD, take}
+use lib.ListN.{length, getD, take, drop}
 use mir.Syntax.{w16}
 use mir.Val.{SFits}
 use Rattle.refusal.specs.declared.Check.the-variants.{Pass}
 use Rattle.picture.specs.declared.Picture.{Picture}
+use Rattle.picture.specs.declared.PictureVerdict.{PictureVerdict}
+use Rattle.picture.specs.declared.PictureVerdict.the-variants.{Accepted}
 use Rattle.picture.specs.Layout.{pictureOf}
 use Rattle.picture.specs.Judging.{pictureCheck}
-use Rattle.canvas.specs.Pixels.{byColour, byCover, listOf, planeOf}
+use Rattle.canvas.specs.Pixels.{byColour, byCover, listOf, planeOf, Painted}
 use Rattle.encode.specs.Lump.{pixelsOf, writtenLength, writtenOf}
 use Rattle.encode.specs.declared.Encoding.the-variants.{Written}
 use Rattle.encode.specs.Encoding.{givenCheck, Encoded}
@@ -47,3 +49,18 @@ OutputRoundTrip =
     (picture : Picture) (colour cover out : List ℕ) (count : ℕ) (out' : List ℕ)
     → SFits w16 (picture .left) → SFits w16 (picture .top) → Encoded picture colour cover out (Written count) out'
     → ReadBack picture colour cover (take count out')
+
+-- what painting such a lump into two buffers answers, and what both hold afterwards: the given pixels, then as they were
+pub record PaintedBack (picture : Picture) (colour cover colour₁ cover₁ : List ℕ) (answer : PictureVerdict) (colour₂ cover₂ : List ℕ)
+    : Type 0 where
+  pub answered : answer ≡ Accepted picture
+  pub colours : colour₂ ≡ listOf (colourWhere colour cover) 0 (pixelsOf picture) ++ drop (pixelsOf picture) colour₁
+  pub covered : cover₂ ≡ take (pixelsOf picture) cover ++ drop (pixelsOf picture) cover₁
+
+-- a lump that reads back paints back, into any two buffers that have room
+abbrev pub PaintedRoundTrip : Type 0
+PaintedRoundTrip =
+    (picture : Picture) (colour cover lump colour₁ cover₁ : List ℕ) (answer : PictureVerdict) (colour₂ cover₂ : List ℕ)
+    → ReadBack picture colour cover lump → pixelsOf picture ≤ length colour₁ → pixelsOf picture ≤ length cover₁
+    → Painted lump colour₁ cover₁ answer colour₂ cover₂
+    → PaintedBack picture colour cover colour₁ cover₁ answer colour₂ cover₂
