@@ -1,5 +1,4 @@
--- Laws of encoding as a whole: what is known of pixels that may be written, what the stores leave, and what is promised from a
--- check's outcome. Assumes nothing.
+-- Laws of encoding as a whole: the check's outcomes, what the stores leave, and what is promised from an outcome. Assumes nothing.
 use Prim.Native.Nat.{ℕ, _+_, _*_, _≤_, _<_}
 use mathlib.Core.Bool.{Bool, _&&_}
 use mathlib.Core.List.{List, _++_}
@@ -11,51 +10,27 @@ use lib.Dec.{leb}
 use lib.ListN.{length, drop, length-append}
 use lib.Seq.{sets, sets-eq}
 use Rattle.refusal.specs.declared.Refusal.{Refusal}
-use Rattle.refusal.specs.declared.Refusal.the-variants.{PixelBuffer, EncodeSize, EncodeRoom}
+use Rattle.refusal.specs.declared.Refusal.the-variants.{EncodeRoom}
 use Rattle.refusal.specs.declared.Check.{Check}
 use Rattle.refusal.specs.declared.Check.the-variants.{Pass, Refused}
-use Rattle.refusal.specs.Checks.{unless, _andThen_}
-use Rattle.refusal.proofs.Checks.{both, unless-pass, andThen-pass, refused-then, pass-then}
+use Rattle.refusal.specs.Checks.{unless}
+use Rattle.refusal.proofs.Checks.{both, refused-then, pass-then}
 use Rattle.picture.specs.declared.Picture.{Picture}
 use Rattle.canvas.specs.Pixels.{bufferAfter}
 use Rattle.encode.specs.declared.Encoding.{Encoding}
-use Rattle.encode.specs.Lump.{pixelsOf, headerBytes, writtenOf, writtenLength}
-use Rattle.encode.specs.Encoding.{buffersCheck, sizeCheck, coverCheck, roomCheck, givenCheck, encodeCheck, answerOf, Encoded}
+use Rattle.encode.specs.Lump.{headerBytes, writtenOf, writtenLength}
+use Rattle.encode.specs.Encoding.{roomCheck, givenCheck, encodeCheck, answerOf, Encoded}
+use Rattle.encode.proofs.Fits.{Fit}
 use Rattle.encode.proofs.Stores.{sets-append, sets-comm}
 use Rattle.encode.proofs.Lump.{offsets, columns, length-offsets, length-written}
 use Rattle.encode.proofs.Inner.{stored}
 
 module _ (picture : Picture) (colour cover : List ℕ) where
-  -- ---- pixels that may be written
-
-  pub record Given : Type 0 where
-    pub some-width : 1 ≤ picture .width
-    pub width-most : picture .width ≤ 320
-    pub some-height : 1 ≤ picture .height
-    pub height-most : picture .height ≤ 200
-    pub colours-fit : pixelsOf picture ≤ length colour
-    pub covers-fit : pixelsOf picture ≤ length cover
-
-  pub given-of : givenCheck picture colour cover ≡ Pass → Given
-  given-of e =
-      let a = buffersCheck (picture .width) (picture .height) (length colour) (length cover) in
-      let b = sizeCheck (picture .width) (picture .height) in
-      let c = coverCheck cover (pixelsOf picture) in
-      let first = andThen-pass a (b andThen c) e in
-      let second = andThen-pass b c (first .1) in
-      let fits = both (leb (pixelsOf picture) (length colour)) (leb (pixelsOf picture) (length cover)) (unless-pass _ PixelBuffer (first .0)) in
-      let sides = both (leb 1 (picture .width) && leb (picture .width) 320) (leb 1 (picture .height) && leb (picture .height) 200)
-      (unless-pass _ EncodeSize (second .0)) in
-      let wide = both (leb 1 (picture .width)) (leb (picture .width) 320) (sides .0) in
-      let high = both (leb 1 (picture .height)) (leb (picture .height) 200) (sides .1) in
-      record {
-        some-width = leb-true _ _ (wide .0);
-        width-most = leb-true _ _ (wide .1);
-        some-height = leb-true _ _ (high .0);
-        height-most = leb-true _ _ (high .1);
-        colours-fit = leb-true _ _ (fits .0);
-        covers-fit = leb-true _ _ (fits .1);
-      }
+  -- 56 holds the width to 320
+  pub narrow : Fit picture colour cover → picture .width ≤ 320
+  narrow fit =
+      let sides = both (leb 1 (picture .width) && leb (picture .width) 320) (leb 1 (picture .height) && leb (picture .height) 200) (fit .size) in
+      leb-true _ _ (both (leb 1 (picture .width)) (leb (picture .width) 320) (sides .0) .1)
 
   -- ---- the check's outcomes
 

@@ -10,7 +10,7 @@ use native.Mathlib.Omega.{arith}
 use lib.ListN.{length, length-append}
 use Rattle.canvas.specs.Pixels.{listOf}
 use Rattle.canvas.proofs.Planes.{length-listOf}
-use Rattle.encode.specs.Runs.{sumOf, countOf, joined, aboveOf, begins, runFrom, postOf, postAt, columnBytes, columnLength}
+use Rattle.encode.specs.Runs.{countOf, joined, aboveOf, begins, runFrom, postOf, postAt, columnBytes, columnLength}
 use Rattle.encode.proofs.Joined.{sum-none, sum-suc, joined-none, length-joined-suc}
 
 module _ (covered : ℕ → Bool) where

@@ -1,6 +1,6 @@
 -- `encode::encode` meets its contract: what is given, the length and the room are the definition's check, and the lump is
 -- stored where it passed. Assumes nothing.
-use Prim.Native.Nat.{ℕ, _≤_}
+use Prim.Native.Nat.{_≤_}
 use mathlib.Core.Path.{_≡_, refl, sym, ap, _∙_}
 use native.Mathlib.Omega.{arith}
 use borrow.Author.Needs.{needs}
@@ -11,8 +11,9 @@ use Rattle.refusal.specs.declared.Refusal.the-variants.{EncodeRoom}
 use Rattle.encode.specs.declared.Encoding.the-variants.{Written}
 use Rattle.encode.specs.Lump.{writtenLength}
 use Rattle.encode.specs.Encoding.{givenCheck}
+use Rattle.encode.proofs.Fits.{Fit, fit-of}
 use Rattle.encode.proofs.Inner.{length-stored}
-use Rattle.encode.proofs.Checks.{Given, given-of, given-refused, room-refused, room-passed, lump-stored, encoded-by}
+use Rattle.encode.proofs.Checks.{narrow, given-refused, room-refused, room-passed, lump-stored, encoded-by}
 use Rattle.encode.proofs.encode.Statement.{statement}
 use Rattle.encode.proofs.encode.Tie as tie
 
@@ -30,12 +31,12 @@ passed : (c : tie.After-enum-told)
 passed c = sym (c .before .before .judge-given .ensures) ∙ c .enum-told .given .1
 
 given : (c : tie.After-enum-told)
-    → (let a = c .before .before .before .before .before .before .args in Given (a .picture) (now (a .colour)) (now (a .cover)))
+    → (let a = c .before .before .before .before .before .before .args in Fit (a .picture) (now (a .colour)) (now (a .cover)))
 given c =
-    let a = c .before .before .before .before .before .before .args in given-of (a .picture) (now (a .colour)) (now (a .cover)) (passed c)
+    let a = c .before .before .before .before .before .before .args in fit-of (a .picture) (now (a .colour)) (now (a .cover)) (passed c)
 
 written-length-requires : tie.Need-written-length-requires
-written-length-requires c κs = let g = given c in (g .width-most, g .height-most, g .covers-fit)
+written-length-requires c κs = let g = given c in (narrow _ _ _ g, g .low, g .covers)
 
 returns-2 : tie.Need-returns-2
 returns-2 c =
@@ -56,7 +57,7 @@ write-columns-requires : tie.Need-write-columns-requires
 write-columns-requires c κs =
     let other = c .before in
     let g = given (other .before .before) in
-    ((g .width-most, g .height-most, g .colours-fit, g .covers-fit), room other)
+    ((narrow _ _ _ g, g .low, g .colours, g .covers), room other)
 
 write-header-requires : tie.Need-write-header-requires
 write-header-requires c κs =
@@ -66,7 +67,7 @@ write-header-requires c κs =
     let g = given (other .before .before) in
     let long = ap length (wrote .write-columns .ensures)
     ∙ length-stored (a .picture .width) (a .picture .height) (now (a .colour)) (now (a .cover)) (now (a .out)) (a .picture .width) in
-    (g .width-most, g .height-most, omega (arith, long, room other))
+    (narrow _ _ _ g, g .low, omega (arith, long, room other))
 
 returns-3 : tie.Need-returns-3
 returns-3 c =

@@ -1,5 +1,5 @@
 -- `encode::judging::judge_given` meets its contract: three tests in a row. Assumes nothing.
-use Prim.Native.Nat.{ℕ, _*_, _≤_}
+use Prim.Native.Nat.{_*_, _≤_}
 use mathlib.Core.Bool.{Bool, true, _&&_}
 use mathlib.Core.Path.{_≡_, sym, ap, _∙_}
 use native.Mathlib.Omega.{arith}
@@ -12,7 +12,6 @@ use Rattle.refusal.specs.declared.Refusal.the-variants.{PixelBuffer, EncodeSize
 use Rattle.refusal.specs.declared.Check.the-variants.{Pass}
 use Rattle.refusal.specs.Checks.{unless}
 use Rattle.refusal.proofs.Checks.{both, refused-then, pass-then}
-use Rattle.picture.specs.Judging.{sizeOk}
 use Rattle.encode.proofs.judging.judge_given.Statement.{statement}
 use Rattle.encode.proofs.judging.judge_given.Tie as tie
 

@@ -1,6 +1,6 @@
 -- `encode::measure::column_length` meets its contract: so many runs begin and so many pixels are covered above `row`. Assumes
 -- nothing.
-use Prim.Native.Nat.{ℕ, _+_, _-_, _*_, _≤_, _<_}
+use Prim.Native.Nat.{_+_, _-_, _*_, _≤_, _<_}
 use mathlib.Core.Bool.{Bool, _&&_, not, cond}
 use mathlib.Core.Path.{_≡_, refl, sym, ap, _∙_}
 use native.Mathlib.Numerals.{add-one}
@@ -11,7 +11,7 @@ use lib.Arith.{digits-lt}
 use lib.ListN.{length}
 use Rattle.encode.specs.Runs.{countOf, aboveOf, begins}
 use Rattle.encode.specs.Lump.{coveredAt}
-use Rattle.encode.proofs.Joined.{sum-none, sum-more, count-most}
+use Rattle.encode.proofs.Joined.{sum-none, sum-more}
 use Rattle.encode.proofs.measure.column_length.Statement.{statement}
 use Rattle.encode.proofs.measure.column_length.Tie as tie
 

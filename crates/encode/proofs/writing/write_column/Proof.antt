@@ -1,7 +1,7 @@
 -- `encode::writing::write_column` meets its contract: the posts of the runs that begin above `row` are written, and the pixel
 -- above it is not covered. Assumes nothing.
-use Prim.Native.Nat.{ℕ, _+_, _-_, _*_, _≤_, _<_}
-use mathlib.Core.Bool.{Bool, false}
+use Prim.Native.Nat.{ℕ, _+_, _-_, _≤_, _<_}
+use mathlib.Core.Bool.{false}
 use mathlib.Core.List.{List, [], _∷_, _++_}
 use mathlib.Core.Path.{_≡_, refl, sym, ap, _∙_}
 use native.Mathlib.Nat.{le-trans, mul-le-mul-right}
@@ -12,10 +12,9 @@ use lib.ListN.{length, set, length-set, length-append}
 use lib.Seq.{sets, length-sets}
 use Rattle.encode.specs.Runs.{aboveOf, postAt}
 use Rattle.encode.specs.Lump.{pixelAt, coveredAt}
-use Rattle.encode.specs.Inner.{runBytes}
-use Rattle.encode.proofs.Joined.{joined-none, length-joined-le}
+use Rattle.encode.proofs.Joined.{joined-none}
 use Rattle.encode.proofs.Inner.{posts, run-rows, run-room, Next, next-of, column-more, place-more}
-use Rattle.encode.proofs.Stores.{sets-append, sets-push}
+use Rattle.encode.proofs.Stores.{sets-push}
 use Rattle.encode.proofs.writing.write_column.Statement.{statement}
 use Rattle.encode.proofs.writing.write_column.Tie as tie
 

@@ -1,12 +1,12 @@
 -- `encode::writing::write_columns` meets its contract: the columns before `column` and their offsets are stored. Assumes nothing.
-use Prim.Native.Nat.{ℕ, _+_, _-_, _*_, _≤_, _<_}
-use mathlib.Core.Path.{_≡_, refl, sym, ap, _∙_}
+use Prim.Native.Nat.{_+_, _-_, _*_, _≤_, _<_}
+use mathlib.Core.Path.{_≡_, ap, _∙_}
 use native.Mathlib.Omega.{arith}
 use borrow.Author.Needs.{needs}
 use denote.Ref.{now}
 use lib.ListN.{length}
-use Rattle.encode.specs.Runs.{columnLength, columnBytes}
-use Rattle.encode.specs.Lump.{pixelAt, coveredAt}
+use Rattle.encode.specs.Runs.{columnLength}
+use Rattle.encode.specs.Lump.{coveredAt}
 use Rattle.encode.specs.Inner.{offsetAt}
 use Rattle.encode.proofs.Joined.{sum-none, sum-le}
 use Rattle.encode.proofs.Inner.{stored, stored-none, length-stored, offset-more, stored-more}

@@ -1,6 +1,6 @@
 -- `encode::writing::write_post` meets its contract: after i turns the first i pixels stand behind the three bytes. Assumes
 -- nothing.
-use Prim.Native.Nat.{ℕ, suc, _+_, _-_, _*_, _≤_, _<_}
+use Prim.Native.Nat.{ℕ, _+_, _-_, _*_, _≤_, _<_}
 use mathlib.Core.List.{List, [], _∷_, _++_}
 use mathlib.Core.Path.{_≡_, refl, sym, ap, _∙_}
 use native.Mathlib.Omega.{arith}
@@ -8,9 +8,8 @@ use borrow.Author.Needs.{needs}
 use denote.Ref.{now}
 use lib.Arith.{digits-lt}
 use lib.ListN.{length, set, length-set}
-use lib.Seq.{sets, length-sets, lt-length-set}
+use lib.Seq.{sets}
 use Rattle.canvas.specs.Pixels.{listOf}
-use Rattle.encode.specs.Runs.{postOf}
 use Rattle.encode.specs.Lump.{pixelAt}
 use Rattle.canvas.proofs.Planes.{length-listOf}
 use Rattle.encode.proofs.Runs.{listOf-none, listOf-more}
