@@ -4,11 +4,10 @@ use mathlib.Core.Bool.{Bool, true, false, cond}
 use mathlib.Core.List.{List, [], _++_}
 use mathlib.Core.Logic.{⊎-elim}
 use mathlib.Core.Path.{_≡_, refl, sym, ap, _∙_}
-use native.Mathlib.Nat.{not-suc-le-zero, le-of-suc-le-suc, eq-or-lt-of-le}
+use native.Mathlib.Nat.{le-of-suc-le-suc, eq-or-lt-of-le}
 use native.Mathlib.Numerals.{add-one}
 use native.Mathlib.Omega.{arith}
-use lib.ListN.{length, getD, length-append, List·getD-append}
-use lib.Seq.{getD-append-add}
+use lib.ListN.{length, length-append}
 use Rattle.encode.specs.Runs.{sumOf, countOf, joined}
 
 module _ (f : ℕ → ℕ) where
@@ -72,16 +71,3 @@ module _ (f : ℕ → List ℕ) where
   length-joined-le i n h =
       let e : (n : ℕ) → length (joined f n) ≡ sumOf (λ i. length (f i)) n = λ n. length-joined (λ i. length (f i)) n (λ i l. refl) in
       rw (e i, e n) (sum-le (λ i. length (f i)) i n h)
-
-  -- byte `k` of part `i` stands after the parts before it
-  pub getD-joined : (i n k : ℕ) → i < n → k < length (f i) → getD (joined f n) (length (joined f i) + k) 0 ≡ getD (f i) k 0
-  getD-joined i zero k h l = absurd (not-suc-le-zero h)
-  getD-joined i (suc n) k h l =
-      ap (λ (x : List ℕ). getD x (length (joined f i) + k) 0) (joined-suc n)
-      ∙ ⊎-elim
-      (λ (q : i ≡ n). rw q (getD-append-add (joined f n) (f n) k 0))
-      (λ (j : i < n).
-      let part = length-joined-le (suc i) n j in
-      let e = length-joined-suc i in
-      List·getD-append (joined f n) (f n) 0 (length (joined f i) + k) (omega arith) ∙ getD-joined i n k j l)
-      (eq-or-lt-of-le (le-of-suc-le-suc h))

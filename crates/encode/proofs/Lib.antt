@@ -5,7 +5,6 @@ pub mod Runs
 pub mod Stores
 pub mod Inner
 pub mod Lump
-pub mod Fits
 pub mod Checks
 pub mod Examples
 pub mod Fits
