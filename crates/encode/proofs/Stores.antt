@@ -47,9 +47,6 @@ length-putU32 l at n = simp length-set
 abbrev pub headed : List ℕ → ℕ → ℕ → ℕ → List ℕ
 headed l at row count = set (set (set l at row) (at + 1) count) (at + 2) 0
 
-pub length-headed : (l : List ℕ) (at row count : ℕ) → length (headed l at row count) ≡ length l
-length-headed l at row count = simp length-set
-
 pub sets-headed : (l : List ℕ) (at row count : ℕ) (vs : List ℕ)
     → sets (headed l at row count) (at + 3) vs ≡ sets l at (row ∷ count ∷ 0 ∷ vs)
 sets-headed l at row count vs =

@@ -71,7 +71,7 @@ add-past c =
     omega (arith, rows ran, ran .before .before .before .before .before .before .pre .0 .1)
 
 past-requires : tie.Need-past-requires Inv-loop μ-loop
-past-requires c κs = rows (c .before .before .before .before)
+past-requires c κs = omega (arith, rows (c .before .before .before .before))
 
 next : (c : tie.After-past Inv-loop μ-loop)
     → (let ran = c .before .before .before .before .before in
@@ -134,7 +134,7 @@ add-result : tie.Need-add-result Inv-loop μ-loop
 add-result c = omega (arith, last c)
 
 same-length : tie.Need-same-length Inv-loop μ-loop
-same-length c = length-set (c .before .loop .out) (c .before .loop .to) 255 ∙ long c
+same-length c = simp length-set (long c)
 
 returns : tie.Need-returns Inv-loop μ-loop
 returns c =

@@ -13,7 +13,7 @@ use Rattle.canvas.specs.Pixels.{listOf}
 use Rattle.encode.specs.Lump.{pixelAt}
 use Rattle.canvas.proofs.Planes.{length-listOf}
 use Rattle.encode.proofs.Runs.{listOf-none, listOf-more}
-use Rattle.encode.proofs.Stores.{sets-push, length-headed, sets-headed}
+use Rattle.encode.proofs.Stores.{sets-push, sets-headed}
 use Rattle.encode.proofs.writing.write_post.Statement.{statement}
 use Rattle.encode.proofs.writing.write_post.Tie as tie
 
@@ -57,7 +57,7 @@ slice-write-out-4 : tie.Need-slice-write-out-4 Inv-loop μ-loop
 slice-write-out-4 c =
     let l = c .before .before .loop in
     let s = c .before .before .before in
-    let long = l .inv .2 ∙ length-headed (now (s .args .out)) (s .args .at) (s .args .row) (s .args .count) in
+    let long = simp length-set at (l .inv .2) in
     let turn : l .i < s .args .count = search needs in
     omega (arith, long, s .pre .1, turn)
 
@@ -75,15 +75,10 @@ loop-again c =
     )
 
 slice-write-out-5 : tie.Need-slice-write-out-5 Inv-loop μ-loop
-slice-write-out-5 c =
-    let s = c .before .before in
-    let long = c .before .loop .inv .2 ∙ length-headed (now (s .args .out)) (s .args .at) (s .args .row) (s .args .count) in
-    omega (arith, long, s .pre .1)
+slice-write-out-5 c = let long = simp length-set at (c .before .loop .inv .2) in omega (arith, long, c .before .before .pre .1)
 
 same-length : tie.Need-same-length Inv-loop μ-loop
-same-length c =
-    let a = c .before .before .args in
-    length-set (c .before .loop .out) (a .at + 3 + a .count) 0 ∙ c .before .loop .inv .2 ∙ length-headed (now (a .out)) (a .at) (a .row) (a .count)
+same-length c = let long = simp length-set at (c .before .loop .inv .2) in simp length-set long
 
 returns : tie.Need-returns Inv-loop μ-loop
 returns c =
