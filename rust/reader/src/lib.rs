@@ -35,7 +35,7 @@ pub use game::{Linedef, Thing};
 pub use map::{judge_map, map_game, reject_size, Accepted};
 pub use order::draw_order;
 pub use pair::{pair_find, pair_judge_map, pair_lump, PairEntry, PairFile, PairMap, PairRefusal};
-pub use picture::{judge_picture, paint_picture, Picture};
+pub use picture::{judge_picture, paint_picture, write_picture, Picture};
 pub use record::{Node, Sector, Seg, Sidedef, Subsector, Vertex};
 pub use refusal::Refusal;
 pub use wad::{directory, entry, find_map, is_map_name, is_name, lump, name_of, Directory, Search};

@@ -1,4 +1,4 @@
-//! Pictures: columns of posts, judged whole, then painted.
+//! Pictures: columns of posts, judged whole, then painted; and written from their pixels.
 
 use crate::bytes::{i16_at, u16_at, u32_at};
 use crate::Refusal;
@@ -55,13 +55,17 @@ fn header(lump: &[u8]) -> Result<Picture, Refusal> {
         return Err(Refusal::plain(50));
     }
     let (width, height) = (usize::from(u16_at(lump, 0)), usize::from(u16_at(lump, 2)));
-    if !(1..=MOST_WIDTH).contains(&width) || !(1..=MOST_HEIGHT).contains(&height) {
+    if !size_ok(width, height) {
         return Err(Refusal::plain(51));
     }
     if lump.len() < table_end(width) {
         return Err(Refusal::plain(52));
     }
     Ok(Picture { width, height, left: i16_at(lump, 4), top: i16_at(lump, 6) })
+}
+
+fn size_ok(width: usize, height: usize) -> bool {
+    (1..=MOST_WIDTH).contains(&width) && (1..=MOST_HEIGHT).contains(&height)
 }
 
 fn table_end(width: usize) -> usize {
@@ -110,4 +114,75 @@ fn pixels_at(lump: &[u8], at: usize) -> Option<&[u8]> {
     let length = usize::from(*lump.get(at + 1)?);
     let with_last_byte = lump.get(at + 3..at + 4 + length)?;
     Some(&with_last_byte[..length])
+}
+
+/// Writes a picture from its pixels, row by row from the top, and answers the lump's length: refusals 55, 56, 57, 58 in this order.
+///
+/// `cover` has 1 where a pixel is painted and 0 elsewhere. The columns stand in order behind the offsets and share nothing, each
+/// unbroken run of covered pixels is a post, and the ignored bytes are 0. What `out` holds behind the lump stays as found; a refusal
+/// writes nothing.
+pub fn write_picture(picture: &Picture, colour: &[u8], cover: &[u8], out: &mut [u8]) -> Result<usize, Refusal> {
+    let Picture { width, height, .. } = *picture;
+    let pixels = width.checked_mul(height).and_then(|area| Some((colour.get(..area)?, cover.get(..area)?)));
+    let Some((colour, cover)) = pixels else { return Err(Refusal::plain(55)) };
+    if !size_ok(width, height) {
+        return Err(Refusal::plain(56));
+    }
+    if cover.iter().any(|&covered| covered > 1) {
+        return Err(Refusal::plain(57));
+    }
+    let length = table_end(width) + columns_size(cover, width);
+    let Some(lump) = out.get_mut(..length) else { return Err(Refusal::plain(58)) };
+    write_header(picture, lump);
+    let mut at = table_end(width);
+    for column in 0..width {
+        lump[HEADER_SIZE + OFFSET_SIZE * column..][..OFFSET_SIZE].copy_from_slice(&(at as u32).to_le_bytes());
+        at = write_column(&colour[column..], &cover[column..], width, lump, at);
+    }
+    Ok(length)
+}
+
+/// Bytes of all columns: an end byte for each, four for each post, and the covered pixels. A post begins where a pixel is covered,
+/// and the one above it is not or is not there.
+fn columns_size(cover: &[u8], width: usize) -> usize {
+    let covered = |pixels: &[u8]| pixels.iter().filter(|&&covered| covered == 1).count();
+    let below_open = cover.iter().zip(&cover[width..]).filter(|(above, below)| above < below).count();
+    width + 4 * (covered(&cover[..width]) + below_open) + covered(cover)
+}
+
+fn write_header(picture: &Picture, lump: &mut [u8]) {
+    let words = [picture.width as u16, picture.height as u16, picture.left as u16, picture.top as u16];
+    for (place, word) in lump.chunks_exact_mut(2).zip(words) {
+        place.copy_from_slice(&word.to_le_bytes());
+    }
+}
+
+/// Writes a column's posts and its end byte from `at` on, and answers where the next column begins. Its pixels are the first of
+/// each `width`.
+fn write_column(colour: &[u8], cover: &[u8], width: usize, lump: &mut [u8], mut at: usize) -> usize {
+    let mut post = None;
+    for (row, (&pixel, &covered)) in colour.iter().zip(cover).step_by(width).enumerate() {
+        if covered == 0 {
+            at = end_post(post.take(), lump, at);
+            continue;
+        }
+        if post.is_none() {
+            lump[at] = row as u8;
+            post = Some(at);
+            at += 3;
+        }
+        lump[at] = pixel;
+        at += 1;
+    }
+    at = end_post(post, lump, at);
+    lump[at] = COLUMN_END;
+    at + 1
+}
+
+/// Gives the open post, which begins at `post` and whose pixels end before `at`, its length and its ignored bytes.
+fn end_post(post: Option<usize>, lump: &mut [u8], at: usize) -> usize {
+    let Some(post) = post else { return at };
+    lump[post + 1] = (at - post - 3) as u8;
+    (lump[post + 2], lump[at]) = (0, 0);
+    at + 1
 }
