@@ -81,6 +81,10 @@ SIZE(picture_answer, 48);
 AT(picture_answer, status, 0);
 AT(picture_answer, picture, 24);
 
+SIZE(length_answer, 32);
+AT(length_answer, status, 0);
+AT(length_answer, length, 24);
+
 /* ---- a file with one map ---- */
 
 /* A number of two bytes, and of four, the lowest first. */
@@ -458,6 +462,35 @@ static void paintings(void)
     EXPECT(memcmp(colour, "\0\0\0\7\0\0\11", 7) == 0 && memcmp(cover, "\0\0\0\1\0\0\10", 7) == 0);
 }
 
+/* Written from three columns of two rows, with a colour of its own for each pixel: a pixel in the second row, nothing, and both rows. */
+static void writings(void)
+{
+    const meshpigeon_picture picture = {3, 2, -4, 5}, wide = {3, 201, -4, 5};
+    const uint8_t colour[] = {10, 11, 12, 13, 14, 15}, cover[] = {0, 0, 1, 1, 0, 1, 2}, bad[] = {0, 0, 1, 1, 0, 2};
+    const uint8_t lump[] = {W(3), W(2), W(-4), W(5), L(20), L(26), L(27), 1, 1, 0, 13, 0, 255, 255, 0, 2, 0, 12, 15, 0, 255};
+    uint8_t out[sizeof lump + 1], untouched[sizeof out];
+    memset(out, 9, sizeof out);
+    memset(untouched, 9, sizeof untouched);
+    meshpigeon_length_answer w = meshpigeon_write_picture(picture, colour, 5, cover, 6, out, sizeof out);
+    EXPECT(status_is(w.status, 55, 0, 0) && w.length == 0);
+    w = meshpigeon_write_picture(picture, colour, 6, cover, 5, out, sizeof out);
+    EXPECT(status_is(w.status, 55, 0, 0) && w.length == 0);
+    w = meshpigeon_write_picture(wide, untouched, 0, untouched, 0, out, sizeof out);
+    EXPECT(status_is(w.status, 55, 0, 0) && w.length == 0);
+    w = meshpigeon_write_picture((meshpigeon_picture){0, 2, -4, 5}, colour, 0, cover, 0, out, sizeof out);
+    EXPECT(status_is(w.status, 56, 0, 0) && w.length == 0);
+    w = meshpigeon_write_picture(picture, colour, 6, bad, 6, out, 0);
+    EXPECT(status_is(w.status, 57, 0, 0) && w.length == 0);
+    w = meshpigeon_write_picture(picture, colour, 6, cover, 7, out, sizeof lump - 1);
+    EXPECT(status_is(w.status, 58, 0, 0) && w.length == 0);
+    EXPECT(memcmp(out, untouched, sizeof out) == 0);
+    w = meshpigeon_write_picture(picture, colour, 6, cover, 7, out, sizeof out);
+    EXPECT(accepted(w.status) && w.length == sizeof lump);
+    EXPECT(memcmp(out, lump, sizeof lump) == 0 && out[sizeof lump] == 9);
+    w = meshpigeon_write_picture(picture, colour, 6, cover, 6, out, sizeof lump);
+    EXPECT(accepted(w.status) && w.length == sizeof lump);
+}
+
 /* ---- records ----
  * The fields of each kind: form, name, and offset in the lump's record. It is the same in the struct, but for things and linedefs, whose
  * structs serve two games. */
@@ -779,6 +812,7 @@ int main(void)
     pair_maps();
     pictures();
     paintings();
+    writings();
     records();
     if (failures != 0)
         return 1;

@@ -18,7 +18,7 @@ pub struct Outcome {
     pub part: Vec<u8>,
     /// The work words, or those of a draw order, afterwards.
     pub words: Vec<u16>,
-    /// The colour buffer afterwards, or the lump that was written.
+    /// The colour buffer afterwards, or what was written to: a lump, or the output of a picture.
     pub first: Vec<u8>,
     /// The cover buffer afterwards.
     pub second: Vec<u8>,
@@ -31,8 +31,8 @@ impl Outcome {
 }
 
 macro_rules! asker {
-    ($(#[$about:meta])* $name:ident, $side:ident, $judge_map:ident, $draw_order:ident, $pair_judge_map:ident, $part:expr,
-     $pair_part:expr) => {
+    ($(#[$about:meta])* $name:ident, $side:ident, $judge_map:ident, $draw_order:ident, $pair_judge_map:ident,
+     $write_picture:ident, $part:expr, $pair_part:expr) => {
         $(#[$about])*
         pub fn $name(case: &Case) -> Outcome {
             let refused = |it: $side::Refusal| (it.number, it.place, it.record);
@@ -98,6 +98,13 @@ macro_rules! asker {
                     let painted = $side::paint_picture(bytes, &mut colour, &mut cover);
                     let mut outcome = Outcome::new(painted.map(|it| picture!(it)).map_err(refused));
                     (outcome.first, outcome.second) = (colour, cover);
+                    outcome
+                }
+                Question::WritePicture { picture: it, colour, out } => {
+                    let mut out = out.clone();
+                    let written = $side::$write_picture(same!($side, Picture, it; width height left top), colour, bytes, &mut out);
+                    let mut outcome = Outcome::new(written.map(|length| vec![length as i64]).map_err(refused));
+                    outcome.first = out;
                     outcome
                 }
                 Question::ReadRecord { kind, index } => Outcome::new(read!($side, *kind, bytes, *index).map_err(refused)),
@@ -192,14 +199,14 @@ macro_rules! write {
 
 asker! {
     /// Asks the proved library.
-    ask_library, meshpigeon, judge_map_with, draw_order_with, pair_judge_map_with,
+    ask_library, meshpigeon, judge_map_with, draw_order_with, pair_judge_map_with, write_picture_with,
     |bytes, number| meshpigeon::lump(bytes, number).unwrap_or_default().to_vec(),
     |base, patch, name| meshpigeon::pair_lump(base, patch, name).map_or_else(|_| Vec::new(), |lump| lump.bytes.to_vec())
 }
 
 asker! {
     /// Asks the independent reader.
-    ask_reader, reader, judge_map, draw_order, pair_judge_map,
+    ask_reader, reader, judge_map, draw_order, pair_judge_map, write_picture,
     |bytes, number| reader::lump(bytes, number).to_vec(),
     |base, patch, name| reader::pair_lump(base, patch, name).to_vec()
 }

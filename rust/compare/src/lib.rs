@@ -8,7 +8,7 @@ mod ask;
 
 pub use ask::{ask_library, ask_reader, Outcome};
 
-use generator::{Case, Expected};
+use generator::{Case, Expected, Question};
 use reader::{PairFile, PairRefusal};
 
 /// What is wrong with the answers to a case, if anything: they differ, or are not what the generator knows.
@@ -17,6 +17,9 @@ pub fn fault(case: &Case) -> Option<String> {
     let reader = ask_reader(case);
     if library != reader {
         return Some(format!("library {library:?}\nreader  {reader:?}"));
+    }
+    if !comes_back(case, &library) {
+        return Some(format!("what was written is not read back: {library:?}"));
     }
     let known = match case.expected {
         Expected::Unknown => true,
@@ -34,6 +37,23 @@ pub fn fault(case: &Case) -> Option<String> {
         Expected::PairMap(it) => is_of_pair(&library, it.map(|it| (it.file, vec![it.map.depth as i64, it.map.marker as i64]))),
     };
     (!known).then(|| format!("both {library:?}\nknown {:?}", case.expected))
+}
+
+/// Whether the library, asked to judge and to paint the lump that it wrote, gives the picture back, its cover, and its colours where they are
+/// covered, 0 elsewhere. Nothing is asked of other questions, nor where nothing was written.
+fn comes_back(case: &Case, written: &Outcome) -> bool {
+    let (Question::WritePicture { picture: it, colour, .. }, Ok(length)) = (&case.question, &written.numbers) else {
+        return true;
+    };
+    let lump = &written.first[..length[0] as usize];
+    let picture = meshpigeon::Picture { width: it.width, height: it.height, left: it.left, top: it.top };
+    let area = it.width * it.height;
+    let (mut painted, mut covered) = (vec![7; area], vec![7; area]);
+    let kept: Vec<u8> =
+        colour.iter().zip(&case.bytes[..area]).map(|(&colour, &cover)| if cover == 1 { colour } else { 0 }).collect();
+    meshpigeon::judge_picture(lump) == Ok(picture)
+        && meshpigeon::paint_picture(lump, &mut painted, &mut covered) == Ok(picture)
+        && (&covered[..], painted) == (&case.bytes[..area], kept)
 }
 
 /// Whether numbers and file are those of this answer on a pair.

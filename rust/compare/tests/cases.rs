@@ -1,7 +1,7 @@
 //! Library and reader on generated cases: 200,000 by default, any number by MESHPIGEON_CASES, from MESHPIGEON_SEED.
 
 use compare::fault;
-use generator::{all_picture_damages, case, limits, shrink, Case};
+use generator::{all_picture_damages, case, every_second, limits, shrink, Canvas, Case, Rng};
 use std::env;
 use std::thread;
 
@@ -49,4 +49,18 @@ fn every_damage_of_a_picture_agrees() {
     for (index, case) in all_picture_damages(1).iter().enumerate() {
         hold(case, &format!("picture damage {index}"));
     }
+}
+
+#[test]
+fn the_longest_written_picture_has_the_length_that_the_binding_names() {
+    let most = |column: usize, _: &mut Rng| {
+        let mut runs = every_second(0, 199);
+        runs[column % 100].length = 2;
+        runs.iter_mut().skip(column % 100 + 1).for_each(|run| run.start += 1);
+        runs
+    };
+    let canvas = Canvas::new(320, 200, most, &mut Rng::new(3));
+    assert_eq!(canvas.lump.len(), meshpigeon::MOST_WRITTEN);
+    let picture = meshpigeon::Picture { width: 320, height: 200, left: canvas.picture.left, top: canvas.picture.top };
+    assert_eq!(meshpigeon::write_picture(picture, &canvas.colour, &canvas.cover), Ok(canvas.lump));
 }

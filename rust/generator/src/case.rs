@@ -1,14 +1,14 @@
 //! What a case is: the bytes, the question asked of them, and what is known of the answer.
 
 use crate::{Kind, Record};
-use reader::{Accepted, Found, PairEntry, PairMap, PairRefusal, Refusal, Search};
+use reader::{Accepted, Found, PairEntry, PairMap, PairRefusal, Picture, Refusal, Search};
 
 /// One input with one question.
 #[derive(Clone, Debug)]
 pub struct Case {
     /// What the case is about, for reports.
     pub label: String,
-    /// The file, of a pair the patch; NODES lump, picture lump or record lump.
+    /// The file, of a pair the patch; NODES lump, picture lump or record lump; of a picture to be written its cover.
     pub bytes: Vec<u8>,
     /// What is asked of the bytes.
     pub question: Question,
@@ -88,6 +88,15 @@ pub enum Question {
         /// The cover buffer as lent.
         cover: Vec<u8>,
     },
+    /// Write a picture, the bytes being its cover.
+    WritePicture {
+        /// Its sizes and offsets.
+        picture: Picture,
+        /// Its colours.
+        colour: Vec<u8>,
+        /// The output as lent.
+        out: Vec<u8>,
+    },
     /// Read a record.
     ReadRecord {
         /// Its kind.
@@ -121,7 +130,7 @@ pub enum Expected {
     Search(Search),
     /// A map of Hexen, or not.
     Hexen(bool),
-    /// A draw order of so many subsectors.
+    /// A draw order of so many subsectors, or a written lump of so many bytes.
     Count(usize),
     /// This lump of a pair, or this refusal with its file.
     PairEntry(Result<PairEntry, PairRefusal>),

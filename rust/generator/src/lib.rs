@@ -6,7 +6,7 @@
 //! - [`single_case`] and [`pair_case`] go through [`damages`] and all pairs of them,
 //!   [`all_picture_damages`] does so for pictures;
 //! - [`limits`] lists both sides of every limit, each case built when asked for;
-//! - [`MapSpec`], [`Plan`], [`BlockmapSpec`] and [`PictureSpec`] build inputs by hand;
+//! - [`MapSpec`], [`Plan`], [`BlockmapSpec`], [`PictureSpec`] and [`Canvas`] build inputs by hand;
 //! - [`ordinary_map`], [`hexen_map_of`], [`largest_map`], [`largest_hexen_map_of`], [`directory_of`],
 //!   [`littered_directory_of`], [`search_to_the_first`], [`search_in_vain`], [`pair_of`], [`pair_in_vain`], [`chain`], [`balanced`],
 //!   [`doublings`], [`shared_subsector`], [`hostile_blockmap`], [`hostile_picture`], [`picture`],
@@ -44,6 +44,7 @@ mod limit_graph;
 mod limit_lump;
 mod limit_map;
 mod limit_run;
+mod limit_written;
 mod map;
 mod name;
 mod order;
@@ -59,6 +60,7 @@ mod sample;
 mod search;
 mod shrink;
 mod valid;
+mod written;
 
 pub use bench::{
     balanced, chain, deep_chain, deep_doublings, directory_of, double_nodes, doublings, halving_nodes, hexen_map_of,
@@ -89,3 +91,4 @@ pub use sample::{samples, Sample};
 pub use search::{halves, joined, named_entries, pair_in_vain, search_case, search_in_vain, search_to_the_first};
 pub use shrink::shrink;
 pub use valid::{any_plan, map_case, sound_plan, valid_case, verdict};
+pub use written::{every_second, written_case, Canvas, Run};

@@ -6,6 +6,7 @@ use crate::limit_graph::graph_limits;
 use crate::limit_lump::lump_limits;
 use crate::limit_map::map_limits;
 use crate::limit_run::run_limits;
+use crate::limit_written::written_limits;
 use crate::name::name_limits;
 use crate::patch::patch_limits;
 use crate::record_case::record_limits;
@@ -32,6 +33,7 @@ pub fn limits() -> Vec<Build> {
     all.extend(record_limits());
     all.extend(draw_limits());
     all.extend(patch_limits());
+    all.extend(written_limits());
     all
 }
 

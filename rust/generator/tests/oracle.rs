@@ -2,7 +2,8 @@
 //! choices, every cell's list for itself, every pixel for itself.
 
 use generator::*;
-use reader::{descend, draw_order, judge_map, judge_picture, paint_picture, Accepted, Node, Refusal, SUBSECTOR_BIT};
+use reader::{descend, draw_order, judge_map, judge_picture, paint_picture, write_picture};
+use reader::{Accepted, Node, Refusal, SUBSECTOR_BIT};
 use std::collections::BTreeSet;
 
 /// The child word reached from `word` by the choices, one bit each; `None` where a choice would
@@ -271,5 +272,19 @@ fn pixels_one_by_one() {
             assert_eq!((colour[at], cover[at]), (wanted.unwrap_or(0), u8::from(wanted.is_some())));
         }
         assert_eq!(cover[width * height], 4);
+    }
+}
+
+/// The lump is made post by post from the runs that the pixels are made from.
+#[test]
+fn written_pictures_are_their_runs() {
+    let mut rng = Rng::new(10);
+    for turn in 0..4_000 {
+        let (width, height) = if turn % 100 == 0 { (320, 200) } else { (rng.between(1, 9), rng.between(1, 14)) };
+        let canvas = if rng.once_in(9) { Canvas::checkerboard } else { Canvas::any };
+        let Canvas { picture, colour, cover, lump } = canvas(width as u16, height as u16, &mut rng);
+        let mut out = vec![7; lump.len() + 2];
+        assert_eq!(write_picture(picture, &colour, &cover, &mut out), Ok(lump.len()));
+        assert_eq!(out, [&lump[..], &[7, 7]].concat());
     }
 }

@@ -28,6 +28,9 @@ pub const MOST_WORDS: usize = 4 * 32_767;
 /// As many words as any draw order needs: one more than 32,767 nodes.
 pub const MOST_DRAWN: usize = 32_767 + 1;
 
+/// As many bytes as any written picture needs: a header, and 320 columns with an offset, an end byte, and a hundred posts over two hundred rows.
+pub const MOST_WRITTEN: usize = 8 + 320 * (4 + 1 + 100 * 4 + 101);
+
 /// A file's directory.
 #[derive(Clone, Copy, Debug, PartialEq, Eq)]
 pub struct Directory {
@@ -187,4 +190,40 @@ pub fn judge_picture(lump: &[u8]) -> Result<Picture, Refusal> {
 /// Paints a picture row by row from the top into the first width × height bytes of both buffers: 50 to 55. A refusal writes nothing.
 pub fn paint_picture(lump: &[u8], colour: &mut [u8], cover: &mut [u8]) -> Result<Picture, Refusal> {
     raw::paint_picture(lump, colour, cover).map(|answer| answer.picture)
+}
+
+/// A picture lump from its pixels, row by row from the top; those with 1 in `cover` are painted, those with 0 are not: 55 to 57.
+///
+/// Each unbroken covered run of a column is one post. Painted again, the lump gives the cover back, and the colour wherever it is covered.
+///
+/// ```
+/// use meshpigeon::Picture;
+///
+/// // Two columns of three rows: a pixel of colour 7 over a hole and one of colour 9, and nothing.
+/// let picture = Picture { width: 2, height: 3, left: -1, top: 5 };
+/// let (colour, cover) = ([7, 0, 0, 0, 9, 0], [1, 0, 0, 0, 1, 0]);
+/// let lump = meshpigeon::write_picture(picture, &colour, &cover).unwrap();
+/// assert_eq!(lump[16..], [0, 1, 0, 7, 0, 2, 1, 0, 9, 0, 255, 255]);
+///
+/// let (mut painted, mut covered) = ([1; 6], [1; 6]);
+/// assert_eq!(meshpigeon::paint_picture(&lump, &mut painted, &mut covered), Ok(picture));
+/// assert_eq!((painted, covered), (colour, cover));
+///
+/// // A lent output holds the lump, and what it held behind it.
+/// let mut out = [3; 30];
+/// assert_eq!(meshpigeon::write_picture_with(picture, &colour, &cover, &mut out), Ok(28));
+/// assert_eq!((&out[..28], &out[28..]), (&lump[..], &[3, 3][..]));
+/// assert_eq!(meshpigeon::write_picture_with(picture, &colour, &cover, &mut out[..27]).unwrap_err().number, 58);
+/// ```
+pub fn write_picture(picture: Picture, colour: &[u8], cover: &[u8]) -> Result<Vec<u8>, Refusal> {
+    let mut out = vec![0; MOST_WRITTEN];
+    let length = write_picture_with(picture, colour, cover, &mut out)?;
+    out.truncate(length);
+    Ok(out)
+}
+
+/// The same into a lent output, and answers how many bytes were written: 55 to 58 in this order. The bytes behind the lump stay as found;
+/// a refusal writes nothing.
+pub fn write_picture_with(picture: Picture, colour: &[u8], cover: &[u8], out: &mut [u8]) -> Result<usize, Refusal> {
+    raw::write_picture(picture, colour, cover, out).map(|answer| answer.length)
 }

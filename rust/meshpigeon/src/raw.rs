@@ -65,6 +65,8 @@ answers! {
     PairMapAnswer { file: u32, depth: usize, marker: usize }
     /// A picture's header.
     PictureAnswer { picture: Picture }
+    /// How long a written lump is.
+    LengthAnswer { length: usize }
 }
 
 type Bytes = *const u8;
@@ -120,6 +122,15 @@ extern "C" {
         cover: BytesMut,
         cover_len: usize,
     ) -> PictureAnswer;
+    fn meshpigeon_write_picture(
+        picture: Picture,
+        colour: Bytes,
+        colour_len: usize,
+        cover: Bytes,
+        cover_len: usize,
+        out: BytesMut,
+        out_len: usize,
+    ) -> LengthAnswer;
 }
 
 pub(crate) fn directory(wad: &[u8]) -> Result<DirectoryAnswer, Refusal> {
@@ -196,6 +207,12 @@ pub(crate) fn paint_picture(lump: &[u8], colour: &mut [u8], cover: &mut [u8]) ->
     let (colour_len, cover_len) = (colour.len(), cover.len());
     unsafe { meshpigeon_paint_picture(lump.as_ptr(), lump.len(), colour.as_mut_ptr(), colour_len, cover.as_mut_ptr(), cover_len) }
         .checked()
+}
+
+pub(crate) fn write_picture(picture: Picture, colour: &[u8], cover: &[u8], out: &mut [u8]) -> Result<LengthAnswer, Refusal> {
+    let (colour_len, cover_len, out_len) = (colour.len(), cover.len(), out.len());
+    let (colour, cover, out) = (colour.as_ptr(), cover.as_ptr(), out.as_mut_ptr());
+    unsafe { meshpigeon_write_picture(picture, colour, colour_len, cover, cover_len, out, out_len) }.checked()
 }
 
 /// Each kind with its functions; a read of the two that games have in forms of their own is told the game.

@@ -58,7 +58,7 @@ impl Refusal {
     /// Whether the caller's loan or question is at fault, and not the file: too few words, a short buffer, a number or a name that
     /// cannot be asked for, a record that cannot be written.
     pub fn is_callers(&self) -> bool {
-        matches!(self.number, 7 | 10 | 30 | 41 | 45 | 55 | 60 | 61)
+        matches!(self.number, 7 | 10 | 30 | 41 | 45 | 55..=58 | 60 | 61)
     }
 
     fn say_of_file(&self, out: &mut fmt::Formatter<'_>) -> fmt::Result {
@@ -184,6 +184,13 @@ impl Refusal {
                 "column {record} has a post that starts above the end of the one before it, or ends below the picture's last row: \
                  posts go downward and do not overlap"
             ),
+            56 => write!(out, "a picture of that size cannot be written: 1 to 320 across and 1 to 200 down are allowed"),
+            57 => write!(out, "a byte of the cover is neither 0 nor 1: a pixel is painted with 1 and left open with 0"),
+            58 => write!(
+                out,
+                "the output is too short for the picture: it has 8 bytes, 5 for each column, 4 for each unbroken run in a column, and \
+                 1 for each painted pixel"
+            ),
             _ => write!(out, "a pixel buffer is shorter than width times height"),
         }
     }
@@ -208,7 +215,7 @@ impl fmt::Display for Refusal {
                  one way only"
             ),
             40..=46 => self.say_of_descent(out),
-            50..=55 => self.say_of_picture(out),
+            50..=58 => self.say_of_picture(out),
             60 => write!(out, "that record does not lie wholly inside the lump"),
             61 => write!(
                 out,

@@ -121,8 +121,8 @@ fn pixels_at(lump: &[u8], at: usize) -> Option<&[u8]> {
 /// `cover` has 1 where a pixel is painted and 0 elsewhere. The columns stand in order behind the offsets and share nothing, each
 /// unbroken run of covered pixels is a post, and the ignored bytes are 0. What `out` holds behind the lump stays as found; a refusal
 /// writes nothing.
-pub fn write_picture(picture: &Picture, colour: &[u8], cover: &[u8], out: &mut [u8]) -> Result<usize, Refusal> {
-    let Picture { width, height, .. } = *picture;
+pub fn write_picture(picture: Picture, colour: &[u8], cover: &[u8], out: &mut [u8]) -> Result<usize, Refusal> {
+    let Picture { width, height, .. } = picture;
     let pixels = width.checked_mul(height).and_then(|area| Some((colour.get(..area)?, cover.get(..area)?)));
     let Some((colour, cover)) = pixels else { return Err(Refusal::plain(55)) };
     if !size_ok(width, height) {
@@ -150,8 +150,8 @@ fn columns_size(cover: &[u8], width: usize) -> usize {
     width + 4 * (covered(&cover[..width]) + below_open) + covered(cover)
 }
 
-fn write_header(picture: &Picture, lump: &mut [u8]) {
-    let words = [picture.width as u16, picture.height as u16, picture.left as u16, picture.top as u16];
+fn write_header(Picture { width, height, left, top }: Picture, lump: &mut [u8]) {
+    let words = [width as u16, height as u16, left as u16, top as u16];
     for (place, word) in lump.chunks_exact_mut(2).zip(words) {
         place.copy_from_slice(&word.to_le_bytes());
     }

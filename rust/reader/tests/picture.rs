@@ -19,7 +19,7 @@ fn small() -> Vec<u8> {
 /// The answer over an output of so many bytes that hold 7, and what they hold afterwards.
 fn written(picture: Picture, colour: &[u8], cover: &[u8], out: usize) -> (Result<usize, Refusal>, Vec<u8>) {
     let mut out = vec![7; out];
-    (write_picture(&picture, colour, cover, &mut out), out)
+    (write_picture(picture, colour, cover, &mut out), out)
 }
 
 fn refused(number: u32, out: usize) -> (Result<usize, Refusal>, Vec<u8>) {

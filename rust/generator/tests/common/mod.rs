@@ -53,6 +53,7 @@ fn ask(case: &Case) -> Result<Answer, Refusal> {
         Question::DrawOrder { subsectors, x, y, words } => ask_order(bytes, *subsectors, (*x, *y), words),
         Question::JudgePicture => judge_picture(bytes).map(|_| Answer::Good),
         Question::PaintPicture { colour, cover } => ask_paint(bytes, colour, cover),
+        Question::WritePicture { picture, colour, out } => ask_written(*picture, colour, bytes, out),
         Question::ReadRecord { kind, index } => {
             let record = read(*kind, bytes, *index)?;
             assert_eq!(record.encode(), &bytes[index * kind.size()..][..kind.size()]);
@@ -154,6 +155,23 @@ fn ask_paint(lump: &[u8], lent_colour: &[u8], lent_cover: &[u8]) -> Result<Answe
         _ => assert_eq!(verdict, judge_picture(lump)),
     }
     verdict.map(|_| Answer::Good)
+}
+
+/// What was written is painted again: the cover comes back, and the colour where it covers.
+fn ask_written(picture: Picture, colour: &[u8], cover: &[u8], lent: &[u8]) -> Result<Answer, Refusal> {
+    let mut out = lent.to_vec();
+    let written = write_picture(picture, colour, cover, &mut out);
+    let length = written.unwrap_or(0);
+    assert_eq!(out[length..], lent[length..]);
+    if written.is_ok() {
+        let area = picture.width * picture.height;
+        let (mut painted, mut covered) = (vec![7; area], vec![7; area]);
+        assert_eq!(paint_picture(&out[..length], &mut painted, &mut covered), Ok(picture));
+        let kept: Vec<u8> = colour.iter().zip(&covered).map(|(colour, covered)| colour * covered).collect();
+        assert_eq!((covered, painted), (cover[..area].to_vec(), kept));
+        assert!(judge_picture(&out[..length - 1]).is_err(), "the last byte ends the last column");
+    }
+    written.map(Answer::Count)
 }
 
 fn ask_write(lump: &[u8], record: &Record, index: usize) -> Result<Answer, Refusal> {

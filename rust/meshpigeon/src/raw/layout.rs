@@ -31,6 +31,7 @@ layout! {
     PairMapAnswer 48 { status 0, file 24, depth 32, marker 40 }
     Picture 24 { width 0, height 8, left 16, top 18 }
     PictureAnswer 48 { status 0, picture 24 }
+    LengthAnswer 32 { status 0, length 24 }
 }
 
 layout! {
