@@ -1,5 +1,5 @@
 //! The small files of samples/: one good map of each game, one whose names have rubbish behind them, one whose nodes turn back, one whose nodes
-//! are shared, one with a bad reference, and one picture.
+//! are shared, one with a bad reference, one picture, and the image that it can be made of.
 
 use crate::name::length_of;
 use crate::{hexen_rooms, rooms, Content, EntryPlan, PictureSpec, Plan, Post, MAP_NAME};
@@ -39,6 +39,7 @@ pub fn samples() -> Vec<Sample> {
         ("shared.wad", shared()),
         ("reference.wad", bad_reference()),
         ("picture.wad", picture()),
+        ("pigeon.pam", image()),
     ]
 }
 
@@ -91,6 +92,17 @@ fn picture() -> Vec<u8> {
         EntryPlan::new(*b"PIGEON\0\0", Content::Bytes(pigeon().encode())),
     ];
     plan.wad()
+}
+
+/// The pigeon as a PAM image, transparent around it.
+fn image() -> Vec<u8> {
+    let (width, height) = (PIGEON[0].len(), PIGEON.len());
+    let header = format!("P7\nWIDTH {width}\nHEIGHT {height}\nDEPTH 4\nMAXVAL 255\nTUPLTYPE RGB_ALPHA\nENDHDR\n");
+    let pixel = |paint: u8| match PAINTS.iter().find(|(it, ..)| *it == paint && paint != b' ') {
+        Some((_, _, [red, green, blue])) => [*red, *green, *blue, 255],
+        None => [0; 4],
+    };
+    [header.into_bytes(), PIGEON.concat().bytes().flat_map(pixel).collect()].concat()
 }
 
 /// Greys, but for the pigeon's own colours.

@@ -17,7 +17,7 @@ fn nothing_else_is_among_them() {
     let folder = Path::new(env!("CARGO_MANIFEST_DIR")).join("../../samples");
     let names = std::fs::read_dir(folder).expect("samples/ is there").map(|it| it.expect("an entry").file_name());
     let known: Vec<&str> = generator::samples().iter().map(|(name, _)| *name).collect();
-    for name in names.filter(|name| name.to_string_lossy().ends_with(".wad")) {
+    for name in names.filter(|name| [".wad", ".pam"].iter().any(|end| name.to_string_lossy().ends_with(end))) {
         assert!(known.iter().any(|it| name == *it), "{} comes from nowhere", name.to_string_lossy());
     }
 }

@@ -65,8 +65,21 @@ pub enum Command {
         file: OsString,
         /// The file that it is a patch over, if it is.
         base: Option<OsString>,
-        /// The lump's name as given.
-        lump: OsString,
+        /// The lump's name as given; none where the file is the lump itself.
+        lump: Option<OsString>,
+        /// The file of the palette, if it is not the file's own.
+        palette: Option<OsString>,
+        /// Where it goes.
+        output: OsString,
+    },
+    /// Write an image as a picture lump.
+    Encode {
+        /// The image.
+        image: OsString,
+        /// The file of the palette, if there is one.
+        palette: Option<OsString>,
+        /// Left and top offset.
+        offset: (i16, i16),
         /// Where it goes.
         output: OsString,
     },
@@ -92,6 +105,8 @@ struct Parts {
     words: Vec<OsString>,
     maps: Vec<OsString>,
     base: Option<OsString>,
+    palette: Option<OsString>,
+    offset: Option<OsString>,
     output: Option<OsString>,
     json: bool,
     quiet: bool,
@@ -100,7 +115,7 @@ struct Parts {
 }
 
 /// What may be asked for.
-const COMMANDS: &str = "judge, list, descend, order or picture";
+const COMMANDS: &str = "judge, list, descend, order, picture or encode";
 
 /// Takes the arguments after the program's name apart.
 pub fn parse(arguments: Vec<OsString>) -> Result<Request, Misuse> {
@@ -123,6 +138,7 @@ pub fn parse(arguments: Vec<OsString>) -> Result<Request, Misuse> {
         Some("descend") => descend(&parts),
         Some("order") => order(&parts),
         Some("picture") => picture(&parts),
+        Some("encode") => encode(&parts),
         _ => misuse(format!("'{}' is no command: {COMMANDS}", shown(&name))),
     }?;
     fits(&name, &parts)?;
@@ -134,19 +150,17 @@ fn split(arguments: Vec<OsString>) -> Result<Parts, Misuse> {
     let mut parts = Parts::default();
     let mut rest = arguments.into_iter();
     while let Some(argument) = rest.next() {
+        if let Some((option, joined)) = valued(&argument) {
+            let given = joined.map(OsString::from).or_else(|| rest.next());
+            put(option, given, &mut parts)?;
+            continue;
+        }
         match argument.to_str() {
             Some("--") => parts.words.extend(rest.by_ref()),
             Some("--json") => parts.json = true,
             Some("--quiet" | "-q") => parts.quiet = true,
             Some("--help" | "-h") => parts.help = true,
             Some("--version" | "-V") => parts.version = true,
-            Some("--map") => parts.maps.push(value("--map", rest.next())?),
-            Some("--base") => put_once("--base", &mut parts.base, value("--base", rest.next())?)?,
-            Some("-o") => put_once("-o", &mut parts.output, value("-o", rest.next())?)?,
-            Some(text) if text.starts_with("--map=") => parts.maps.push(text["--map=".len()..].into()),
-            Some(text) if text.starts_with("--base=") => {
-                put_once("--base", &mut parts.base, text["--base=".len()..].into())?;
-            }
             _ if is_option(&argument) => return misuse(format!("'{}' is no option", shown(&argument))),
             _ => parts.words.push(argument),
         }
@@ -154,8 +168,28 @@ fn split(arguments: Vec<OsString>) -> Result<Parts, Misuse> {
     Ok(parts)
 }
 
-fn value(option: &str, given: Option<OsString>) -> Result<OsString, Misuse> {
-    given.map_or_else(|| misuse(format!("{option} needs a value")), Ok)
+/// An option that takes a value, and the value where it is joined to a long one: `--map=MAP01`.
+fn valued(argument: &OsStr) -> Option<(&str, Option<&str>)> {
+    const LONG: [&str; 4] = ["--map", "--base", "--palette", "--offset"];
+    let text = argument.to_str()?;
+    let (option, joined) = text.split_once('=').map_or((text, None), |(option, value)| (option, Some(value)));
+    (LONG.contains(&option) || text == "-o").then_some((option, joined))
+}
+
+/// Puts an option's value where it belongs; all but `--map` are given once.
+fn put(option: &str, given: Option<OsString>, parts: &mut Parts) -> Result<(), Misuse> {
+    let Some(given) = given else { return misuse(format!("{option} needs a value")) };
+    let place = match option {
+        "--base" => &mut parts.base,
+        "--palette" => &mut parts.palette,
+        "--offset" => &mut parts.offset,
+        "-o" => &mut parts.output,
+        _ => {
+            parts.maps.push(given);
+            return Ok(());
+        }
+    };
+    put_once(option, place, given)
 }
 
 fn put_once(option: &str, place: &mut Option<OsString>, given: OsString) -> Result<(), Misuse> {
@@ -180,9 +214,13 @@ fn fits(command: &OsStr, parts: &Parts) -> Result<(), Misuse> {
         "--map"
     } else if parts.base.is_some() && !takes(&["judge", "picture"]) {
         "--base"
-    } else if parts.output.is_some() && !takes(&["order", "picture"]) {
+    } else if parts.palette.is_some() && !takes(&["picture", "encode"]) {
+        "--palette"
+    } else if parts.offset.is_some() && !takes(&["encode"]) {
+        "--offset"
+    } else if parts.output.is_some() && !takes(&["order", "picture", "encode"]) {
         "-o"
-    } else if parts.quiet && !takes(&["judge", "picture"]) {
+    } else if parts.quiet && !takes(&["judge", "picture", "encode"]) {
         "--quiet"
     } else {
         return Ok(());
@@ -225,11 +263,31 @@ fn order(parts: &Parts) -> Result<Command, Misuse> {
 }
 
 fn picture(parts: &Parts) -> Result<Command, Misuse> {
-    let needs = "picture needs FILE LUMP -o OUT.png";
-    let [file, lump] = words(parts, needs)?;
-    read_once([&file].into_iter().chain(&parts.base))?;
+    let needs = "picture needs FILE LUMP -o OUT.png, or the file of a lump";
+    let (file, lump) = match &parts.words[..] {
+        [file] => (file.clone(), None),
+        [file, lump] => (file.clone(), Some(lump.clone())),
+        _ => return misuse(needs),
+    };
+    if lump.is_none() && parts.base.is_some() {
+        return misuse("--base needs LUMP: the file of a lump is no patch");
+    }
+    let (base, palette) = (parts.base.clone(), parts.palette.clone());
+    read_once([&file].into_iter().chain(&base).chain(&palette))?;
     match parts.output.clone() {
-        Some(output) => Ok(Command::Picture { file, base: parts.base.clone(), lump, output }),
+        Some(output) => Ok(Command::Picture { file, base, lump, palette, output }),
+        None => misuse(needs),
+    }
+}
+
+fn encode(parts: &Parts) -> Result<Command, Misuse> {
+    let needs = "encode needs IMAGE -o OUT.lmp";
+    let [image] = words(parts, needs)?;
+    let palette = parts.palette.clone();
+    read_once([&image].into_iter().chain(&palette))?;
+    let offset = parts.offset.as_deref().map_or(Ok((0, 0)), offsets)?;
+    match parts.output.clone() {
+        Some(output) => Ok(Command::Encode { image, palette, offset, output }),
         None => misuse(needs),
     }
 }
@@ -241,6 +299,13 @@ fn words<const N: usize>(parts: &Parts, needs: &str) -> Result<[OsString; N], Mi
 fn coordinate(word: &OsStr) -> Result<i16, Misuse> {
     let number = word.to_str().and_then(|text| text.parse().ok());
     number.map_or_else(|| misuse(format!("'{}' is no coordinate: -32768 to 32767", shown(word))), Ok)
+}
+
+/// Left and top offset with a comma between them.
+fn offsets(word: &OsStr) -> Result<(i16, i16), Misuse> {
+    let numbers = word.to_str().and_then(|text| text.split_once(','));
+    let numbers = numbers.and_then(|(left, top)| Some((left.parse().ok()?, top.parse().ok()?)));
+    numbers.map_or_else(|| misuse(format!("'{}' is no offset: X,Y, each -32768 to 32767", shown(word))), Ok)
 }
 
 fn shown(word: &OsStr) -> String {

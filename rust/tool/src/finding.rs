@@ -3,7 +3,7 @@
 use crate::input::{LEAST_BYTES, MOST_BYTES};
 use crate::json::Object;
 use crate::wad::Wad;
-use meshpigeon::{Node, Refusal, Sector, Subsector};
+use meshpigeon::{Node, Picture, Refusal, Sector, Subsector};
 use std::fmt;
 
 /// Places of the lumps that have rules of their own, and of those that the rules speak of.
@@ -32,8 +32,8 @@ pub enum Finding {
     Nodes(usize, usize),
     /// 22: how many bytes REJECT has, and how many it must have.
     Reject(usize, usize),
-    /// 51: the picture's width and height.
-    Picture(u16, u16),
+    /// 51 and 56: the picture's width and height.
+    Picture(usize, usize),
 }
 
 impl Finding {
@@ -67,9 +67,17 @@ impl Finding {
 
     /// What is wrong with a picture by its header: 51.
     pub fn in_picture(refusal: Refusal, lump: &[u8]) -> Option<Self> {
-        let word = |at| array_at(lump, at).map(u16::from_le_bytes);
+        let word = |at| array_at(lump, at).map(|bytes| usize::from(u16::from_le_bytes(bytes)));
         match refusal.number {
             51 => Some(Self::Picture(word(0)?, word(2)?)),
+            _ => None,
+        }
+    }
+
+    /// What is wrong with an image that was to be a picture: 56.
+    pub fn in_image(refusal: Refusal, picture: Picture) -> Option<Self> {
+        match refusal.number {
+            56 => Some(Self::Picture(picture.width, picture.height)),
             _ => None,
         }
     }
@@ -85,7 +93,7 @@ impl Finding {
             Self::Records(count) => object.count("count", count),
             Self::Nodes(nodes, subsectors) => object.count("count", nodes).count("subsectors", subsectors),
             Self::Reject(length, needed) => object.count("length", length).count("needed", needed),
-            Self::Picture(width, height) => object.number("width", i64::from(width)).number("height", i64::from(height)),
+            Self::Picture(width, height) => object.count("width", width).count("height", height),
         }
     }
 }
@@ -119,7 +127,7 @@ impl fmt::Display for Finding {
                 write!(out, "here that is {}, and it has {}", some(needed, "byte"), grouped(length as i64))
             }
             Self::Picture(width, height) => {
-                write!(out, "this one is {} across and {} down", grouped(i64::from(width)), grouped(i64::from(height)))
+                write!(out, "this one is {} across and {} down", grouped(width as i64), grouped(height as i64))
             }
         }
     }

@@ -22,10 +22,10 @@ pub enum Fault {
     Refused(Refusal, Option<Finding>),
 }
 
-/// All bytes of a file, or of standard input for `-`. A file that its length alone refuses is not read.
+/// All bytes of a WAD file, or of standard input for `-`. A file that its length alone refuses is not read.
 pub fn read(file: &OsStr) -> Result<Vec<u8>, Fault> {
     if file == "-" {
-        return most_of(io::stdin().lock()).map_err(Fault::Unread);
+        return read_most(file).map_err(Fault::Unread);
     }
     let opened = File::open(file).map_err(Fault::Unread)?;
     let about = opened.metadata().map_err(Fault::Unread)?;
@@ -33,6 +33,14 @@ pub fn read(file: &OsStr) -> Result<Vec<u8>, Fault> {
         return Err(Fault::Refused(TOO_LONG, Some(Finding::Length(about.len()))));
     }
     most_of(opened).map_err(Fault::Unread)
+}
+
+/// All bytes of any file, or of standard input for `-`; of a longer one than a WAD file may be, one byte more than that.
+pub fn read_most(file: &OsStr) -> io::Result<Vec<u8>> {
+    if file == "-" {
+        return most_of(io::stdin().lock());
+    }
+    most_of(File::open(file)?)
 }
 
 /// Everything, or as much as shows that it is too long.

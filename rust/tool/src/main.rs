@@ -8,15 +8,18 @@
 
 mod args;
 mod descend;
+mod encode;
 mod finding;
 mod input;
 mod json;
 mod judge;
 mod list;
 mod name;
+mod netpbm;
 mod order;
 mod output;
 mod pair;
+mod palette;
 mod picture;
 mod png;
 mod report;
@@ -52,6 +55,9 @@ fn run(request: &Request, report: &mut Report) {
         Command::List { file } => list::run(file, report),
         Command::Descend { file, map, x, y } => descend::run(file, map, (*x, *y), report),
         Command::Order { file, map, x, y, output } => order::run(file, map, (*x, *y), output.as_deref(), report),
-        Command::Picture { file, base, lump, output } => picture::run(file, base.as_deref(), lump, output, report),
+        Command::Picture { file, base, lump, palette, output } => {
+            picture::run(file, base.as_deref(), lump.as_deref(), palette.as_deref(), output, report);
+        }
+        Command::Encode { image, palette, offset, output } => encode::run(image, palette.as_deref(), *offset, output, report),
     }
 }

@@ -1,10 +1,12 @@
 //! `picture`: a picture lump as PNG.
 
 use crate::finding::Finding;
+use crate::input::{self, MOST_BYTES};
 use crate::json::Object;
 use crate::name::{self, shown};
 use crate::output::{is_same, put};
 use crate::pair::{Base, Opened};
+use crate::palette::{Palette, PLAYPAL};
 use crate::png;
 use crate::report::Report;
 use crate::verdict::{Outcome, Source, Subject, Verdict};
@@ -12,16 +14,37 @@ use meshpigeon::Picture;
 use std::ffi::OsStr;
 
 /// Pixels of the largest picture.
-const MOST_PIXELS: usize = 320 * 200;
-/// The lump of palettes, the first of which counts: red, green and blue for each of 256 colours.
-const PLAYPAL: &[u8; 8] = b"PLAYPAL\0";
-const PALETTE: usize = 3 * 256;
+pub const MOST_PIXELS: usize = 320 * 200;
 
-/// Writes a picture lump to `output`, which is standard output for `-`. Over a base, lump and palette are those of the pair.
-pub fn run(file: &OsStr, base: Option<&OsStr>, lump: &OsStr, output: &OsStr, report: &mut Report) {
-    if is_same(file, output) || base.is_some_and(|base| is_same(base, output)) {
-        return report.misused("the picture would be written over the file that it comes from");
+/// Whose picture it is: a lump of a WAD file, or a file that is the lump itself.
+struct Origin<'a> {
+    file: &'a OsStr,
+    lump: Option<String>,
+    source: Source,
+}
+
+/// Writes a picture lump to `output`, which is standard output for `-`. Over a base, lump and palette are those of the pair. Without a
+/// lump's name the file is the lump itself. A palette that is given counts before the file's own.
+pub fn run(
+    file: &OsStr,
+    base: Option<&OsStr>,
+    lump: Option<&OsStr>,
+    palette: Option<&OsStr>,
+    output: &OsStr,
+    report: &mut Report,
+) {
+    if [Some(file), base, palette].into_iter().flatten().any(|it| is_same(it, output)) {
+        return report.misused("the picture would be written over a file that it comes from");
     }
+    let Some(palette) = palette.map_or(Some(None), |file| Palette::open(file, report).map(Some)) else { return };
+    match lump {
+        Some(lump) => of_wad(file, base, lump, palette, output, report),
+        None => of_lump(file, palette.unwrap_or_else(Palette::greys), output, report),
+    }
+}
+
+/// A lump of a file or of a pair.
+fn of_wad(file: &OsStr, base: Option<&OsStr>, lump: &OsStr, palette: Option<Palette>, output: &OsStr, report: &mut Report) {
     let below = match Base::open(base) {
         Ok(below) => below,
         Err(fault) => return report.fault(base.unwrap_or_default(), fault),
@@ -32,46 +55,64 @@ pub fn run(file: &OsStr, base: Option<&OsStr>, lump: &OsStr, output: &OsStr, rep
     };
     let name = name::asked(lump);
     let Some((source, lump)) = opened.lump(&name) else { return report.trouble(file, &opened.lacks(&name)) };
+    let own = || opened.lump(PLAYPAL).and_then(|(_, lump)| Palette::of(lump)).unwrap_or_else(Palette::greys);
+    let origin = Origin { file, lump: Some(name::text(&name)), source };
+    paint(&origin, lump, &palette.unwrap_or_else(own), output, report);
+}
+
+/// A file that is the lump itself, as `encode` writes it.
+fn of_lump(file: &OsStr, palette: Palette, output: &OsStr, report: &mut Report) {
+    let lump = match input::read_most(file) {
+        Ok(lump) => lump,
+        Err(error) => return report.trouble(file, &error.to_string()),
+    };
+    if lump.starts_with(b"IWAD") || lump.starts_with(b"PWAD") {
+        return report.misused(&shown(&format!("picture needs LUMP: {} is a WAD file", file.to_string_lossy())));
+    }
+    if lump.len() as u64 > MOST_BYTES {
+        return report.trouble(file, "no lump of a WAD file has more than 16,777,216 bytes");
+    }
+    paint(&Origin { file, lump: None, source: Source::File }, &lump, &palette, output, report);
+}
+
+fn paint(origin: &Origin, lump: &[u8], palette: &Palette, output: &OsStr, report: &mut Report) {
     let (mut colour, mut cover) = (vec![0; MOST_PIXELS], vec![0; MOST_PIXELS]);
-    let (file, name) = (file.to_string_lossy(), name::text(&name));
     match meshpigeon::paint_picture(lump, &mut colour, &mut cover) {
         Err(refusal) => {
             let outcome = Outcome::Refused(refusal, Finding::in_picture(refusal, lump));
-            report.verdict(&Verdict { file: file.to_string(), subject: Subject::Lump(name), source, game: None, outcome });
+            let subject = origin.lump.clone().map_or(Subject::File, Subject::Lump);
+            let (file, source) = (origin.file.to_string_lossy().into_owned(), origin.source);
+            report.verdict(&Verdict { file, subject, source, game: None, outcome });
         }
         Ok(picture) => {
-            let pixels = pixels(&colour, &cover, &palette(&opened));
+            let pixels = pixels(&colour, &cover, palette);
             let bytes = png::encode(picture.width, picture.height, &pixels[..picture.width * picture.height]);
-            put(&bytes, output, report, |report| tell(&file, &name, source, picture, output, report));
+            put(&bytes, output, report, |report| tell(origin, picture, output, report));
         }
     }
 }
 
-/// The first palette of file or pair, or greys.
-fn palette(opened: &Opened) -> Vec<u8> {
-    let own = opened.lump(PLAYPAL).and_then(|(_, lump)| lump.get(..PALETTE));
-    own.map_or_else(|| (0..=255).flat_map(|grey| [grey; 3]).collect(), <[u8]>::to_vec)
-}
-
 /// Red, green, blue and opacity of each pixel.
-fn pixels(colour: &[u8], cover: &[u8], palette: &[u8]) -> Vec<[u8; 4]> {
-    let pixel = |(&colour, &cover): (&u8, &u8)| match (cover, &palette[3 * usize::from(colour)..][..3]) {
-        (1, [red, green, blue]) => [*red, *green, *blue, 255],
+fn pixels(colour: &[u8], cover: &[u8], palette: &Palette) -> Vec<[u8; 4]> {
+    let pixel = |(&colour, &cover): (&u8, &u8)| match (cover, palette.colour(colour)) {
+        (1, [red, green, blue]) => [red, green, blue, 255],
         _ => [0; 4],
     };
     colour.iter().zip(cover).map(pixel).collect()
 }
 
-fn tell(file: &str, name: &str, source: Source, picture: Picture, output: &OsStr, report: &mut Report) {
+fn tell(origin: &Origin, picture: Picture, output: &OsStr, report: &mut Report) {
     let Picture { width, height, left, top } = picture;
-    let (output, of) = (output.to_string_lossy(), source.name().map_or(String::new(), |name| format!(" (of the {name})")));
+    let (file, lump, output) = (origin.file.to_string_lossy(), origin.lump.as_deref(), output.to_string_lossy());
+    let name = lump.map_or(String::new(), |lump| format!(":{lump}"));
+    let of = origin.source.name().map_or(String::new(), |name| format!(" (of the {name})"));
     report.answer(
-        || shown(&format!("{file}:{name}: {width} x {height}{of}, offsets {left} and {top}, written to {output}")),
+        || shown(&format!("{file}{name}: {width} x {height}{of}, offsets {left} and {top}, written to {output}")),
         || {
-            let object = Object::new().text("file", file).text("lump", name).number("number", 0);
+            let object = Object::new().text("file", file.as_ref()).text("lump", lump).number("number", 0);
             let object = object.count("width", width).count("height", height);
             let object = object.number("left", i64::from(left)).number("top", i64::from(top)).text("output", output.as_ref());
-            object.text("from", source.name()).close()
+            object.text("from", origin.source.name()).close()
         },
     );
 }

@@ -2,6 +2,7 @@
 #![forbid(unsafe_code)]
 
 mod descend;
+mod encode;
 mod found;
 mod hexen;
 mod input;

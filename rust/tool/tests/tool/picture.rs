@@ -1,7 +1,7 @@
 //! `picture`.
 
 use crate::png_reader;
-use crate::support::{lumps, Folder};
+use crate::support::{lumps, palette, Folder};
 use generator::{PictureSpec, Post};
 use std::fs;
 use std::os::unix::fs::symlink;
@@ -13,11 +13,6 @@ fn small() -> Vec<u8> {
     picture.give_column(0, &[Post { start: 1, pixels: vec![7, 9], ignored: [0, 0] }]);
     picture.data.push(255);
     picture.encode()
-}
-
-/// A palette with red 100 + n, green 200 - n and blue n for colour n, as far as that goes.
-fn palette() -> Vec<u8> {
-    (0..=255_u8).flat_map(|it| [100_u8.wrapping_add(it), 200_u8.wrapping_sub(it), it]).collect()
 }
 
 const CLEAR: [u8; 4] = [0; 4];
@@ -124,4 +119,56 @@ fn a_picture_is_never_written_over_its_file() {
         assert_eq!((said.status, said.out.as_str()), (3, ""), "{output}");
         assert_eq!(fs::read(folder.file("a.wad")).expect("it is there"), wad, "{output}");
     }
+}
+
+#[test]
+fn a_file_may_be_the_lump_itself() {
+    let folder = Folder::with("small.lmp", &small()).and("colours.wad", &lumps(&[(b"PLAYPAL\0", palette())]));
+    folder.run(&["picture", "small.lmp", "-o", "out.png"]).is(0, &["small.lmp: 2 x 3, offsets -3 and 4, written to out.png"]);
+    let png = png_reader::read(&fs::read(folder.file("out.png")).expect("the picture"));
+    assert_eq!(png.pixels, [CLEAR, CLEAR, [7, 7, 7, 255], CLEAR, [9, 9, 9, 255], CLEAR]);
+    folder.run(&["picture", "small.lmp", "-o", "out.png", "--palette", "colours.wad", "-q"]).is(0, &[]);
+    let png = png_reader::read(&fs::read(folder.file("out.png")).expect("the picture"));
+    assert_eq!(png.pixels, [CLEAR, CLEAR, [107, 193, 7, 255], CLEAR, [109, 191, 9, 255], CLEAR]);
+}
+
+#[test]
+fn a_palette_that_is_given_counts_before_the_files_own() {
+    let folder = Folder::with("a.wad", &lumps(&[(b"PLAYPAL\0", vec![0; 768]), (b"SMALL\0\0\0", small())]))
+        .and("colours.wad", &lumps(&[(b"PLAYPAL\0", palette())]));
+    folder.run(&["picture", "a.wad", "SMALL", "-o", "out.png", "--palette=colours.wad", "-q"]).is(0, &[]);
+    let png = png_reader::read(&fs::read(folder.file("out.png")).expect("the picture"));
+    assert_eq!(png.pixels[2], [107, 193, 7, 255]);
+}
+
+#[test]
+fn a_bad_lump_file_is_refused_by_its_own_name() {
+    let mut picture = PictureSpec::blank(2, 3);
+    picture.give_column(1, &[Post { start: 2, pixels: vec![1, 2], ignored: [0, 0] }]);
+    picture.data.push(255);
+    let folder = Folder::with("bad.lmp", &picture.encode()).and("short.lmp", b"short");
+    let said = folder.run(&["picture", "bad.lmp", "-o", "out.png"]);
+    assert!(said.out.starts_with("bad.lmp: refused 54 at column 1: column 1 has a post"), "{said:?}");
+    assert_eq!((said.status, folder.names()), (1, vec!["bad.lmp".to_string(), "short.lmp".to_string()]));
+    let said = folder.run(&["picture", "short.lmp", "-o", "out.png", "--json"]);
+    assert!(said.out.contains(r#""map":null,"number":50,"place":null,"lump":null,"record":null"#), "{said:?}");
+}
+
+#[test]
+fn a_wad_file_needs_the_lumps_name() {
+    let folder = Folder::with("a.wad", &lumps(&[(b"SMALL\0\0\0", small())]));
+    let said = folder.run(&["picture", "a.wad", "-o", "out.png"]);
+    assert_eq!(
+        (said.status, said.out.as_str(), said.err.as_str()),
+        (3, "", "meshpigeon: picture needs LUMP: a.wad is a WAD file\n")
+    );
+}
+
+#[test]
+fn a_lump_file_is_no_longer_than_a_wad_file() {
+    let folder = Folder::new();
+    fs::File::create(folder.file("long.lmp")).and_then(|file| file.set_len(1 << 33)).expect("a sparse file");
+    let said = folder.run(&["picture", "long.lmp", "-o", "out.png"]);
+    assert_eq!((said.status, said.out.as_str()), (2, ""));
+    assert_eq!(said.err, "meshpigeon: long.lmp: no lump of a WAD file has more than 16,777,216 bytes\n");
 }

@@ -51,3 +51,16 @@ fn the_pigeon_is_painted() {
     assert_eq!(png.pixels[0], [0; 4]);
     assert_eq!(png.pixels[3 * 26 + 17], [32, 32, 40, 255]);
 }
+
+#[test]
+fn the_pigeon_is_painted_from_its_image() {
+    let folder = folder();
+    let said = folder.run(&["encode", "pigeon.pam", "-o", "pigeon.lmp", "--palette", "picture.wad", "--offset", "13,20"]);
+    said.is(0, &["pigeon.pam: 26 x 20, offsets 13 and 20, 442 bytes, written to pigeon.lmp"]);
+    let pixels = |arguments: &[&str]| {
+        assert_eq!(folder.run(arguments).status, 0);
+        png_reader::read(&std::fs::read(folder.file("out.png")).expect("the picture")).pixels
+    };
+    let painted = pixels(&["picture", "picture.wad", "PIGEON", "-o", "out.png"]);
+    assert_eq!(pixels(&["picture", "pigeon.lmp", "-o", "out.png", "--palette", "picture.wad"]), painted);
+}

@@ -105,5 +105,10 @@ pub fn lumps(entries: &[(&[u8; 8], Vec<u8>)]) -> Vec<u8> {
     plan.wad()
 }
 
+/// A palette with red 100 + n, green 200 - n and blue n for colour n, as far as that goes.
+pub fn palette() -> Vec<u8> {
+    (0..=255_u8).flat_map(|it| [100_u8.wrapping_add(it), 200_u8.wrapping_sub(it), it]).collect()
+}
+
 /// What is said of the four rooms after the file's and the map's name.
 pub const GOOD: &str = "accepted, depth 2, 3 nodes, 4 subsectors";

@@ -21,6 +21,12 @@ fn commands_and_options_must_be_known() {
     misused(&["picture", "a.wad", "P", "-o", "a", "-o", "b"], "-o is given twice");
     misused(&["judge", "a.wad", "--base"], "--base needs a value");
     misused(&["judge", "--base", "a.wad", "a.wad", "--base=a.wad"], "--base is given twice");
+    misused(&["encode", "a.pam", "-o", "b", "--palette"], "--palette needs a value");
+    misused(&["encode", "a.pam", "-o", "b", "--offset"], "--offset needs a value");
+    misused(&["encode", "a.pam", "-o", "b", "--palette=c", "--palette=d"], "--palette is given twice");
+    misused(&["encode", "a.pam", "-o", "b", "--offset", "1,2", "--offset=1,2"], "--offset is given twice");
+    misused(&["judge", "a.wad", "--json=yes"], "'--json=yes' is no option");
+    misused(&["picture", "a.wad", "P", "-o=b"], "'-o=b' is no option");
 }
 
 #[test]
@@ -37,7 +43,15 @@ fn each_command_has_its_words() {
     misused(&["order", "a.wad", "MAP01", "1"], "order needs FILE MAP X Y");
     misused(&["order", "a.wad", "MAP01", "1", "2", "3"], "order needs FILE MAP X Y");
     misused(&["picture", "a.wad", "P"], "picture needs FILE LUMP -o OUT.png");
-    misused(&["picture", "a.wad", "-o", "b"], "picture needs FILE LUMP -o OUT.png");
+    misused(&["picture", "a.wad"], "picture needs FILE LUMP -o OUT.png, or the file of a lump");
+    misused(&["picture", "-o", "b"], "picture needs FILE LUMP -o OUT.png");
+    misused(&["picture", "a.wad", "P", "Q", "-o", "b"], "picture needs FILE LUMP -o OUT.png");
+    misused(&["picture", "a.lmp", "--base", "a.wad", "-o", "b"], "--base needs LUMP: the file of a lump is no patch");
+    misused(&["picture", "-", "--palette", "-", "-o", "b"], "standard input can be judged once only");
+    misused(&["encode", "a.pam"], "encode needs IMAGE -o OUT.lmp");
+    misused(&["encode", "-o", "b"], "encode needs IMAGE -o OUT.lmp");
+    misused(&["encode", "a.pam", "c.pam", "-o", "b"], "encode needs IMAGE -o OUT.lmp");
+    misused(&["encode", "-", "--palette=-", "-o", "b"], "standard input can be judged once only");
 }
 
 #[test]
@@ -51,6 +65,10 @@ fn each_command_has_its_options() {
     misused(&["list", "a.wad", "--base", "a.wad"], "list does not take --base");
     misused(&["descend", "a.wad", "MAP01", "0", "0", "--base", "a.wad"], "descend does not take --base");
     misused(&["order", "a.wad", "MAP01", "0", "0", "--base", "a.wad"], "order does not take --base");
+    misused(&["encode", "a.pam", "-o", "b", "--base", "a.wad"], "encode does not take --base");
+    misused(&["encode", "a.pam", "-o", "b", "--map", "MAP01"], "encode does not take --map");
+    misused(&["judge", "a.wad", "--palette", "a.wad"], "judge does not take --palette");
+    misused(&["picture", "a.wad", "P", "-o", "b", "--offset", "1,2"], "picture does not take --offset");
 }
 
 #[test]
@@ -59,6 +77,13 @@ fn coordinates_are_signed_16_bit_numbers() {
         misused(&["descend", "a.wad", "MAP01", strange, "0"], &format!("'{strange}' is no coordinate"));
         misused(&["descend", "a.wad", "MAP01", "0", strange], &format!("'{strange}' is no coordinate"));
         misused(&["order", "a.wad", "MAP01", "0", strange], &format!("'{strange}' is no coordinate"));
+    }
+}
+
+#[test]
+fn offsets_are_two_signed_16_bit_numbers() {
+    for strange in ["1", "1,", ",1", "1,2,3", "32768,0", "0,-32769", "1 2", "1, 2", "x,y", ""] {
+        misused(&["encode", "a.pam", "-o", "b", "--offset", strange], &format!("'{strange}' is no offset"));
     }
 }
 
