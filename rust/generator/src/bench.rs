@@ -4,7 +4,7 @@
 use crate::blockmap::LIST_END;
 use crate::map::encode;
 use crate::{joined, littered, named_entries, BlockmapSpec, MAP_NAME};
-use crate::{Content, EntryPlan, Layout, MapSpec, PictureSpec, Plan, Post, Rng, Shape, Sizes};
+use crate::{Canvas, Content, EntryPlan, Layout, MapSpec, PictureSpec, Plan, Post, Rng, Run, Shape, Sizes};
 use reader::{Node, SUBSECTOR_BIT};
 
 /// The largest file there may be.
@@ -215,6 +215,27 @@ pub fn picture(width: u16, height: u16) -> Vec<u8> {
         picture.data.push(255);
     }
     picture.encode()
+}
+
+/// The pixels of such a picture, to be written: colour, and then cover; see [`halves`](crate::halves).
+pub fn pixels(width: u16, height: u16) -> Vec<u8> {
+    let runs = |_, rng: &mut Rng| {
+        let (mut runs, mut start) = (Vec::new(), rng.below(8));
+        while start < usize::from(height) {
+            let length = rng.between(1, 80).min(usize::from(height) - start);
+            runs.push(Run { start, length });
+            start += length + rng.between(1, 12);
+        }
+        runs
+    };
+    let canvas = Canvas::new(width, height, runs, &mut Rng::new(8));
+    joined(canvas.colour, canvas.cover)
+}
+
+/// The same of a checkerboard: the most posts that there can be.
+pub fn checkered(width: u16, height: u16) -> Vec<u8> {
+    let canvas = Canvas::checkerboard(width, height, &mut Rng::new(9));
+    joined(canvas.colour, canvas.cover)
 }
 
 /// A NODES lump that halves the plane in turn, `levels` times, 1 to 14, over 2 to the power `levels` subsectors.

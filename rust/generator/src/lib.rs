@@ -9,7 +9,7 @@
 //! - [`MapSpec`], [`Plan`], [`BlockmapSpec`], [`PictureSpec`] and [`Canvas`] build inputs by hand;
 //! - [`ordinary_map`], [`hexen_map_of`], [`largest_map`], [`largest_hexen_map_of`], [`directory_of`],
 //!   [`littered_directory_of`], [`search_to_the_first`], [`search_in_vain`], [`pair_of`], [`pair_in_vain`], [`chain`], [`balanced`],
-//!   [`doublings`], [`shared_subsector`], [`hostile_blockmap`], [`hostile_picture`], [`picture`],
+//!   [`doublings`], [`shared_subsector`], [`hostile_blockmap`], [`hostile_picture`], [`picture`], [`pixels`], [`checkered`],
 //!   [`halving_nodes`], [`mixed_nodes`], [`deep_chain`], [`double_nodes`] and [`deep_doublings`] are the inputs of a benchmark;
 //! - [`shrink`] makes a failing case smaller.
 //!
@@ -63,9 +63,10 @@ mod valid;
 mod written;
 
 pub use bench::{
-    balanced, chain, deep_chain, deep_doublings, directory_of, double_nodes, doublings, halving_nodes, hexen_map_of,
+    balanced, chain, checkered, deep_chain, deep_doublings, directory_of, double_nodes, doublings, halving_nodes, hexen_map_of,
     hostile_blockmap, hostile_blockmap_of, hostile_picture, hostile_picture_of, largest_hexen_map_of, largest_map,
-    largest_map_of, littered_directory_of, map_of, mixed_nodes, ordinary_map, pair_of, picture, shared_subsector, MOST_BYTES,
+    largest_map_of, littered_directory_of, map_of, mixed_nodes, ordinary_map, pair_of, picture, pixels, shared_subsector,
+    MOST_BYTES,
 };
 pub use blockmap::{BlockmapSpec, Layout};
 pub use case::{Case, Expected, Question};

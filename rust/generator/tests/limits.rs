@@ -5,7 +5,7 @@ mod common;
 use common::check;
 use generator::*;
 use reader::{descend, directory, draw_order, find_map, judge_map, judge_picture, map_game, Accepted, Found, Refusal, Search};
-use reader::{pair_find, pair_judge_map, PairFile};
+use reader::{pair_find, pair_judge_map, write_picture, PairFile, Picture};
 
 #[test]
 fn both_sides_of_every_limit() {
@@ -89,6 +89,17 @@ fn hostile_inputs_are_good() {
     assert_eq!(judged(&hostile).depth, 0);
     assert!(judge_picture(&hostile_picture_of(10_000)).is_ok());
     assert_eq!(judge_picture(&picture(320, 200)).map(|it| (it.width, it.height)), Ok((320, 200)));
+}
+
+#[test]
+fn pixels_are_an_ordinary_picture_and_one_of_the_most_posts() {
+    let written = |width: usize, pixels: &[u8]| {
+        let (colour, cover) = halves(pixels);
+        let picture = Picture { width, height: colour.len() / width, left: 0, top: 0 };
+        write_picture(picture, colour, cover, &mut vec![0; 200_000]).expect("a good picture")
+    };
+    assert_eq!(written(320, &checkered(320, 200)), 8 + 320 * (4 + 1 + 100 * 5));
+    assert!((15_000..18_000).contains(&written(128, &pixels(128, 128))));
 }
 
 #[test]

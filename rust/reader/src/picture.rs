@@ -160,29 +160,19 @@ fn write_header(Picture { width, height, left, top }: Picture, lump: &mut [u8]) 
 /// Writes a column's posts and its end byte from `at` on, and answers where the next column begins. Its pixels are the first of
 /// each `width`.
 fn write_column(colour: &[u8], cover: &[u8], width: usize, lump: &mut [u8], mut at: usize) -> usize {
-    let mut post = None;
-    for (row, (&pixel, &covered)) in colour.iter().zip(cover).step_by(width).enumerate() {
-        if covered == 0 {
-            at = end_post(post.take(), lump, at);
-            continue;
+    let (height, mut row) = (cover.len().div_ceil(width), 0);
+    while row < height {
+        let length = (row..height).take_while(|row| cover[row * width] == 1).count();
+        if length > 0 {
+            lump[at..at + 3].copy_from_slice(&[row as u8, length as u8, 0]);
+            for (place, row) in lump[at + 3..at + 3 + length].iter_mut().zip(row..) {
+                *place = colour[row * width];
+            }
+            lump[at + 3 + length] = 0;
+            at += 4 + length;
         }
-        if post.is_none() {
-            lump[at] = row as u8;
-            post = Some(at);
-            at += 3;
-        }
-        lump[at] = pixel;
-        at += 1;
+        row += length + 1;
     }
-    at = end_post(post, lump, at);
     lump[at] = COLUMN_END;
-    at + 1
-}
-
-/// Gives the open post, which begins at `post` and whose pixels end before `at`, its length and its ignored bytes.
-fn end_post(post: Option<usize>, lump: &mut [u8], at: usize) -> usize {
-    let Some(post) = post else { return at };
-    lump[post + 1] = (at - post - 3) as u8;
-    (lump[post + 2], lump[at]) = (0, 0);
     at + 1
 }

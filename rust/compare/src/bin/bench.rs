@@ -100,6 +100,25 @@ fn reader_picture(lump: &[u8]) -> usize {
     reader::paint_picture(lump, &mut colour, &mut cover).expect("a good picture").width
 }
 
+/// The picture of these pixels, so many across, and an output that is long enough. Half of the bytes are colours, half the cover.
+fn canvas<const WIDTH: usize>(pixels: &[u8]) -> (reader::Picture, &[u8], &[u8], Vec<u8>) {
+    let (colour, cover) = given::halves(pixels);
+    let picture = reader::Picture { width: WIDTH, height: colour.len() / WIDTH, left: 1, top: 2 };
+    (picture, colour, cover, vec![0; 8 + WIDTH * (4 + 2 + 5 * picture.height / 2)])
+}
+
+/// The length of a written lump.
+fn library_written<const WIDTH: usize>(pixels: &[u8]) -> usize {
+    let (reader::Picture { width, height, left, top }, colour, cover, mut out) = canvas::<WIDTH>(pixels);
+    let picture = meshpigeon::Picture { width, height, left, top };
+    meshpigeon::write_picture_with(picture, colour, cover, &mut out).expect("a good picture")
+}
+
+fn reader_written<const WIDTH: usize>(pixels: &[u8]) -> usize {
+    let (picture, colour, cover, mut out) = canvas::<WIDTH>(pixels);
+    reader::write_picture(picture, colour, cover, &mut out).expect("a good picture")
+}
+
 /// The points of the million descents.
 fn points() -> impl Iterator<Item = (i16, i16)> {
     (0..1_000_000_u32).map(|n| ((n.wrapping_mul(40_503) >> 8) as i16, (n.wrapping_mul(2_654_435_761) >> 16) as i16))
@@ -201,6 +220,18 @@ fn inputs() -> Vec<Input> {
             sized: |n| given::picture(320, 50 * n as u16),
             library: library_picture,
             reader: reader_picture,
+        },
+        Input {
+            name: "picture of 128 × 128, written",
+            sized: |n| given::pixels(128, 32 * n as u16),
+            library: library_written::<128>,
+            reader: reader_written::<128>,
+        },
+        Input {
+            name: "checkerboard of 320 × 200, written",
+            sized: |n| given::checkered(320, 50 * n as u16),
+            library: library_written::<320>,
+            reader: reader_written::<320>,
         },
         Input {
             name: "a million descents",
