@@ -118,8 +118,28 @@ pub(crate) const HUGE_SIZES: [(usize, usize); 8] = [
     (1 << 40, 1 << 10),
 ];
 
-/// A picture to be written, with no fault or with some of the four; the first in the order 55 to 58 counts.
+/// A picture to be written, good or bad.
 pub fn written_case(rng: &mut Rng) -> Case {
+    if rng.once_in(6) {
+        random_case(rng)
+    } else {
+        drawn_case(rng)
+    }
+}
+
+/// Any small sides, pixels and output: nothing is known of the answer.
+fn random_case(rng: &mut Rng) -> Case {
+    let picture = Picture { width: rng.below(7), height: rng.below(7), left: rng.i16(), top: rng.i16() };
+    let mut lent = || (picture.width * picture.height + rng.below(4)).saturating_sub(rng.pick(&[0, 0, 1, 4]));
+    let [colour, cover] = [lent(), lent()];
+    let mut covered = || if rng.once_in(60) { rng.byte() } else { rng.below(2) as u8 };
+    let cover = (0..cover).map(|_| covered()).collect();
+    let canvas = Canvas { picture, colour: rng.bytes(colour), cover, lump: Vec::new() };
+    canvas.case("random pixels", rng.between(8, 150), Expected::Unknown)
+}
+
+/// A drawn picture, with no fault or with some of the four; the first in the order 55 to 58 counts.
+fn drawn_case(rng: &mut Rng) -> Case {
     let (width, height) = any_size(rng);
     let mut canvas = Canvas::any(width, height, rng);
     let length = canvas.lump.len();
