@@ -228,7 +228,7 @@ fn inputs() -> Vec<Input> {
             reader: reader_written::<128>,
         },
         Input {
-            name: "checkerboard of 320 × 200, written",
+            name: "checkerboard 320 × 200, written",
             sized: |n| given::checkered(320, 50 * n as u16),
             library: library_written::<320>,
             reader: reader_written::<320>,
