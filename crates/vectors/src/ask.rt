@@ -2,13 +2,14 @@
 use crate::print;
 use crate::records;
 use crate::script;
+use picture::Picture;
 
 // Which question a word names: its place among these. Those from RECORDS on read and write one.
-const RECORDS: usize = 10;
+const RECORDS: usize = 11;
 
 pub(crate) fn number_of(word: &[u8]) -> usize {
     script::place_among(
-        b"base title directory entry marker game descend map order picture \
+        b"base title directory entry marker game descend map order picture encode \
         THINGS THINGS.DH THINGS.HD THINGS.H LINEDEFS LINEDEFS.DH LINEDEFS.HD LINEDEFS.H \
         SIDEDEFS VERTEXES SEGS SSECTORS NODES SECTORS ",
         word,
@@ -24,8 +25,8 @@ pub(crate) fn put(asked: usize, with: &[u8], file: &[u8], word: usize, words: us
         5 => game(file, with),
         6 => descend(file, with),
         7 | 8 => lend_words(asked == 8, file, with, word, words),
-        9 => picture(file, with),
-        RECORDS..=23 => record(asked - RECORDS, file, with),
+        9 | 10 => pixels(asked == 10, file, with),
+        RECORDS..=24 => record(asked - RECORDS, file, with),
         _ => print::ill_formed(),
     }
 }
@@ -111,6 +112,13 @@ fn draw_order(nodes: &[u8], with: &[u8], words: &mut [u16]) {
     print::words(words);
 }
 
+fn pixels(written: bool, file: &[u8], with: &[u8]) {
+    if written {
+        return encode(file, with);
+    }
+    picture(file, with);
+}
+
 // Asked with the length of the colour plane, then what both planes hold.
 fn picture(lump: &[u8], with: &[u8]) {
     let end = script::plus(4, argument(with, 0));
@@ -136,6 +144,33 @@ fn picture_answer(a: export_pictures::PictureAnswer) {
     let p = a.picture;
     print::answer(a.status, p.width, p.height);
     print::signed(&[p.left, p.top]);
+}
+
+// Written over the file. Asked with width, height, both offsets and the length of the colour plane, then what both planes hold.
+fn encode(out: &[u8], with: &[u8]) {
+    let end = script::plus(20, argument(with, 16));
+    let colours = script::part(with, 20, end);
+    let covers = script::part(with, end, with.len());
+    let picture = header(with);
+    let n = out.len() % 64001;
+    let mut copy = copied(out);
+    write(picture, colours, covers, &mut copy[..n]);
+}
+
+fn header(with: &[u8]) -> Picture {
+    Picture {
+        width: argument(with, 0),
+        height: argument(with, 4),
+        left: coordinate(with, 8),
+        top: coordinate(with, 12),
+    }
+}
+
+fn write(picture: Picture, colour: &[u8], cover: &[u8], out: &mut [u8]) {
+    let a = export_pictures::meshpigeon_write_picture(picture, colour, cover, out);
+    print::status(a.status);
+    print::number(a.length);
+    print::bytes(out);
 }
 
 // With an index alone the record is read from the lump, with an index and its bytes from those. It is written to the index.
