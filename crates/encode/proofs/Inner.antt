@@ -1,7 +1,7 @@
 -- Laws of the writer's way down a column: it goes from run to run, and no run begins where it does not look. Assumes nothing.
 use Prim.Native.Nat.{ℕ, zero, suc, _+_, _-_, _*_, _≤_, _<_}
 use mathlib.Core.Bool.{Bool, true, false, _&&_, not, cond, and-false}
-use mathlib.Core.List.{List, [], _∷_, _++_, append-nil}
+use mathlib.Core.List.{List, [], _++_, append-nil}
 use mathlib.Core.Logic.{⊎-elim}
 use mathlib.Core.Path.{_≡_, sym, ap, _∙_}
 use native.Mathlib.Nat.{eq-or-lt-of-le}
@@ -17,7 +17,7 @@ use Rattle.encode.specs.Lump.{pixelAt, coveredAt, u32Bytes}
 use Rattle.encode.specs.Inner.{runBytes, offsetAt, offsetsTo, columnsTo}
 use Rattle.encode.proofs.Joined.{sum-more, joined-none, joined-suc, joined-more, length-joined-le}
 use Rattle.encode.proofs.Stores.{sets-append, sets-comm, sets-u32}
-use Rattle.encode.proofs.Runs.{run-most, run-covered, run-ends, length-column}
+use Rattle.encode.proofs.Runs.{run-most, run-covered, run-ends, length-ended, length-column}
 use Rattle.encode.proofs.Lump.{length-offsets, length-columns}
 
 module _ (colour : ℕ → ℕ) (covered : ℕ → Bool) (height : ℕ) where
@@ -122,7 +122,7 @@ module _ (colour : ℕ → ℕ) (covered : ℕ → Bool) (height : ℕ) where
         ap length (run-posts row count above e),
         length-append (posts row) (runBytes colour row count),
         length-joined-le (postAt colour covered height) (row + count) height (run-rows row count h e),
-        length-append (posts height) (255 ∷ []),
+        length-ended colour covered height,
       )
 
 -- ---- column after column, by width and height alone

@@ -11,7 +11,7 @@ use Rattle.canvas.specs.Pixels.{listOf}
 use Rattle.canvas.proofs.Planes.{length-listOf, getD-listOf}
 use Rattle.encode.specs.Runs.{joined, aboveOf, begins, runFrom, postOf, postAt, columnBytes}
 use Rattle.encode.proofs.Joined.{joined-none, joined-suc, length-joined-suc}
-use Rattle.encode.proofs.Runs.{run-none, run-suc, run-most, length-post}
+use Rattle.encode.proofs.Runs.{run-suc, run-most, length-post, run-covered}
 use Rattle.encode.proofs.Standing.{Stands, stands-left, stands-right}
 use Rattle.encode.proofs.Reading.{Reads, PostAt, reads-end, reads-gap, reads-post}
 
@@ -25,18 +25,6 @@ stands-joined f {lump} {at} (suc n) s k h =
     (λ (e : k ≡ n). subst (λ (k : ℕ). Stands lump (at + length (joined f k)) (f k)) (sym e) (stands-right (joined f n) (f n) both))
     (λ (l : k < n). stands-joined f n (stands-left (joined f n) (f n) both) k l)
     (eq-or-lt-of-le (le-of-suc-le-suc h))
-
--- the rows of a run are covered
-run-covered : (covered : ℕ → Bool) (row left i : ℕ) → i < runFrom covered row left → covered (row + i) ≡ true
-run-covered covered row zero i h = let none = run-none covered row in absurd (omega arith)
-run-covered covered row (suc left) i h =
-    by (covered row) refl i (rw (run-suc covered row left) at h) (λ k l. run-covered covered (suc row) left k l)
-  where
-    by : (b : Bool) → covered row ≡ b → (i : ℕ) → i < cond b (suc (runFrom covered (suc row) left)) 0
-        → ((k : ℕ) → k < runFrom covered (suc row) left → covered (suc row + k) ≡ true) → covered (row + i) ≡ true
-    by false e i h below = absurd (not-suc-le-zero h)
-    by true e zero h below = ap covered (omega arith) ∙ e
-    by true e (suc i) h below = ap covered (omega arith) ∙ below i (le-of-suc-le-suc h)
 
 module _ (lump : List ℕ) (height column : ℕ) (covered : ℕ → Bool) (colour : ℕ → ℕ) (small : height < 255) where
   abbrev ReadsHere : ℕ → ℕ → Type 0

@@ -127,13 +127,16 @@ module _ (colour : ℕ → ℕ) (covered : ℕ → Bool) (height : ℕ) where
       ∙ one-row (covered n) (aboveOf covered n) _ _ _ (runFrom covered (suc n) (height - suc n)) _ run before
       ∙ rw (sum-suc (λ i. cond (begins covered i) 1 0) n, sum-suc (λ i. cond (covered i) 1 0) n)
 
+  -- the end byte is one byte
+  pub length-ended : length (columnBytes colour covered height) ≡ length (joined (postAt colour covered height) height) + 1
+  length-ended = simp length-append
+
   pub length-column : length (columnBytes colour covered height) ≡ columnLength covered height
   length-column =
-      let e = length-append (joined (postAt colour covered height) height) (255 ∷ []) in
       let posts = posts-length height (omega arith) in
       let none : height - height ≡ 0 = omega arith in
       let last : pending height ≡ 0 = ap (λ (k : ℕ). cond (aboveOf covered height) k 0) (ap (runFrom covered height) none ∙ run-none covered height) ∙ cond-zero (aboveOf covered height) in
-      omega (arith, e, posts, last)
+      omega (arith, length-ended, posts, last)
     where
       cond-zero : (b : Bool) → _≡_ {A = ℕ} (cond b 0 0) 0
       cond-zero true = refl

@@ -8,11 +8,12 @@ use native.Mathlib.Nat.{le-trans, mul-le-mul-right}
 use native.Mathlib.Omega.{arith}
 use borrow.Author.Needs.{needs}
 use denote.Ref.{now}
-use lib.ListN.{length, set, length-set, length-append}
+use lib.ListN.{length, set, length-set}
 use lib.Seq.{sets, length-sets}
 use Rattle.encode.specs.Runs.{aboveOf, postAt}
 use Rattle.encode.specs.Lump.{pixelAt, coveredAt}
 use Rattle.encode.proofs.Joined.{joined-none}
+use Rattle.encode.proofs.Runs.{length-ended}
 use Rattle.encode.proofs.Inner.{posts, run-rows, run-room, Next, next-of, column-more, place-more}
 use Rattle.encode.proofs.Stores.{sets-push}
 use Rattle.encode.proofs.writing.write_column.Statement.{statement}
@@ -125,7 +126,7 @@ last c =
     let g = coveredAt (now (a .cover)) (a .width) (a .column) in
     let e : l .row ≡ a .height = search needs in
     let same = ap (λ (n : ℕ). length (posts f g (a .height) n)) e in
-    omega (arith, s .pre .1, l .inv .2, same, length-append (posts f g (a .height) (a .height)) (255 ∷ []))
+    omega (arith, s .pre .1, l .inv .2, same, length-ended f g (a .height))
 
 slice-write-out : tie.Need-slice-write-out Inv-loop μ-loop
 slice-write-out c = omega (arith, last c, long c)
@@ -144,7 +145,7 @@ returns c =
     let g = coveredAt (now (a .cover)) (a .width) (a .column) in
     let e : l .row ≡ a .height = search needs in
     let same = ap (λ (n : ℕ). length (posts f g (a .height) n)) e in (
-      omega (arith, l .inv .2, same, length-append (posts f g (a .height) (a .height)) (255 ∷ [])),
+      omega (arith, l .inv .2, same, length-ended f g (a .height)),
       ap (λ (x : List ℕ). set x (l .to) 255) (l .inv .3)
           ∙ sets-push (now (a .out)) (a .from) (posts f g (a .height) (l .row)) 255 (l .to) (l .inv .2)
           ∙ ap (λ (n : ℕ). sets (now (a .out)) (a .from) (posts f g (a .height) n ++ (255 ∷ []))) e,
