@@ -1,13 +1,13 @@
 -- Laws of the lump: it is as long as the layout's sum. Assumes nothing.
-use Prim.Native.Nat.{ℕ, zero, suc, _*_, _≤_}
+use Prim.Native.Nat.{ℕ, zero, suc, _+_, _*_, _≤_}
 use mathlib.Core.Bool.{Bool}
-use mathlib.Core.List.{List, _++_}
+use mathlib.Core.List.{List}
 use mathlib.Core.Path.{_≡_, refl, _∙_}
 use native.Mathlib.Omega.{arith}
 use lib.ListN.{length, length-append}
 use Rattle.picture.specs.declared.Picture.{Picture}
 use Rattle.encode.specs.Runs.{sumOf, joined, begins, columnLength}
-use Rattle.encode.specs.Lump.{pixelAt, coveredAt, columnOf, lengthOf, offsetOf, u32Bytes, headerBytes, writtenOf, writtenLength}
+use Rattle.encode.specs.Lump.{pixelAt, coveredAt, columnOf, lengthOf, offsetOf, u32Bytes, writtenOf, writtenLength}
 use Rattle.encode.specs.Inner.{offsetAt}
 use Rattle.encode.proofs.Joined.{sum-none, sum-suc, sum-most, count-most, length-joined}
 use Rattle.encode.proofs.Runs.{length-column}
@@ -15,6 +15,10 @@ use Rattle.encode.proofs.Runs.{length-column}
 sum-fours : (n : ℕ) → sumOf (λ i. 4) n ≡ 4 * n
 sum-fours zero = sum-none (λ i. 4)
 sum-fours (suc n) = let k = sum-fours n in omega (arith, sum-suc (λ i. 4) n)
+
+-- numbers of four bytes
+length-fours : (f : ℕ → ℕ) (n : ℕ) → length (joined (λ i. u32Bytes (f i)) n) ≡ 4 * n
+length-fours f n = length-joined (λ i. u32Bytes (f i)) (λ i. 4) n (λ i l. refl) ∙ sum-fours n
 
 module _ (picture : Picture) (colour cover : List ℕ) where
   abbrev pub offsets : ℕ → List ℕ
@@ -24,7 +28,7 @@ module _ (picture : Picture) (colour cover : List ℕ) where
   columns n = joined (columnOf picture colour cover) n
 
   pub length-offsets : (n : ℕ) → length (offsets n) ≡ 4 * n
-  length-offsets n = length-joined (λ column. u32Bytes (offsetOf picture cover column)) (λ i. 4) n (λ i l. refl) ∙ sum-fours n
+  length-offsets n = length-fours (offsetOf picture cover) n
 
   pub length-columns : (n : ℕ) → length (columns n) ≡ sumOf (lengthOf picture cover) n
   length-columns n =
@@ -33,10 +37,9 @@ module _ (picture : Picture) (colour cover : List ℕ) where
 
   pub length-written : length (writtenOf picture colour cover) ≡ writtenLength picture cover
   length-written =
-      let w = picture .width in
-      let a = length-append (headerBytes picture ++ offsets w) (columns w) in
-      let b = length-append (headerBytes picture) (offsets w) in
-      omega (arith, a, b, length-offsets w, length-columns w)
+      let parts : length (writtenOf picture colour cover) ≡ 8 + 4 * picture .width + length (columns (picture .width)) =
+      simp (length-append, length-fours) in
+      omega (arith, parts, length-columns (picture .width))
 
 -- ---- bounds of a picture of the size that is accepted
 
