@@ -82,6 +82,10 @@ pub enum Refusal {
     RecordBounds,
     // 61: a field that the record's game lacks is not 0, or a Hexen special is over 255
     RecordFields,
+    // 80: sidedefs as they arrive, the count of sectors
+    StreamSectors,
+    // 81: sidedefs as they arrive, more bytes than a file has
+    StreamLength,
 }
 
 // What a check answers.
@@ -138,6 +142,8 @@ pub fn row_of(r: Refusal) -> Row
         Refusal::EncodeRoom => Row(58, 0, 0),
         Refusal::RecordBounds => Row(60, 0, 0),
         Refusal::RecordFields => Row(61, 0, 0),
+        Refusal::StreamSectors => Row(80, 0, 0),
+        Refusal::StreamLength => Row(81, 0, 0),
     }
 }
 

@@ -1,0 +1,3 @@
+-- The laws of scraps. Assumes nothing.
+
+pub mod Examples

@@ -1,0 +1,5 @@
+-- SIDEDEFS as they arrive. Assumes nothing.
+
+pub mod Scraps
+pub mod Whole
+pub mod Examples
