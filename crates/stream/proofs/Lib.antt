@@ -1,3 +1,4 @@
 -- The laws of scraps. Assumes nothing.
 
+pub mod Scraps
 pub mod Examples

@@ -2,4 +2,5 @@
 
 pub mod Scraps
 pub mod Whole
+pub mod Inner
 pub mod Examples
