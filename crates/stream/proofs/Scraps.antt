@@ -33,7 +33,7 @@ unfolding fed
 fed-append s [] ys = refl
 fed-append s (x ∷ xs) ys = fed-append (stepOf s x) xs ys
 
-step-full : (s : Stream) (byte : ℕ) → mostBytes < s .bytes → stepOf s byte ≡ s
+pub step-full : (s : Stream) (byte : ℕ) → mostBytes < s .bytes → stepOf s byte ≡ s
 step-full s byte h = rw (lt-ltb mostBytes (s .bytes) h)
 
 -- past the most bytes a state stays as it is

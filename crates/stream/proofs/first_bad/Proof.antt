@@ -1,14 +1,14 @@
 -- `stream::first_bad` meets its contract: `place` is the low byte of a sector, and the sectors before it are there. The measure is
 -- what is left of the scrap. Assumes nothing.
-use Prim.Native.Nat.{ℕ, _+_, _-_, _%_, _≤_, _<_}
-use mathlib.Core.Bool.{false, true, true≢false}
-use mathlib.Core.Path.{_≡_, sym, _∙_}
+use Prim.Native.Nat.{ℕ, _+_, _-_, _≤_, _<_}
+use mathlib.Core.Bool.{true≢false}
+use mathlib.Core.Path.{sym, _∙_}
 use native.Mathlib.Omega.{arith}
 use borrow.Author.Needs.{needs}
 use denote.Ref.{now}
 use lib.ListN.{length}
 use Rattle.endian.specs.Unsigned.{u16At}
-use Rattle.stream.specs.Inner.{Low, FirstBad}
+use Rattle.stream.specs.Inner.{Low}
 use Rattle.stream.proofs.Scraps.{good-more}
 use Rattle.stream.proofs.first_bad.Statement.{statement}
 use Rattle.stream.proofs.first_bad.Tie as tie
