@@ -138,16 +138,24 @@ fn run_of(wad: &[u8], directory: Directory, marker: usize) -> Result<Lumps<'_>, 
 
 /// Whole records, and as many as the table allows, lump by lump: refusals 20 and 21.
 fn judge_sizes(lumps: &Lumps) -> Result<(), Refusal> {
-    for (place, row) in (1..).zip(&TABLE) {
-        let Some(records) = &row.records else { continue };
-        if !lumps.at(place).len().is_multiple_of(records.size(lumps.hexen)) {
-            return Err(Refusal::new(20, place, 0));
+    for place in 1..=8 {
+        judge_size(lumps.at(place), place, lumps.hexen)?;
+        if place == 7 && lumps.count(7) == 0 && lumps.count(6) != 1 {
+            return Err(Refusal::new(21, 7, 0));
         }
-        let count = lumps.count(place);
-        let lone = place != 7 || count > 0 || lumps.count(6) == 1;
-        if !records.counts.contains(&count) || !lone {
-            return Err(Refusal::new(21, place, 0));
-        }
+    }
+    Ok(())
+}
+
+/// The same of the lump at one place, as far as it stands by itself.
+pub(crate) fn judge_size(lump: &[u8], place: usize, hexen: bool) -> Result<(), Refusal> {
+    let Some(records) = &TABLE[place - 1].records else { return Ok(()) };
+    let size = records.size(hexen);
+    if !lump.len().is_multiple_of(size) {
+        return Err(Refusal::new(20, place, 0));
+    }
+    if !records.counts.contains(&(lump.len() / size)) {
+        return Err(Refusal::new(21, place, 0));
     }
     Ok(())
 }

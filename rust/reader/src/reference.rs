@@ -28,10 +28,15 @@ pub(crate) fn judge(lumps: &Lumps) -> Result<(), Refusal> {
     };
     let linedefs: Vec<Linedef> = Linedef::all(lumps.at(2), lumps.hexen).collect();
     each(23, 2, linedefs.iter(), |linedef| linedef_is_good(linedef, &counts))?;
-    each(24, 3, Sidedef::all(lumps.at(3)), |sidedef| below(sidedef.sector, counts.sectors))?;
+    judge_sidedefs(lumps.at(3), counts.sectors)?;
     each(25, 5, Seg::all(lumps.at(5)), |seg| seg_is_good(&seg, &linedefs, &counts))?;
     each(26, 6, Subsector::all(lumps.at(6)), |run| subsector_is_good(&run, &counts))?;
     each(27, 7, Node::all(lumps.at(7)), |node| child_is_good(node.right, &counts) && child_is_good(node.left, &counts))
+}
+
+/// Judges sidedefs over a count of sectors.
+pub(crate) fn judge_sidedefs(lump: &[u8], sectors: usize) -> Result<(), Refusal> {
+    each(24, 3, Sidedef::all(lump), |sidedef| below(sidedef.sector, sectors))
 }
 
 /// The first record that is not good is refused.
