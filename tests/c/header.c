@@ -59,6 +59,13 @@ SIZE(order_answer, 32);
 AT(order_answer, status, 0);
 AT(order_answer, count, 24);
 
+SIZE(sidedefs, 32);
+AT(sidedefs, sectors, 0);
+AT(sidedefs, bytes, 8);
+AT(sidedefs, bad, 16);
+AT(sidedefs, low, 24);
+AT(sidedefs, found, 25);
+
 SIZE(pair_entry_answer, 48);
 AT(pair_entry_answer, status, 0);
 AT(pair_entry_answer, file, 24);
@@ -349,6 +356,66 @@ static void orders_are_refused(uint16_t child, uint32_t number)
                              W(0), W(0), W(0), W(64), NO_BOX, NO_BOX, W(child), W(child)};
     meshpigeon_order_answer o = meshpigeon_draw_order(graph, sizeof graph, 1, 5, 5, words, 4);
     EXPECT(status_is(o.status, number, 0, 0) && o.count == 0 && words_are(words, 0, 0, 0, 9));
+}
+
+/* ---- SIDEDEFS as it arrives ---- */
+
+static int state_is(meshpigeon_sidedefs s, size_t sectors, size_t bytes, size_t bad, uint8_t low, bool found)
+{
+    return s.sectors == sectors && s.bytes == bytes && s.bad == bad && s.low == low && s.found == found;
+}
+
+/* Five sidedefs and a half: the sectors of the fourth and of the fifth, numbers 3 and 4, are not there. Two scraps end between the bytes of
+ * a sector. */
+static void scraps(void)
+{
+    enum { SECTORS = 1000, RECORD = 30 };
+    static const uint8_t any[28] = {0};
+    static const uint8_t good[] = {W(999)}, bad[] = {W(1001)}, last[] = {W(0x4D4D)};
+    meshpigeon_sidedefs s = meshpigeon_sidedefs_start(SECTORS);
+    EXPECT(state_is(s, SECTORS, 0, 0, 0, false));
+    EXPECT(status_is(meshpigeon_sidedefs_verdict(s), 21, 3, 0));
+    for (size_t i = 0; i < 5; i++) {
+        s = meshpigeon_sidedefs_feed(s, any, sizeof any);
+        EXPECT(status_is(meshpigeon_sidedefs_verdict(s), 20, 3, 0));
+        s = meshpigeon_sidedefs_feed(s, i < 3 ? good : bad, 1);
+        EXPECT(state_is(s, SECTORS, RECORD * i + 29, i > 3 ? 3 : 0, i < 3 ? 0xE7 : 0xE9, i > 3));
+        s = meshpigeon_sidedefs_feed(s, any, 0);
+        s = meshpigeon_sidedefs_feed(s, (i < 3 ? good : bad) + 1, 1);
+        EXPECT(state_is(s, SECTORS, RECORD * (i + 1), i < 3 ? 0 : 3, 0, i >= 3));
+        EXPECT(i < 3 ? accepted(meshpigeon_sidedefs_verdict(s)) : status_is(meshpigeon_sidedefs_verdict(s), 24, 3, 3));
+    }
+    s = meshpigeon_sidedefs_feed(s, any, sizeof any);
+    s = meshpigeon_sidedefs_feed(s, last, 1);
+    EXPECT(state_is(s, SECTORS, 179, 3, 0x4D, true));
+    EXPECT(status_is(meshpigeon_sidedefs_verdict(meshpigeon_sidedefs_start(0)), 80, 0, 0));
+    EXPECT(status_is(meshpigeon_sidedefs_verdict(meshpigeon_sidedefs_start(65536)), 80, 0, 0));
+}
+
+/* States that no start made: each field is given with a value of its own, and each counts. */
+static void any_states(void)
+{
+    static const uint8_t two[] = {3, 4};
+    const meshpigeon_sidedefs in_sector = {.sectors = 700, .bytes = 30 * 8 + 29, .bad = 11, .low = 5, .found = false};
+    EXPECT(state_is(meshpigeon_sidedefs_feed(in_sector, two, 0), 700, 269, 11, 5, false));
+    EXPECT(state_is(meshpigeon_sidedefs_feed(in_sector, two, 1), 700, 270, 8, 0, true));
+    meshpigeon_sidedefs s = in_sector;
+    s.sectors = 0x0306;
+    EXPECT(state_is(meshpigeon_sidedefs_feed(s, two, 2), 0x0306, 271, 11, 0, false));
+    s.sectors = 0x0305;
+    EXPECT(state_is(meshpigeon_sidedefs_feed(s, two, 2), 0x0305, 271, 8, 0, true));
+    s.found = true;
+    EXPECT(state_is(meshpigeon_sidedefs_feed(s, two, 2), 0x0305, 271, 11, 0, true));
+    s.bytes = 270;
+    EXPECT(status_is(meshpigeon_sidedefs_verdict(s), 24, 3, 11));
+    s.bytes = 30 * 65536;
+    EXPECT(status_is(meshpigeon_sidedefs_verdict(s), 21, 3, 0));
+    s.bytes = 16777216;
+    EXPECT(status_is(meshpigeon_sidedefs_verdict(s), 20, 3, 0));
+    EXPECT(state_is(meshpigeon_sidedefs_feed(s, two, 2), 0x0305, 16777217, 11, 5, true));
+    s.bytes = (size_t)-1;
+    EXPECT(status_is(meshpigeon_sidedefs_verdict(s), 81, 0, 0));
+    EXPECT(state_is(meshpigeon_sidedefs_feed(s, two, 2), 0x0305, (size_t)-1, 11, 5, true));
 }
 
 /* ---- a pair of files ---- */
@@ -807,6 +874,8 @@ int main(void)
     orders();
     orders_are_refused(1, 44);
     orders_are_refused(0, 46);
+    scraps();
+    any_states();
     pair_lumps();
     pair_files();
     pair_maps();

@@ -16,11 +16,13 @@ mod pair;
 mod raw;
 mod record;
 mod refusal;
+mod sidedefs;
 
 pub use game::{Linedef, Thing};
 pub use pair::{pair_find, pair_judge_map, pair_judge_map_with, pair_lump, PairEntry, PairFile, PairLump, PairMap, PairRefusal};
 pub use record::{Node, Sector, Seg, Sidedef, Subsector, Vertex};
 pub use refusal::Refusal;
+pub use sidedefs::Sidedefs;
 
 /// As many work words as any map needs: four for each of 32,767 nodes.
 pub const MOST_WORDS: usize = 4 * 32_767;

@@ -5,7 +5,7 @@ mod layout;
 
 use crate::game::{Linedef, Thing};
 use crate::record::{Node, Sector, Seg, Sidedef, Subsector, Vertex};
-use crate::{PairFile, PairRefusal, Picture, Refusal, Search};
+use crate::{PairFile, PairRefusal, Picture, Refusal, Search, Sidedefs};
 
 /// What every answer begins with; number 0 is accepted.
 #[repr(C)]
@@ -95,6 +95,9 @@ extern "C" {
         words: *mut u16,
         words_len: usize,
     ) -> OrderAnswer;
+    fn meshpigeon_sidedefs_start(sectors: usize) -> Sidedefs;
+    fn meshpigeon_sidedefs_feed(state: Sidedefs, scrap: Bytes, scrap_len: usize) -> Sidedefs;
+    fn meshpigeon_sidedefs_verdict(state: Sidedefs) -> Status;
     fn meshpigeon_pair_find(
         base: Bytes,
         base_len: usize,
@@ -162,6 +165,18 @@ pub(crate) fn descend(nodes: &[u8], subsectors: usize, x: i16, y: i16) -> Result
 
 pub(crate) fn draw_order(nodes: &[u8], subsectors: usize, x: i16, y: i16, words: &mut [u16]) -> Result<OrderAnswer, Refusal> {
     unsafe { meshpigeon_draw_order(nodes.as_ptr(), nodes.len(), subsectors, x, y, words.as_mut_ptr(), words.len()) }.checked()
+}
+
+pub(crate) fn sidedefs_start(sectors: usize) -> Sidedefs {
+    unsafe { meshpigeon_sidedefs_start(sectors) }
+}
+
+pub(crate) fn sidedefs_feed(state: Sidedefs, scrap: &[u8]) -> Sidedefs {
+    unsafe { meshpigeon_sidedefs_feed(state, scrap.as_ptr(), scrap.len()) }
+}
+
+pub(crate) fn sidedefs_verdict(state: Sidedefs) -> Result<(), Refusal> {
+    unsafe { meshpigeon_sidedefs_verdict(state) }.check()
 }
 
 /// The file that an answer on a pair notes.

@@ -2,7 +2,7 @@
 //! and sees that the library answers by them.
 
 use super::*;
-use crate::Picture;
+use crate::{Picture, Sidedefs};
 use core::mem::{offset_of, size_of};
 
 /// Holds each struct to its size and each of its fields to its offset. A field that is left out does not compile.
@@ -27,6 +27,7 @@ layout! {
     MapAnswer 40 { status 0, depth 24, marker 32 }
     DescentAnswer 40 { status 0, subsector 24, count 32 }
     OrderAnswer 32 { status 0, count 24 }
+    Sidedefs 32 { sectors 0, bytes 8, bad 16, low 24, found 25 }
     PairEntryAnswer 48 { status 0, file 24, offset 32, size 40 }
     PairMapAnswer 48 { status 0, file 24, depth 32, marker 40 }
     Picture 24 { width 0, height 8, left 16, top 18 }
