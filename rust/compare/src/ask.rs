@@ -1,6 +1,6 @@
 //! One case asked of the library, and of the reader.
 
-use generator::{Case, Kind, Question, Record};
+use generator::{scraps, Case, Kind, Question, Record};
 
 /// A refusal's number, place and record.
 type Refused = (u32, usize, usize);
@@ -91,6 +91,11 @@ macro_rules! asker {
                     let mut outcome = Outcome::new(drawn.map(|count| vec![count as i64]).map_err(refused));
                     outcome.words = words;
                     outcome
+                }
+                Question::Sidedefs { sectors, lengths, times } => {
+                    let mut sidedefs = $side::Sidedefs::start(*sectors);
+                    (0..*times).for_each(|_| scraps(bytes, lengths).for_each(|scrap| sidedefs.feed(scrap)));
+                    Outcome::new(sidedefs.verdict().map(|()| Vec::new()).map_err(refused))
                 }
                 Question::JudgePicture => Outcome::new($side::judge_picture(bytes).map(|it| picture!(it)).map_err(refused)),
                 Question::PaintPicture { colour, cover } => {

@@ -5,8 +5,10 @@
 #![deny(missing_docs)]
 
 mod ask;
+mod stream;
 
 pub use ask::{ask_library, ask_reader, Outcome};
+pub use stream::{fed, judged, stepped};
 
 use generator::{Case, Expected, Question};
 use reader::{PairFile, PairRefusal};
@@ -20,6 +22,9 @@ pub fn fault(case: &Case) -> Option<String> {
     }
     if !comes_back(case, &library) {
         return Some(format!("what was written is not read back: {library:?}"));
+    }
+    if let Some(words) = stream::fault(case) {
+        return Some(words);
     }
     let known = match case.expected {
         Expected::Unknown => true,

@@ -8,7 +8,7 @@ use reader::{Accepted, Found, PairEntry, PairMap, PairRefusal, Picture, Refusal,
 pub struct Case {
     /// What the case is about, for reports.
     pub label: String,
-    /// The file, of a pair the patch; NODES lump, picture lump or record lump; of a picture to be written its cover.
+    /// The file, of a pair the patch; NODES lump, SIDEDEFS lump, picture lump or record lump; of a picture to be written its cover.
     pub bytes: Vec<u8>,
     /// What is asked of the bytes.
     pub question: Question,
@@ -78,6 +78,15 @@ pub enum Question {
         y: i16,
         /// The words as lent.
         words: Vec<u16>,
+    },
+    /// Judge SIDEDEFS as it arrives.
+    Sidedefs {
+        /// The count of sectors.
+        sectors: usize,
+        /// Lengths of the scraps, in turn: see [`scraps`](crate::scraps).
+        lengths: Vec<usize>,
+        /// How often all the bytes come, one time after the other.
+        times: usize,
     },
     /// Judge a picture.
     JudgePicture,

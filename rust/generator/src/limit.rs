@@ -6,6 +6,7 @@ use crate::limit_graph::graph_limits;
 use crate::limit_lump::lump_limits;
 use crate::limit_map::map_limits;
 use crate::limit_run::run_limits;
+use crate::limit_scraps::scraps_limits;
 use crate::limit_written::written_limits;
 use crate::name::name_limits;
 use crate::patch::patch_limits;
@@ -34,6 +35,7 @@ pub fn limits() -> Vec<Build> {
     all.extend(draw_limits());
     all.extend(patch_limits());
     all.extend(written_limits());
+    all.extend(scraps_limits());
     all
 }
 

@@ -1,6 +1,6 @@
 //! Asks the reader a case's question and holds the answer against what is expected.
 
-use generator::{Case, Encode, Expected, Kind, Question, Record};
+use generator::{scraps, Case, Encode, Expected, Kind, Question, Record};
 use reader::*;
 
 /// An answer of the reader, as far as expectations speak of it.
@@ -51,6 +51,7 @@ fn ask(case: &Case) -> Result<Answer, Refusal> {
         Question::PairJudgeMap { base, name, words } => Ok(Answer::PairMap(ask_pair_map(base, bytes, name, words))),
         Question::Descend { subsectors, x, y } => descend(bytes, *subsectors, *x, *y).map(Answer::Found),
         Question::DrawOrder { subsectors, x, y, words } => ask_order(bytes, *subsectors, (*x, *y), words),
+        Question::Sidedefs { sectors, lengths, times } => ask_sidedefs(bytes, *sectors, lengths, *times),
         Question::JudgePicture => judge_picture(bytes).map(|_| Answer::Good),
         Question::PaintPicture { colour, cover } => ask_paint(bytes, colour, cover),
         Question::WritePicture { picture, colour, out } => ask_written(*picture, colour, bytes, out),
@@ -124,6 +125,20 @@ fn ask_pair_map(base: &[u8], patch: &[u8], name: &[u8], lent: &[u16]) -> Result<
         assert_eq!(pair_judge_map(patch, patch, name, &mut lent.to_vec()), judged);
     }
     judged.inspect_err(notes_its_file)
+}
+
+/// The verdict is that of the whole lump, as far as memory holds it, and the same in one piece.
+fn ask_sidedefs(bytes: &[u8], sectors: usize, lengths: &[usize], times: usize) -> Result<Answer, Refusal> {
+    let [mut cut, mut whole] = [Sidedefs::start(sectors); 2];
+    for _ in 0..times {
+        scraps(bytes, lengths).for_each(|scrap| cut.feed(scrap));
+        whole.feed(bytes);
+    }
+    assert_eq!(cut.verdict(), whole.verdict());
+    if bytes.len().saturating_mul(times) < 1 << 25 {
+        assert_eq!(cut.verdict(), judge_sidedefs(&bytes.repeat(times), sectors));
+    }
+    cut.verdict().map(|()| Answer::Good)
 }
 
 fn ask_order(nodes: &[u8], subsectors: usize, (x, y): (i16, i16), lent: &[u16]) -> Result<Answer, Refusal> {
