@@ -6,10 +6,10 @@ use meshpigeon::{judge_map, Refusal, Sidedefs};
 /// The most bytes that may come: above it a state stays as it is.
 const MOST_BYTES: usize = 16_777_216;
 
-/// Lumps up to this size are judged as maps too, and each of their scraps is held to the same bytes in one piece.
+/// Of lumps up to this size the state after each scrap is held to that of the same bytes in one piece.
 const SMALL: usize = 2_000;
 
-/// The most sectors of such a map: REJECT has their square in bits.
+/// The most sectors of a lump that is judged inside a map too: REJECT has their square in bits.
 const FEW: usize = 600;
 
 /// The state after one more byte, whatever the state.

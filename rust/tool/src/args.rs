@@ -83,6 +83,11 @@ pub enum Command {
         /// Where it goes.
         output: OsString,
     },
+    /// Judge a SIDEDEFS lump on standard input as it comes.
+    Sidedefs {
+        /// The count of sectors, good or not.
+        sectors: usize,
+    },
 }
 
 /// Why a command line is not understood.
@@ -115,7 +120,7 @@ struct Parts {
 }
 
 /// What may be asked for.
-const COMMANDS: &str = "judge, list, descend, order, picture or encode";
+const COMMANDS: &str = "judge, list, descend, order, picture, encode or sidedefs";
 
 /// Takes the arguments after the program's name apart.
 pub fn parse(arguments: Vec<OsString>) -> Result<Request, Misuse> {
@@ -139,6 +144,7 @@ pub fn parse(arguments: Vec<OsString>) -> Result<Request, Misuse> {
         Some("order") => order(&parts),
         Some("picture") => picture(&parts),
         Some("encode") => encode(&parts),
+        Some("sidedefs") => sidedefs(&parts),
         _ => misuse(format!("'{}' is no command: {COMMANDS}", shown(&name))),
     }?;
     fits(&name, &parts)?;
@@ -220,7 +226,7 @@ fn fits(command: &OsStr, parts: &Parts) -> Result<(), Misuse> {
         "--offset"
     } else if parts.output.is_some() && !takes(&["order", "picture", "encode"]) {
         "-o"
-    } else if parts.quiet && !takes(&["judge", "picture", "encode"]) {
+    } else if parts.quiet && !takes(&["judge", "picture", "encode", "sidedefs"]) {
         "--quiet"
     } else {
         return Ok(());
@@ -292,6 +298,11 @@ fn encode(parts: &Parts) -> Result<Command, Misuse> {
     }
 }
 
+fn sidedefs(parts: &Parts) -> Result<Command, Misuse> {
+    let [sectors] = words(parts, "sidedefs needs SECTORS, and the lump on standard input")?;
+    Ok(Command::Sidedefs { sectors: count(&sectors)? })
+}
+
 fn words<const N: usize>(parts: &Parts, needs: &str) -> Result<[OsString; N], Misuse> {
     parts.words.clone().try_into().or_else(|_| misuse(needs))
 }
@@ -299,6 +310,13 @@ fn words<const N: usize>(parts: &Parts, needs: &str) -> Result<[OsString; N], Mi
 fn coordinate(word: &OsStr) -> Result<i16, Misuse> {
     let number = word.to_str().and_then(|text| text.parse().ok());
     number.map_or_else(|| misuse(format!("'{}' is no coordinate: -32768 to 32767", shown(word))), Ok)
+}
+
+/// Digits alone: a count outside 1 to 65,535 is the library's to refuse.
+fn count(word: &OsStr) -> Result<usize, Misuse> {
+    let digits = word.to_str().filter(|text| text.bytes().all(|byte| byte.is_ascii_digit()));
+    let number = digits.and_then(|text| text.parse().ok());
+    number.map_or_else(|| misuse(format!("'{}' is no count of sectors: 1 to 65535", shown(word))), Ok)
 }
 
 /// Left and top offset with a comma between them.

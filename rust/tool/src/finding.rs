@@ -3,7 +3,7 @@
 use crate::input::{LEAST_BYTES, MOST_BYTES};
 use crate::json::Object;
 use crate::wad::Wad;
-use meshpigeon::{Node, Picture, Refusal, Sector, Subsector};
+use meshpigeon::{Node, Picture, Refusal, Sector, Sidedef, Sidedefs, Subsector};
 use std::fmt;
 
 /// Places of the lumps that have rules of their own, and of those that the rules speak of.
@@ -34,6 +34,8 @@ pub enum Finding {
     Reject(usize, usize),
     /// 51 and 56: the picture's width and height.
     Picture(usize, usize),
+    /// 80: the count of sectors that was given.
+    Sectors(usize),
 }
 
 impl Finding {
@@ -82,6 +84,16 @@ impl Finding {
         }
     }
 
+    /// What is wrong with a SIDEDEFS lump by what has come of it: 20, 21 and 80.
+    pub fn in_sidedefs(refusal: Refusal, sidedefs: &Sidedefs) -> Option<Self> {
+        match refusal.number {
+            20 => Some(Self::Size(sidedefs.bytes)),
+            21 => Some(Self::Records(sidedefs.bytes / Sidedef::SIZE)),
+            80 => Some(Self::Sectors(sidedefs.sectors)),
+            _ => None,
+        }
+    }
+
     /// What was found as an object, a member for each number.
     pub fn json(self) -> Object {
         let object = Object::new();
@@ -94,6 +106,7 @@ impl Finding {
             Self::Nodes(nodes, subsectors) => object.count("count", nodes).count("subsectors", subsectors),
             Self::Reject(length, needed) => object.count("length", length).count("needed", needed),
             Self::Picture(width, height) => object.count("width", width).count("height", height),
+            Self::Sectors(count) => object.count("sectors", count),
         }
     }
 }
@@ -114,32 +127,33 @@ impl fmt::Display for Finding {
         match *self {
             Self::Length(length) => {
                 let which = if length < LEAST_BYTES { "short" } else { "long" };
-                write!(out, "this one has {}, which is too {which}", grouped(length as i64))
+                write!(out, "this one has {}, which is too {which}", grouped(length as i128))
             }
-            Self::MoreThan(length) => write!(out, "this one has more than {}, which is too long", grouped(length as i64)),
-            Self::Lumps(count) => write!(out, "the header says {}", grouped(i64::from(count))),
+            Self::MoreThan(length) => write!(out, "this one has more than {}, which is too long", grouped(length as i128)),
+            Self::Lumps(count) => write!(out, "the header says {}", grouped(i128::from(count))),
             Self::Size(size) => write!(out, "it has {}", some(size, "byte")),
-            Self::Records(count) => write!(out, "this one has {}", grouped(count as i64)),
+            Self::Records(count) => write!(out, "this one has {}", grouped(count as i128)),
             Self::Nodes(nodes, subsectors) => {
                 write!(out, "this one has {} and {}", some(nodes, "node"), some(subsectors, "subsector"))
             }
             Self::Reject(length, needed) => {
-                write!(out, "here that is {}, and it has {}", some(needed, "byte"), grouped(length as i64))
+                write!(out, "here that is {}, and it has {}", some(needed, "byte"), grouped(length as i128))
             }
             Self::Picture(width, height) => {
-                write!(out, "this one is {} across and {} down", grouped(width as i64), grouped(height as i64))
+                write!(out, "this one is {} across and {} down", grouped(width as i128), grouped(height as i128))
             }
+            Self::Sectors(count) => write!(out, "the count given is {}", grouped(count as i128)),
         }
     }
 }
 
 /// `1 byte`, `2,000 bytes`.
 fn some(count: usize, thing: &str) -> String {
-    format!("{} {thing}{}", grouped(count as i64), if count == 1 { "" } else { "s" })
+    format!("{} {thing}{}", grouped(count as i128), if count == 1 { "" } else { "s" })
 }
 
 /// A number with a comma before every three digits, as the sentences write theirs.
-fn grouped(number: i64) -> String {
+fn grouped(number: i128) -> String {
     let digits = number.unsigned_abs().to_string();
     let mut text = String::from(if number < 0 { "-" } else { "" });
     for (at, digit) in digits.char_indices() {
@@ -157,7 +171,7 @@ mod tests {
 
     #[test]
     fn numbers_are_grouped_by_threes() {
-        let said = [0, 7, 999, 1_000, 65_536, 16_777_217, -1, -999, -1_000, i64::from(i32::MIN)].map(grouped);
+        let said = [0, 7, 999, 1_000, 65_536, 16_777_217, -1, -999, -1_000, i128::from(i32::MIN)].map(grouped);
         assert_eq!(said, ["0", "7", "999", "1,000", "65,536", "16,777,217", "-1", "-999", "-1,000", "-2,147,483,648"]);
     }
 

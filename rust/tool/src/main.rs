@@ -23,6 +23,7 @@ mod palette;
 mod picture;
 mod png;
 mod report;
+mod sidedefs;
 mod svg;
 mod verdict;
 mod wad;
@@ -59,5 +60,6 @@ fn run(request: &Request, report: &mut Report) {
             picture::run(file, base.as_deref(), lump.as_deref(), palette.as_deref(), output, report);
         }
         Command::Encode { image, palette, offset, output } => encode::run(image, palette.as_deref(), *offset, output, report),
+        Command::Sidedefs { sectors } => sidedefs::run(*sectors, report),
     }
 }

@@ -15,5 +15,6 @@ mod pair;
 mod picture;
 mod png_reader;
 mod samples;
+mod sidedefs;
 mod support;
 mod usage;

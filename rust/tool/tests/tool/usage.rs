@@ -52,6 +52,8 @@ fn each_command_has_its_words() {
     misused(&["encode", "-o", "b"], "encode needs IMAGE -o OUT.lmp");
     misused(&["encode", "a.pam", "c.pam", "-o", "b"], "encode needs IMAGE -o OUT.lmp");
     misused(&["encode", "-", "--palette=-", "-o", "b"], "standard input can be judged once only");
+    misused(&["sidedefs"], "sidedefs needs SECTORS, and the lump on standard input");
+    misused(&["sidedefs", "5", "a.lmp"], "sidedefs needs SECTORS, and the lump on standard input");
 }
 
 #[test]
@@ -69,6 +71,9 @@ fn each_command_has_its_options() {
     misused(&["encode", "a.pam", "-o", "b", "--map", "MAP01"], "encode does not take --map");
     misused(&["judge", "a.wad", "--palette", "a.wad"], "judge does not take --palette");
     misused(&["picture", "a.wad", "P", "-o", "b", "--offset", "1,2"], "picture does not take --offset");
+    misused(&["sidedefs", "5", "-o", "b"], "sidedefs does not take -o");
+    misused(&["sidedefs", "5", "--map", "MAP01"], "sidedefs does not take --map");
+    misused(&["sidedefs", "5", "--base", "a.wad"], "sidedefs does not take --base");
 }
 
 #[test]
@@ -84,6 +89,13 @@ fn coordinates_are_signed_16_bit_numbers() {
 fn offsets_are_two_signed_16_bit_numbers() {
     for strange in ["1", "1,", ",1", "1,2,3", "32768,0", "0,-32769", "1 2", "1, 2", "x,y", ""] {
         misused(&["encode", "a.pam", "-o", "b", "--offset", strange], &format!("'{strange}' is no offset"));
+    }
+}
+
+#[test]
+fn a_count_of_sectors_is_a_whole_number() {
+    for strange in ["-1", "+1", "1.5", "five", "0x5", " 5", "18446744073709551616", ""] {
+        misused(&["sidedefs", strange], &format!("'{strange}' is no count of sectors: 1 to 65535"));
     }
 }
 
