@@ -3,7 +3,7 @@
 
 use crate::blockmap::LIST_END;
 use crate::map::encode;
-use crate::{joined, littered, named_entries, BlockmapSpec, MAP_NAME};
+use crate::{facing, joined, littered, named_entries, BlockmapSpec, MAP_NAME};
 use crate::{Canvas, Content, EntryPlan, Layout, MapSpec, PictureSpec, Plan, Post, Rng, Run, Shape, Sizes};
 use reader::{Node, SUBSECTOR_BIT};
 
@@ -236,6 +236,16 @@ pub fn pixels(width: u16, height: u16) -> Vec<u8> {
 pub fn checkered(width: u16, height: u16) -> Vec<u8> {
     let canvas = Canvas::checkerboard(width, height, &mut Rng::new(9));
     joined(canvas.colour, canvas.cover)
+}
+
+/// How many sectors the sidedefs of a benchmark face.
+pub const FACED: usize = 300;
+
+/// A good SIDEDEFS lump of `count` records, which face any of [`FACED`] sectors.
+pub fn sidedefs_of(count: usize) -> Vec<u8> {
+    let mut rng = Rng::new(10);
+    let sectors: Vec<u16> = (0..count).map(|_| rng.below(FACED) as u16).collect();
+    facing(&sectors, &mut rng)
 }
 
 /// A NODES lump that halves the plane in turn, `levels` times, 1 to 14, over 2 to the power `levels` subsectors.

@@ -1,4 +1,4 @@
-//! A deterministic generator of WAD files, maps, pictures, records and descents, good and bad.
+//! A deterministic generator of WAD files, maps, pictures, records, descents and sidedefs in scraps, good and bad.
 //!
 //! Everything is built from named fields, with what is known of the answer beside it:
 //!
@@ -10,7 +10,8 @@
 //! - [`ordinary_map`], [`hexen_map_of`], [`largest_map`], [`largest_hexen_map_of`], [`directory_of`],
 //!   [`littered_directory_of`], [`search_to_the_first`], [`search_in_vain`], [`pair_of`], [`pair_in_vain`], [`chain`], [`balanced`],
 //!   [`doublings`], [`shared_subsector`], [`hostile_blockmap`], [`hostile_picture`], [`picture`], [`pixels`], [`checkered`],
-//!   [`halving_nodes`], [`mixed_nodes`], [`deep_chain`], [`double_nodes`] and [`deep_doublings`] are the inputs of a benchmark;
+//!   [`halving_nodes`], [`mixed_nodes`], [`deep_chain`], [`double_nodes`], [`deep_doublings`] and [`sidedefs_of`] are the inputs of a
+//!   benchmark;
 //! - [`shrink`] makes a failing case smaller.
 //!
 //! ```
@@ -68,7 +69,7 @@ pub use bench::{
     balanced, chain, checkered, deep_chain, deep_doublings, directory_of, double_nodes, doublings, halving_nodes, hexen_map_of,
     hostile_blockmap, hostile_blockmap_of, hostile_picture, hostile_picture_of, largest_hexen_map_of, largest_map,
     largest_map_of, littered_directory_of, map_of, mixed_nodes, ordinary_map, pair_of, picture, pixels, shared_subsector,
-    MOST_BYTES,
+    sidedefs_of, FACED, MOST_BYTES,
 };
 pub use blockmap::{BlockmapSpec, Layout};
 pub use case::{Case, Expected, Question};

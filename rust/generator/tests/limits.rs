@@ -5,7 +5,7 @@ mod common;
 use common::check;
 use generator::*;
 use reader::{descend, directory, draw_order, find_map, judge_map, judge_picture, map_game, Accepted, Found, Refusal, Search};
-use reader::{pair_find, pair_judge_map, write_picture, PairFile, Picture};
+use reader::{judge_sidedefs, pair_find, pair_judge_map, write_picture, PairFile, Picture};
 
 #[test]
 fn both_sides_of_every_limit() {
@@ -100,6 +100,14 @@ fn pixels_are_an_ordinary_picture_and_one_of_the_most_posts() {
     };
     assert_eq!(written(320, &checkered(320, 200)), 8 + 320 * (4 + 1 + 100 * 5));
     assert!((15_000..18_000).contains(&written(128, &pixels(128, 128))));
+}
+
+#[test]
+fn sidedefs_are_the_most_and_good() {
+    for count in [1, 65_535] {
+        assert_eq!((judge_sidedefs(&sidedefs_of(count), FACED), sidedefs_of(count).len()), (Ok(()), 30 * count));
+    }
+    assert_eq!(judge_sidedefs(&sidedefs_of(65_535), FACED / 2).map_err(|it| it.number), Err(24));
 }
 
 #[test]

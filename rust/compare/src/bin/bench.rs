@@ -1,6 +1,7 @@
 //! Library and reader side by side on the same inputs, in one run: `cargo run --release -p compare --bin bench`.
 //!
 //! Prints a table in Markdown and writes a plot (SVG) to the file that is named as the only argument.
+//! With MESHPIGEON_ROWS, only the rows whose names have that text.
 //! A time is the best of several runs; a ratio below 1 says that the library is the faster.
 
 use std::fmt::Write as _;
@@ -141,6 +142,37 @@ fn library_order(nodes: &[u8]) -> usize {
 fn reader_order(nodes: &[u8]) -> usize {
     let mut words = vec![0; meshpigeon::MOST_DRAWN];
     reader::draw_order(nodes, 32_767, 1, 0, &mut words).unwrap_or_else(|refusal| refusal.number as usize)
+}
+
+/// How many sidedefs are told of: those of a good lump, or the refusal's number.
+fn told(verdict: Result<(), u32>, lump: &[u8]) -> usize {
+    verdict.map_or_else(|number| number as usize, |()| lump.len() / 30)
+}
+
+/// SIDEDEFS in scraps of this length.
+fn library_scraps<const LENGTH: usize>(lump: &[u8]) -> usize {
+    let mut sidedefs = meshpigeon::Sidedefs::start(given::FACED);
+    lump.chunks(LENGTH).for_each(|scrap| sidedefs.feed(scrap));
+    told(sidedefs.verdict().map_err(|it| it.number), lump)
+}
+
+fn reader_scraps<const LENGTH: usize>(lump: &[u8]) -> usize {
+    let mut sidedefs = reader::Sidedefs::start(given::FACED);
+    lump.chunks(LENGTH).for_each(|scrap| sidedefs.feed(scrap));
+    told(sidedefs.verdict().map_err(|it| it.number), lump)
+}
+
+/// The rows of one lump: in a map with little else, whose check is mostly this lump's; in one piece; and in scraps.
+const IN_A_MAP: &str = "65,535 sidedefs in a map";
+const IN_ONE_PIECE: &str = "65,535 sidedefs in one piece";
+const IN_SCRAPS: &str = "sidedefs in scraps of 4 KiB";
+
+/// What scraps cost beside the whole lump, in the library's own time.
+fn scraps_to_whole(rows: &[Row]) -> Option<String> {
+    let time = |name| rows.iter().find(|row| row.name == name).map(|row| row.library.as_secs_f64());
+    let [map, whole, scraps] = [time(IN_A_MAP)?, time(IN_ONE_PIECE)?, time(IN_SCRAPS)?];
+    let [to_map, to_whole] = [scraps / map, scraps / whole];
+    Some(format!("Scraps of 4 KiB take {to_map:.2} of the time of a map of the same lump and little else, {to_whole:.2} of that in one piece."))
 }
 
 fn inputs() -> Vec<Input> {
@@ -289,6 +321,36 @@ fn inputs() -> Vec<Input> {
             reader: reader_order,
         },
         Input {
+            name: IN_A_MAP,
+            sized: |n| given::map_around(&given::sidedefs_of(65_535 * n / 4), given::FACED),
+            library: library_map,
+            reader: reader_map,
+        },
+        Input {
+            name: IN_ONE_PIECE,
+            sized: |n| given::sidedefs_of(65_535 * n / 4),
+            library: library_scraps::<{ usize::MAX }>,
+            reader: reader_scraps::<{ usize::MAX }>,
+        },
+        Input {
+            name: IN_SCRAPS,
+            sized: |n| given::sidedefs_of(65_535 * n / 4),
+            library: library_scraps::<4_096>,
+            reader: reader_scraps::<4_096>,
+        },
+        Input {
+            name: "sidedefs one byte at a time",
+            sized: |n| given::sidedefs_of(65_535 * n / 4),
+            library: library_scraps::<1>,
+            reader: reader_scraps::<1>,
+        },
+        Input {
+            name: "16 MiB one byte at a time (20)",
+            sized: |n| vec![0; given::MOST_BYTES * n / 4],
+            library: library_scraps::<1>,
+            reader: reader_scraps::<1>,
+        },
+        Input {
             name: "hostile BLOCKMAP of 16 MiB",
             sized: |n| given::hostile_blockmap_of(given::MOST_BYTES * n / 4),
             library: library_map,
@@ -381,8 +443,12 @@ fn plot(rows: &[Row]) -> String {
 }
 
 fn main() {
-    let rows: Vec<Row> = inputs().iter().map(measure).collect();
+    let asked = std::env::var("MESHPIGEON_ROWS").unwrap_or_default();
+    let rows: Vec<Row> = inputs().iter().filter(|input| input.name.contains(&asked)).map(measure).collect();
     print!("{}", table(&rows));
+    if let Some(line) = scraps_to_whole(&rows) {
+        println!("\n{line}");
+    }
     if let Some(file) = std::env::args_os().nth(1) {
         std::fs::write(&file, plot(&rows)).expect("the plot is written");
     }
