@@ -58,28 +58,23 @@ pub fn judged(state: &Sidedefs) -> Result<(), Refusal> {
 pub(crate) fn fault(case: &Case) -> Option<String> {
     let Question::Sidedefs { sectors, lengths, times } = &case.question else { return None };
     let (sectors, bytes) = (*sectors, &case.bytes);
-    let mut state = Sidedefs { sectors, bytes: 0, bad: 0, low: 0, found: false };
-    let mut library = Sidedefs::start(sectors);
-    let mut whole = library;
-    let mut ends = 0;
-    for _ in 0..*times {
+    let mut model = Sidedefs { sectors, bytes: 0, bad: 0, low: 0, found: false };
+    let [mut library, mut uncut] = [Sidedefs::start(sectors); 2];
+    for turn in 0..*times {
+        let mut end = 0;
         for scrap in scraps(bytes, lengths) {
-            (state, ends) = (fed(state, scrap), ends + scrap.len());
+            (model, end) = (fed(model, scrap), end + scrap.len());
             library.feed(scrap);
-            if library != state || library.verdict() != judged(&state) {
-                return Some(format!("after {ends} bytes {library:?}\nmodel {state:?}"));
-            }
-            if bytes.len() <= SMALL && *times == 1 && in_one_piece(sectors, &bytes[..ends]) != state {
-                return Some(format!(
-                    "after {ends} bytes in one piece {:?}\nmodel {state:?}",
-                    in_one_piece(sectors, &bytes[..ends])
-                ));
+            let small = bytes.len() <= SMALL && turn == 0;
+            let in_one = || in_one_piece(sectors, &bytes[..end]) == model && library.verdict() == judged(&model);
+            if library != model || small && !in_one() {
+                return Some(format!("after {end} bytes of turn {turn} {library:?}\nmodel {model:?}"));
             }
         }
-        whole.feed(bytes);
+        uncut.feed(bytes);
     }
-    if whole != library {
-        return Some(format!("cut {library:?}\nuncut {whole:?}"));
+    if uncut != model || library.verdict() != judged(&model) {
+        return Some(format!("cut {:?} {library:?}\nuncut {uncut:?}\nmodel {:?} {model:?}", library.verdict(), judged(&model)));
     }
     whole_fault(bytes, sectors, *times, library.verdict())
 }

@@ -45,11 +45,14 @@ fn zeros(total: usize, sector: u16) -> Vec<u8> {
 fn byte_limits() -> Vec<Build> {
     let mut all: Vec<Build> = Vec::new();
     for total in [16_777_200, MOST_BYTES - 1, MOST_BYTES, MOST_BYTES + 1, 16_777_230, MOST_BYTES + 4_096] {
-        for lengths in [vec![], vec![4_096], vec![1 << 20, 0, 65_535], vec![MOST_BYTES, 0, 1], vec![MOST_BYTES + 1, 7]] {
-            for (sectors, sector) in [(1, 0), (5, 9), (0, 0), (65_536, 9)] {
-                let lengths = lengths.clone();
-                all.push(Box::new(move || scraps_case("most bytes", zeros(total, sector), sectors, lengths.clone(), 1)));
-            }
+        for (lengths, sectors, sector) in [
+            (vec![], 1, 0),
+            (vec![4_096], 5, 9),
+            (vec![1 << 20, 0, 65_535], 0, 0),
+            (vec![MOST_BYTES, 0, 1], 5, 4),
+            (vec![MOST_BYTES + 1, 7], 65_536, 9),
+        ] {
+            all.push(Box::new(move || scraps_case("most bytes", zeros(total, sector), sectors, lengths.clone(), 1)));
         }
     }
     all.push(Box::new(|| scraps_case("most bytes", zeros(MOST_BYTES + 2, 3), 3, vec![1], 1)));
@@ -72,8 +75,8 @@ fn count_limits() -> Vec<Build> {
     let mut all: Vec<Build> = Vec::new();
     for count in [0_usize, 1, 2, 65_534, 65_535, 65_536, 65_537] {
         for spare in [-1, 0, 1] {
-            for lengths in [vec![], vec![1], vec![29, 0, 1], vec![4_096], vec![30 * 65_535]] {
-                for bad in [None, Some(0), Some(65_535)] {
+            for lengths in [vec![], vec![1], vec![29, 0, 4_067], vec![30 * 65_535]] {
+                for bad in [None, Some(65_535)] {
                     let lengths = lengths.clone();
                     all.push(Box::new(move || {
                         let sector = |at| if bad == Some(at) { 9 } else { 0 };
@@ -92,10 +95,10 @@ fn count_limits() -> Vec<Build> {
 fn bad_limits() -> Vec<Build> {
     let mut all: Vec<Build> = Vec::new();
     for count in [3, 65_535] {
-        let places = [0, 1, count / 2, count - 2, count - 1];
+        let places = [0, count / 2, count - 1];
         for first in places {
             for second in places {
-                for lengths in [vec![], vec![1], vec![29, 0, 31], vec![4_096], vec![65_537, 3, 0, 26]] {
+                for lengths in [vec![], vec![1], vec![29, 0, 4_067]] {
                     all.push(Box::new(move || {
                         let mut sectors = vec![256; count];
                         (sectors[first], sectors[second]) = (300, 0x0201);

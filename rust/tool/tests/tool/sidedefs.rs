@@ -68,6 +68,15 @@ fn one_of_each_is_told_so() {
     fed(&["sidedefs", "1"], &lump(&[0])).is(0, &["-: accepted, 1 sidedef, 1 sector"]);
 }
 
+/// SIDEDEFS of the sample, as docs/TOOL.md and README.md cut it out.
+#[test]
+fn the_samples_sidedefs_are_judged() {
+    let samples = generator::samples();
+    let (_, wad) = samples.iter().find(|(name, _)| *name == "accepted.wad").expect("the sample");
+    fed(&["sidedefs", "4"], &wad[204..684]).is(0, &["-: accepted, 16 sidedefs, 4 sectors"]);
+    fed(&["sidedefs", "3"], &wad[204..684]).is(1, &[&BAD.replace('3', "11")]);
+}
+
 #[test]
 fn each_refusal_says_what_was_found() {
     let bytes = lump(&[2, 0, 0]);
