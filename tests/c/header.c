@@ -412,7 +412,8 @@ static void any_states(void)
     EXPECT(status_is(meshpigeon_sidedefs_verdict(s), 21, 3, 0));
     s.bytes = 16777216;
     EXPECT(status_is(meshpigeon_sidedefs_verdict(s), 20, 3, 0));
-    EXPECT(state_is(meshpigeon_sidedefs_feed(s, two, 2), 0x0305, 16777217, 11, 5, true));
+    EXPECT(state_is(meshpigeon_sidedefs_feed(s, two, 0), 0x0305, 16777216, 11, 5, true));
+    EXPECT(state_is(meshpigeon_sidedefs_feed(s, two, 2), 0x0305, 16777217, 11, 0, true));
     s.bytes = (size_t)-1;
     EXPECT(status_is(meshpigeon_sidedefs_verdict(s), 81, 0, 0));
     EXPECT(state_is(meshpigeon_sidedefs_feed(s, two, 2), 0x0305, (size_t)-1, 11, 5, true));

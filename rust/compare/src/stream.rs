@@ -18,16 +18,11 @@ pub fn stepped(mut state: Sidedefs, byte: u8) -> Sidedefs {
         return state;
     }
     let (record, at) = (state.bytes / 30, state.bytes % 30);
-    if at == 28 {
-        state.low = byte;
+    let sector = usize::from(state.low) + 256 * usize::from(byte);
+    if at == 29 && !state.found && sector >= state.sectors {
+        (state.bad, state.found) = (record, true);
     }
-    if at == 29 {
-        let sector = usize::from(state.low) + 256 * usize::from(byte);
-        state.low = 0;
-        if !state.found && sector >= state.sectors {
-            (state.bad, state.found) = (record, true);
-        }
-    }
+    state.low = if at == 28 { byte } else { 0 };
     state.bytes += 1;
     state
 }
