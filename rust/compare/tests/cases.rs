@@ -12,9 +12,13 @@ fn number(name: &str, default: u64) -> u64 {
     }
 }
 
+/// Longer cases are told as they are: to shrink one of 16 MiB would take an hour.
+const MOST_SHRUNK: usize = 100_000;
+
 /// Stops at the first fault, with the case shrunk and written to a file.
 fn hold(case: &Case, origin: &str) {
     let Some(words) = fault(case) else { return };
+    assert!(case.bytes.len() <= MOST_SHRUNK, "{origin}: {}\n{words}", case.label);
     let small = shrink(case, |it| fault(it).is_some());
     let file = env::temp_dir().join(format!("meshpigeon-difference-{}.txt", std::process::id()));
     let text = format!("{origin}\n{words}\n\nshrunk:\n{small:?}\n{}\n", fault(&small).unwrap_or_default());
