@@ -106,7 +106,7 @@ fn feed_part(state: Stream, scrap: &[u8]) -> Stream
     }
 }
 
-// From sector to sector: where the first one stands that is not there.
+// From sector to sector, by their high bytes, which one test holds inside: where the first one stands that is not there.
 fn first_bad(found: bool, sectors: usize, bytes: usize, scrap: &[u8]) -> usize
     requires { ⌜ (bytes + length (now scrap) ≤ mostBytes + 1) × (bytes % sidedefSize < highPlace) ⌝ }
     ensures { λ r. ⌜ FirstBad found sectors bytes (now (scrap .entry)) r ⌝ }
@@ -114,14 +114,14 @@ fn first_bad(found: bool, sectors: usize, bytes: usize, scrap: &[u8]) -> usize
     if found {
         return scrap.len();
     }
-    let mut place = LOW - bytes % Sidedef::SIZE;
-    while place + 1 < scrap.len() {
-        if sectors <= endian::u16_at(scrap, place) as usize {
-            return place;
+    let mut high = HIGH - bytes % Sidedef::SIZE;
+    while high < scrap.len() {
+        if sectors <= endian::u16_at(scrap, high - 1) as usize {
+            return high - 1;
         }
-        place = place + Sidedef::SIZE;
+        high = high + Sidedef::SIZE;
     }
-    place
+    high - 1
 }
 
 // A scrap's last byte is kept where it is the low byte of a sector.
