@@ -1,0 +1,3 @@
+-- The laws of fields with their ranges. Assumes nothing.
+
+pub mod Fields
