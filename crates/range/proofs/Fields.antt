@@ -2,7 +2,7 @@
 -- not all are in range. Assumes nothing.
 use Prim.Native.Nat.{ℕ}
 use mathlib.Core.Bool.{Bool, true, false, _&&_, cond, true≢false}
-use mathlib.Core.List.{List, [], _∷_}
+use mathlib.Core.List.{List, [], _∷_, _++_}
 use mathlib.Core.Path.{_≡_, refl, sym, ap, subst, _∙_}
 use Rattle.endian.specs.Unsigned.{putU32}
 use Rattle.range.specs.declared.Field.{Field}
@@ -30,6 +30,13 @@ pub firstOut-more : (f : Field) (fs : List Field) → firstOut (f ∷ fs) ≡ fi
 unfolding firstOut
 firstOut-more f fs = refl
 
+-- one field after the other, the last one first
+pub first-then : {r x f g : Field} (fs : List Field) → r ≡ firstOf x g → x ≡ f → g ≡ firstOut fs → r ≡ firstOut (f ∷ fs)
+first-then {r} {x} {f} {g} fs e p q = e ∙ (λ i. firstOf (p i) (q i)) ∙ sym (firstOut-more f fs)
+
+pub first-last : {g : Field} → g ≡ noField → g ≡ firstOut []
+first-last e = e ∙ sym firstOut-none
+
 -- ---- where not all are in range, there is a first that is not
 
 -- one more field in front, by its test
@@ -55,14 +62,19 @@ first-out (f ∷ fs) e = ahead f fs (inRange f) refl (first-out fs) (sym (allIn-
 
 -- ---- what holds of each field holds of the first
 
-pub each-first : (P : Field → Type 0) (fs : List Field) → P noField → Each P fs → P (firstOut fs)
-each-first P [] z h = subst P (sym firstOut-none) z
-each-first P (f ∷ fs) z h =
-    subst P (sym (firstOut-more f fs)) (either (inRange f) (h .0) (each-first P fs z (h .1)))
+each-at : (P : Field → Type 0) (before after : List Field) (f : Field) → Each P (before ++ (f ∷ after)) → P f
+each-at P [] after f h = h .0
+each-at P (g ∷ before) after f h = each-at P before after f (h .1)
+
+pub first-holds : (P : Field → Type 0) (fs : List Field) (f : Field) → Each P fs → FirstOut fs f → P f
+first-holds P fs f h o = each-at P (o .before) (o .after) f (subst (Each P) (o .stands) h)
+
+pub firstOf-holds : (P : Field → Type 0) (f g : Field) → P f → P g → P (firstOf f g)
+firstOf-holds P f g p q = by-test (inRange f)
   where
-    either : (b : Bool) → P f → P (firstOut fs) → P (cond b (firstOut fs) f)
-    either true p q = q
-    either false p q = p
+    by-test : (b : Bool) → P (cond b g f)
+    by-test true = q
+    by-test false = p
 
 -- ---- a field written
 

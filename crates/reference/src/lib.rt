@@ -23,23 +23,24 @@ use refusal::Check;
 use refusal::Refusal;
 
 // Where the fields stand in their records.
-const START: usize = 0;
+pub const START: usize = 0;
 
-const END: usize = 2;
+pub const END: usize = 2;
 
-const FLAGS: usize = 4;
+pub const FLAGS: usize = 4;
 
-const SECTOR: usize = 28;
+pub const SECTOR: usize = 28;
 
-const LINEDEF: usize = 6;
+pub const LINEDEF: usize = 6;
 
-const DIRECTION: usize = 8;
+pub const DIRECTION: usize = 8;
 
-const NUMBER: usize = 0;
+pub const NUMBER: usize = 0;
 
-const FIRST: usize = 2;
+pub const FIRST: usize = 2;
 
-fn two_sided(flags: usize) -> bool
+// Whether a linedef's flags say that it is two-sided.
+pub fn two_sided(flags: usize) -> bool
     ensures { λ r. ⌜ r ≡ twoSided flags ⌝ }
 {
     flags / 4 % 2 == 1
@@ -87,7 +88,8 @@ pub fn judge_sidedefs(sidedefs: &[u8], sectors: usize) -> Check
     Check::Pass
 }
 
-fn left_ok(hexen: bool, linedefs: &[u8], i: usize) -> bool
+// Whether linedef i is there and has a left side.
+pub fn left_ok(hexen: bool, linedefs: &[u8], i: usize) -> bool
     ensures { λ r. ⌜ r ≡ leftOk hexen (now (linedefs .entry)) i ⌝ }
 {
     let size = Linedef::size(hexen);
@@ -151,7 +153,7 @@ pub fn judge_nodes(nodes: &[u8], subsectors: usize) -> Check
 }
 
 // The unsigned number at `at` of record i, read in place.
-fn field(lump: &[u8], size: usize, i: usize, at: usize) -> usize
+pub fn field(lump: &[u8], size: usize, i: usize, at: usize) -> usize
     requires { ⌜ (i < length (now lump) / size) × (at + 1 < size) ⌝ }
     ensures { λ r. ⌜ (r ≡ u16At (recordBytes (now (lump .entry)) size i) at) × (r < 65536) ⌝ }
 {

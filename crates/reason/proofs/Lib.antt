@@ -1,0 +1,3 @@
+-- The laws of a record's fields with their ranges. Assumes nothing.
+
+pub mod Reasons
