@@ -2,6 +2,7 @@
 
 pub mod Unmet
 pub mod Tall
+pub mod Ways
 pub mod Searching
 pub mod Looks
 pub mod Words

@@ -2,7 +2,7 @@
 use Prim.Native.Nat.{ℕ, suc, _+_, _≤_, _<_}
 use mathlib.Core.Bool.{Bool, true, false, cond}
 use mathlib.Core.List.{List}
-use mathlib.Core.Path.{_≡_, refl}
+use mathlib.Core.Path.{_≡_, refl, subst⁻¹}
 use native.Mathlib.Omega.{arith}
 use borrow.Author.Tests.{ltb-true, ltb-false, eqb-true, eqb-false}
 use lib.Dec.{eqb}
@@ -10,9 +10,10 @@ use Rattle.bsp.specs.declared.Choice.{Choice}
 use Rattle.bsp.specs.declared.Choice.the-variants.{Right, Left}
 use Rattle.graph.specs.declared.Look.{Look}
 use Rattle.graph.specs.declared.Look.the-variants.{New, OnPath, Height}
-use Rattle.bsp.specs.Nodes.{subsectorBit, isNode, childOf}
+use Rattle.bsp.specs.Nodes.{nodesOf, subsectorBit, isNode, childOf}
+use Rattle.bsp.specs.Heights.{stands}
 use Rattle.graph.specs.Inner.Looks.{pathMark, markOf, markSays, lookAt, joined, lookBelow}
-use Rattle.graph.specs.Inner.Searching.{unmet, Tall, State}
+use Rattle.graph.specs.Inner.Searching.{unmet, Tall, Due, State}
 use Rattle.graph.proofs.Tall.{tall-end, tall-node}
 
 module _ (nodes : List ℕ) (count : ℕ) (words : List ℕ) (sp : ℕ) where
@@ -24,8 +25,8 @@ module _ (nodes : List ℕ) (count : ℕ) (words : List ℕ) (sp : ℕ) where
 
   -- what a look at both children of the node `i` says
   abbrev pub SaidBelow : ℕ → Look → Type 0
-  SaidBelow i (New v) = (c : Choice) × (v ≡ childOf nodes i c) × (v < count) × (markOf words v ≡ 0)
-  SaidBelow i OnPath = (c : Choice) × (childOf nodes i c < count) × (markOf words (childOf nodes i c) ≡ pathMark)
+  SaidBelow i (New v) = (c : Choice) × (v ≡ childOf nodes i c) × (v < count) × (markOf words v ≡ 0) × Due nodes i c
+  SaidBelow i OnPath = (c : Choice) × (childOf nodes i c < count) × (markOf words (childOf nodes i c) ≡ pathMark) × Due nodes i c
   SaidBelow i (Height h) =
       Tall nodes i (suc h) × (h + (unmet (markOf words) count + sp) ≤ count)
       × ((c : Choice) → childOf nodes i c < subsectorBit → markOf words (childOf nodes i c) ≡ 0 → ⊥)
@@ -55,12 +56,18 @@ module _ (nodes : List ℕ) (count : ℕ) (words : List ℕ) (sp : ℕ) where
     said : (w : ℕ) → (w < subsectorBit → w < count) → Said w (lookAt words w)
     said w r = said-by w r (isNode w) refl
 
-    module _ (i : ℕ) (node : i < subsectorBit) where
+    module _ (counted : nodesOf nodes ≡ count) (i : ℕ) (node : i < subsectorBit) where
+      due-right : Due nodes i Right
+      due-right e = let z : _≡_ {A = ℕ} 0 1 = cc in absurd (omega arith)
+
+      due-left : (a : ℕ) → Said (childOf nodes i Right) (Height a) → Due nodes i Left
+      due-left a (t, h, m) e = subst⁻¹ (λ (k : ℕ). stands nodes k (childOf nodes i Right) ≡ false) counted (t count (omega arith) .0)
+
       both-said : (r l : Look) → Said (childOf nodes i Right) r → Said (childOf nodes i Left) l → SaidBelow i (joined r l)
-      both-said (New v) l (is, h, e) q = (Right, is, rw is h, rw is e)
-      both-said OnPath l (h, e) q = (Right, h, e)
-      both-said (Height a) (New v) p (is, h, e) = (Left, is, rw is h, rw is e)
-      both-said (Height a) OnPath p (h, e) = (Left, h, e)
+      both-said (New v) l (is, h, e) q = (Right, is, rw is h, rw is e, due-right)
+      both-said OnPath l (h, e) q = (Right, h, e, due-right)
+      both-said (Height a) (New v) p (is, h, e) = (Left, is, rw is h, rw is e, due-left a p)
+      both-said (Height a) OnPath p (h, e) = (Left, h, e, due-left a p)
       both-said (Height a) (Height b) (t, h, m) (u, k, n) = (tall-node nodes i a b node t u, omega arith, by)
         where
           by : (c : Choice) → childOf nodes i c < subsectorBit → markOf words (childOf nodes i c) ≡ 0 → ⊥

@@ -2,25 +2,30 @@
 -- path, the path's end is taken off it with its height, a child on the path is a loop, and where the path is empty the
 -- root's mark is the depth. Assumes nothing.
 use Prim.Native.Nat.{ℕ, zero, suc, _+_, _-_, _≤_, _<_}
-use mathlib.Core.Bool.{true, false}
+use mathlib.Core.Bool.{Bool, true, false, cond}
 use mathlib.Core.List.{List, [], _∷_}
 use mathlib.Core.Logic.{_⊎_, ⊎-elim}
-use mathlib.Core.Path.{_≡_, refl, sym, ap, _∙_}
+use mathlib.Core.Path.{_≡_, refl, sym, ap, _∙_, subst, subst⁻¹}
 use native.Mathlib.Decide.{decLt}
 use native.Mathlib.Nat.{eq-or-lt-of-le}
 use native.Mathlib.Omega.{arith}
-use borrow.Author.Tests.{lt-ltb, ne-eqb}
+use borrow.Author.Tests.{lt-ltb, le-ltb, ltb-true, eq-eqb, ne-eqb, eqb-true}
 use lib.Dec.{eqb}
+use Rattle.refusal.proofs.Checks.{both}
 use Rattle.bsp.specs.declared.Choice.{Choice}
+use Rattle.bsp.specs.declared.Choice.the-variants.{Right, Left}
 use Rattle.bsp.specs.declared.Graph.{Graph}
 use Rattle.bsp.specs.Nodes.{nodesOf, subsectorBit, childOf, root}
 use Rattle.bsp.specs.Inner.{NodesInRange}
 use Rattle.bsp.specs.Routes.{Follow, Reached}
 use Rattle.bsp.proofs.Places.{reached-child}
-use Rattle.bsp.specs.Heights.{stands, graphVerdict}
-use Rattle.graph.specs.Inner.Searching.{unmet, Tall, Searching, Explored}
+use Rattle.bsp.specs.Heights.{stands, height, graphVerdict}
+use Rattle.graph.specs.Inner.Searching.{unmet, Tall, Due, Searching, LoopMet, Explored}
+use Rattle.graph.specs.Inner.Looks.{onPathOk, pathChoice, heightBy, heightChoice}
+use Rattle.graph.specs.Ways.{loopChoice, depthBelow, deepChoice, wordAfter}
+use Rattle.graph.proofs.Ways.{after-none, after-more, loop-right, loop-due}
 use Rattle.bsp.proofs.Nodes.{root-last}
-use Rattle.bsp.proofs.Heights.{stands-none, stands-node}
+use Rattle.bsp.proofs.Heights.{stands-none, stands-node, height-end, node-or-end}
 use Rattle.graph.proofs.Unmet.{same-or-not, unmet-all, unmet-same, unmet-less}
 use Rattle.bsp.proofs.Verdict.{looping, rootHeight, verdict-loop}
 
@@ -49,23 +54,108 @@ module _ (nodes : List ℕ) (count : ℕ) (least : 1 ≤ count) (most : count �
     node-on-path : (j : ℕ) → j < sp → path j < subsectorBit
     node-on-path j h = let l = s .inRange j h in omega arith
 
+    met : (j : ℕ) → j < sp → mark (path j) ≡ 0 → ⊥
+    met j h e = let m = s .marked j h in omega arith
+
     module _ (c : Choice) (l : childOf nodes (path (sp - 1)) c < count)
-        (e : mark (childOf nodes (path (sp - 1)) c) ≡ 65535) where
+        (e : mark (childOf nodes (path (sp - 1)) c) ≡ 65535) (due : Due nodes (path (sp - 1)) c) where
       loop-stands : (k j : ℕ) → j < sp → stands nodes k (path j) ≡ true
       loop-stands zero j h = stands-none nodes (path j) ∙ lt-ltb (path j) subsectorBit (node-on-path j h)
       loop-stands (suc k) j h = by (decLt (j + 1) sp) (λ i n. loop-stands k i n)
         where
           by : Dec (j + 1 < sp) → ((i : ℕ) → i < sp → stands nodes k (path i) ≡ true) → stands nodes (suc k) (path j) ≡ true
           by (yes n) before =
-              let (way, is) = s .linked j n in
+              let (way, is, d) = s .linked j n in
               stands-node nodes k (node-on-path j h) way (rw is at (before (j + 1) n))
           by (no n) before =
               let last : sp - 1 ≡ j = omega arith in
               let (i, m, is) = s .onPath (childOf nodes (path (sp - 1)) c) l e in
               stands-node nodes k (node-on-path j h) c (rw (is, last) at (before i m))
 
-      pub path-loop : 0 < sp → graphVerdict nodes ≡ Graph.HasLoop
-      path-loop h = loop-at-root (rw (s .first h) at (loop-stands count 0 h))
+      -- ---- the path is the way by the rule
+
+      stands-here : (j : ℕ) → j < sp → stands nodes (nodesOf nodes) (path j) ≡ true
+      stands-here j h = loop-stands (nodesOf nodes) j h
+
+      -- the choice at each node of the path, with the child that it leads to, which stands and is marked
+      abbrev Taken : ℕ → Type 0
+      Taken j =
+          (d : Choice) × (loopChoice nodes (path j) ≡ d) × (childOf nodes (path j) d < count) × (mark (childOf nodes (path j) d) ≡ 65535)
+          × ((i : ℕ) × (i < sp) × (path i ≡ childOf nodes (path j) d)) × (j + 1 < sp → path (j + 1) ≡ childOf nodes (path j) d)
+
+      taken : (j : ℕ) → j < sp → Taken j
+      taken j h = by (decLt (j + 1) sp)
+        where
+          by : Dec (j + 1 < sp) → Taken j
+          by (yes n) =
+              let (way, is, d) = s .linked j n in (
+                way,
+                loop-due nodes (path j) way d (rw is at (stands-here (j + 1) n)),
+                rw is at (s .inRange (j + 1) n),
+                rw is at (s .marked (j + 1) n),
+                (j + 1, n, is),
+                λ k. is,
+              )
+          by (no n) =
+              let last : sp - 1 ≡ j = omega arith in
+              let top = ap path last in
+              let (i, m, is) = s .onPath (childOf nodes (path (sp - 1)) c) l e in
+              let here : path i ≡ childOf nodes (path j) c = is ∙ ap (λ (w : ℕ). childOf nodes w c) top in (
+                c,
+                loop-due nodes (path j) c (subst (λ (w : ℕ). Due nodes w c) top due)
+                    (subst (λ (w : ℕ). stands nodes (nodesOf nodes) w ≡ true) here (stands-here i m)),
+                subst (λ (w : ℕ). childOf nodes w c < count) top l,
+                subst (λ (w : ℕ). mark (childOf nodes w c) ≡ 65535) top e,
+                (i, m, here),
+                λ k. absurd (n k),
+              )
+
+      after-path : (j : ℕ) → j < sp → wordAfter nodes (loopChoice nodes) j ≡ path j
+      after-path zero h = after-none nodes (loopChoice nodes) ∙ rw (counted, root-last count least) (sym (s .first h))
+      after-path (suc j) h =
+          let below : j < sp = omega arith in
+          let next : j + 1 ≡ suc j = omega arith in
+          let (d, is, m, on, at, then) = taken j below in
+          rw (after-more nodes (loopChoice nodes) j, after-path j below, is) (sym (subst (λ (k : ℕ). path k ≡ childOf nodes (path j) d) next (then (omega arith))))
+
+      after-end : (j : ℕ) → j < sp → (i : ℕ) × (i < sp) × (wordAfter nodes (loopChoice nodes) (suc j) ≡ wordAfter nodes (loopChoice nodes) i)
+      after-end j h =
+          let (d, is, m, on, (i, k, at), then) = taken j h in
+          (i, k, rw (after-more nodes (loopChoice nodes) j, after-path j h, after-path i k, is) (sym at))
+
+      -- a child that is marked as on the path stands
+      marked-stands : (w : ℕ) → (w < subsectorBit → w < count) → onPathOk mark w ≡ true → stands nodes (nodesOf nodes) w ≡ true
+      marked-stands w r t =
+          let (node, on) = both _ _ t in
+          let (i, k, at) = s .onPath w (r (ltb-true w subsectorBit node)) (eqb-true (mark w) 65535 on) in
+          rw at at (stands-here i k)
+
+      path-told : (j : ℕ) → j < sp → pathChoice nodes mark (path j) ≡ loopChoice nodes (path j)
+      path-told j h = let (d, is, m, on, at, then) = taken j h in by d is m on (onPathOk mark (childOf nodes (path j) Right)) refl
+        where
+          by : (d : Choice) → loopChoice nodes (path j) ≡ d → childOf nodes (path j) d < count → mark (childOf nodes (path j) d) ≡ 65535
+              → (b : Bool) → onPathOk mark (childOf nodes (path j) Right) ≡ b
+              → cond (onPathOk mark (childOf nodes (path j) Right)) Right Left ≡ loopChoice nodes (path j)
+          by d is m on true t =
+              rw t (sym (loop-right nodes (path j) (marked-stands (childOf nodes (path j) Right) (childInside (path j) (s .inRange j h) Right) t)))
+          by Right is m on false t =
+              let node : childOf nodes (path j) Right < subsectorBit = omega arith in
+              let z : onPathOk mark (childOf nodes (path j) Right) ≡ true = rw (lt-ltb _ subsectorBit node, eq-eqb _ 65535 on) in
+              let q : _≡_ {A = ℕ} 0 1 = cc in
+              absurd (omega arith)
+          by Left is m on false t = rw t (sym is)
+
+      pub path-loop : 0 < sp → LoopMet nodes mark sp
+      path-loop h =
+          record {
+            loops = loop-at-root (rw (s .first h) at (loop-stands count 0 h));
+            some = h;
+            few = (let r = s .room in rw counted (omega arith));
+            inRange = λ j k. rw (after-path j k, counted) (s .inRange j k);
+            apart = λ i j k m q. s .apart i j k m (sym (after-path i (omega arith)) ∙ q ∙ after-path j m);
+            back = (let last : suc (sp - 1) ≡ sp = omega arith in let k : sp - 1 < sp = omega arith in rw last at (after-end (sp - 1) k));
+            told = λ j k. rw (after-path j k) (path-told j k);
+          }
 
     -- ---- the path is empty
 
@@ -85,6 +175,26 @@ module _ (nodes : List ℕ) (count : ℕ) (least : 1 ≤ count) (most : count �
       root-met : root (nodesOf nodes) < subsectorBit → (root (nodesOf nodes) < count) × (mark (root (nodesOf nodes)) ≡ 0 → ⊥)
       root-met h = rw (counted, root-last count least) (omega arith, s .rootMet)
 
+      -- every mark is its node's height
+      height-told : (w : ℕ) → (w < subsectorBit → (w < count) × (mark w ≡ 0 → ⊥)) → heightBy mark w ≡ height nodes (nodesOf nodes) w
+      height-told w m =
+          ⊎-elim
+          (λ (h : w < subsectorBit).
+          let (l, n) = m h in
+          let low = s .low w l n (off-path w l) in
+          let is = s .tall w l n (off-path w l) count (omega arith) .1 in
+          rw (lt-ltb w subsectorBit h, counted) (sym is))
+          (λ (h : subsectorBit ≤ w). rw (le-ltb w subsectorBit h) (sym (height-end nodes (nodesOf nodes) h)))
+          (node-or-end w)
+
+      heights-told : (i : ℕ) → i < count → (mark i ≡ 0 → ⊥) → heightChoice nodes mark i ≡ deepChoice nodes i
+      heights-told i l n = rw (below Left, below Right)
+        where
+          below : (c : Choice) → heightBy mark (childOf nodes i c) ≡ depthBelow nodes i c
+          below c =
+              height-told (childOf nodes i c)
+              (λ (k : childOf nodes i c < subsectorBit). (childInside i l c k, s .closed i l n (off-path i l) c k))
+
       pub path-done : Explored nodes mark (mark (count - 1))
       path-done =
           let l : count - 1 < count = omega arith in
@@ -96,6 +206,7 @@ module _ (nodes : List ℕ) (count : ℕ) (least : 1 ≤ count) (most : count �
             high = high;
             known = λ i h n. s .known i (rw counted at h) n;
             every = λ i r h. rw counted (follow-met (r .choices) (root (nodesOf nodes)) i root-met (r .leads) h);
+            told = λ i r h. (let (l, n) = follow-met (r .choices) (root (nodesOf nodes)) i root-met (r .leads) h in heights-told i l n);
           }
 
     -- ---- a node that is put on the path
@@ -109,33 +220,44 @@ module _ (nodes : List ℕ) (count : ℕ) (least : 1 ≤ count) (most : count �
       kept : (i : ℕ) → i < count → (mark i ≡ 0 → ⊥) → mark′ i ≡ 0 → ⊥
       kept i h n e = n (sym (other i h (λ q. n (ap mark q ∙ new))) ∙ e)
 
-      push-linked : 0 < sp → (c : Choice) → v ≡ childOf nodes (path (sp - 1)) c → (j : ℕ) → j + 1 < sp + 1
-          → (c : Choice) × (path′ (j + 1) ≡ childOf nodes (path′ j) c)
-      push-linked some c is j h = by (decLt (j + 1) sp)
+      push-linked : 0 < sp → (c : Choice) → v ≡ childOf nodes (path (sp - 1)) c → Due nodes (path (sp - 1)) c → (j : ℕ)
+          → j + 1 < sp + 1 → (c : Choice) × (path′ (j + 1) ≡ childOf nodes (path′ j) c) × Due nodes (path′ j) c
+      push-linked some c is due j h = by (decLt (j + 1) sp)
         where
-          by : Dec (j + 1 < sp) → (c : Choice) × (path′ (j + 1) ≡ childOf nodes (path′ j) c)
+          by : Dec (j + 1 < sp) → (c : Choice) × (path′ (j + 1) ≡ childOf nodes (path′ j) c) × Due nodes (path′ j) c
           by (yes k) =
-              let (way, q) = s .linked j k in
-              (way, rw (below (j + 1) k, below j (omega arith)) q)
+              let (way, q, d) = s .linked j k in
+              let here = below j (omega arith) in
+              (way, rw (below (j + 1) k, here) q, subst⁻¹ (λ (w : ℕ). Due nodes w way) here d)
           by (no k) =
               let last : sp - 1 ≡ j = omega arith in
               let next : j + 1 ≡ sp = omega arith in
-              (c, rw (next, end, below j (omega arith)) (rw last at is))
+              let here = below j (omega arith) in
+              (c, rw (next, end, here) (rw last at is), subst⁻¹ (λ (w : ℕ). Due nodes w c) (here ∙ ap path (sym last)) due)
+
+      push-apart : (i j : ℕ) → i < j → j < sp + 1 → path′ i ≡ path′ j → ⊥
+      push-apart i j h k q =
+          ⊎-elim
+          (λ (e : j ≡ sp).
+          let m : i < sp = omega arith in
+          met i m (ap mark (sym (below i m) ∙ q ∙ ap path′ e ∙ end) ∙ new))
+          (λ (m : j < sp). s .apart i j h m (sym (below i (omega arith)) ∙ q ∙ below j m))
+          (end-or-below sp j k)
 
       push-known : 0 < sp → (c : Choice) → v ≡ childOf nodes (path (sp - 1)) c → (i : ℕ) → i < count → (mark′ i ≡ 0 → ⊥) → Reached nodes i
       push-known some c is i h n =
           ⊎-elim
           (λ (q : i ≡ v).
           let k : sp - 1 < sp = omega arith in
-          let top = s .known (path (sp - 1)) (s .inRange (sp - 1) k) (s .met (sp - 1) k) in
+          let top = s .known (path (sp - 1)) (s .inRange (sp - 1) k) (met (sp - 1) k) in
           rw (q, is) (reached-child nodes (path (sp - 1)) top (node-on-path (sp - 1) k) c))
           (λ (q : i ≡ v → ⊥). s .known i h (λ z. n (other i h q ∙ z)))
           (same-or-not i v)
 
       -- the state, and one node less that is not met
-      pub push : 0 < sp → (c : Choice) → v ≡ childOf nodes (path (sp - 1)) c
+      pub push : 0 < sp → (c : Choice) → v ≡ childOf nodes (path (sp - 1)) c → Due nodes (path (sp - 1)) c
           → Searching nodes count mark′ path′ (sp + 1) × (unmet mark count ≡ suc (unmet mark′ count))
-      push some c is = (
+      push some c is due = (
         record {
           room = (let e = push-less in let r = s .room in omega arith);
           rootMet = kept (count - 1) (omega arith) (s .rootMet);
@@ -146,13 +268,15 @@ module _ (nodes : List ℕ) (count : ℕ) (least : 1 ≤ count) (most : count �
               (λ (e : j ≡ sp). rw (e, end) l)
               (λ (k : j < sp). rw (below j k) (s .inRange j k))
               (end-or-below sp j h);
-          met =
+          marked =
               λ j h.
               ⊎-elim
-              (λ (e : j ≡ sp). rw (e, end, put) (λ z. omega arith))
-              (λ (k : j < sp). rw (below j k) (kept (path j) (s .inRange j k) (s .met j k)))
+              (λ (e : j ≡ sp). rw (e, end) put)
+              (λ (k : j < sp).
+              rw (below j k) (other (path j) (s .inRange j k) (λ q. met j k (ap mark q ∙ new)) ∙ s .marked j k))
               (end-or-below sp j h);
-          linked = push-linked some c is;
+          apart = push-apart;
+          linked = push-linked some c is due;
           known = push-known some c is;
           closed =
               λ i h n m d b e.
@@ -195,7 +319,7 @@ module _ (nodes : List ℕ) (count : ℕ) (least : 1 ≤ count) (most : count �
       met-same i l =
           ⊎-elim
           (λ (q : i ≡ path (sp - 1)).
-          rw (q, done, ne-eqb (mark (path (sp - 1))) 0 (s .met (sp - 1) last)) (ne-eqb (suc h) 0 (λ z. omega arith)))
+          rw (q, done, ne-eqb (mark (path (sp - 1))) 0 (met (sp - 1) last)) (ne-eqb (suc h) 0 (λ z. omega arith)))
           (λ (q : i ≡ path (sp - 1) → ⊥). ap (λ (m : ℕ). eqb m 0) (other i l q))
           (same-or-not i (path (sp - 1)))
 
@@ -217,16 +341,21 @@ module _ (nodes : List ℕ) (count : ℕ) (least : 1 ≤ count) (most : count �
           rootMet = still (count - 1) (omega arith) (s .rootMet);
           first = λ k. below 0 k ∙ s .first some;
           inRange = λ j k. rw (below j k) (s .inRange j (omega arith));
-          met = λ j k. rw (below j k) (still (path j) (s .inRange j (omega arith)) (s .met j (omega arith)));
+          marked =
+              λ j k.
+              let l : j < sp = omega arith in
+              rw (below j k) (other (path j) (s .inRange j l) (s .apart j (sp - 1) k last) ∙ s .marked j l);
+          apart = λ i j h k q. s .apart i j h (omega arith) (sym (below i (omega arith)) ∙ q ∙ below j k);
           linked =
               λ j k.
-              let (way, q) = s .linked j (omega arith) in
-              (way, rw (below (j + 1) k, below j (omega arith)) q);
+              let (way, q, d) = s .linked j (omega arith) in
+              let here = below j (omega arith) in
+              (way, rw (below (j + 1) k, here) q, subst⁻¹ (λ (w : ℕ). Due nodes w way) here d);
           onPath = finish-path;
           known =
               λ i l n.
               ⊎-elim
-              (λ (q : i ≡ path (sp - 1)). s .known i l (rw q (s .met (sp - 1) last)))
+              (λ (q : i ≡ path (sp - 1)). s .known i l (rw q (met (sp - 1) last)))
               (λ (q : i ≡ path (sp - 1) → ⊥). s .known i l (λ z. n (other i l q ∙ z)))
               (same-or-not i (path (sp - 1)));
           closed =
@@ -280,7 +409,8 @@ module _ (nodes : List ℕ) (count : ℕ) (least : 1 ≤ count) (most : count �
         rootMet = λ e. omega arith;
         first = λ h. at;
         inRange = λ j h. (let z : j ≡ 0 = omega arith in rw (z, at) l);
-        met = λ j h. (let z : j ≡ 0 = omega arith in rw (z, at, put) (λ e. omega arith));
+        marked = λ j h. (let z : j ≡ 0 = omega arith in rw (z, at) put);
+        apart = λ i j h k q. omega arith;
         linked = λ j h. absurd (omega arith);
         onPath = λ i h e. (0, omega arith, at ∙ sym (met-root i h (λ z. omega arith)));
         known = λ i h n. rw (met-root i h n) root-reached;

@@ -8,12 +8,10 @@ use native.Mathlib.Omega.{arith}
 use lib.ListN.{length, getD, set, drop, replicate, length-set, length-append, length-drop, length-replicate, getD-replicate, List·getD-append}
 use lib.Seq.{getD-set-same, getD-set-other, drop-at}
 use Rattle.bsp.specs.declared.Choice.{Choice}
-use Rattle.bsp.specs.declared.Graph.{Graph}
 use Rattle.bsp.specs.Nodes.{nodesOf, subsectorBit, childOf}
-use Rattle.bsp.specs.Heights.{graphVerdict}
 use Rattle.graph.specs.Judging.{cleared}
 use Rattle.graph.specs.Inner.Looks.{markOf, pathOf, lookBelow, LooksInside, pushed, begun}
-use Rattle.graph.specs.Inner.Searching.{unmet, Tall, Searchable, State, effort, Explored}
+use Rattle.graph.specs.Inner.Searching.{unmet, Tall, Due, Searchable, State, effort, LoopMet, Explored}
 use Rattle.graph.proofs.Searching.{path-loop, path-done, push, finish, start}
 use Rattle.graph.proofs.Unmet.{unmet-some}
 use Rattle.graph.proofs.Looks.{SaidBelow, said-below}
@@ -88,11 +86,13 @@ module _ (nodes : List ℕ) (count : ℕ) (words : List ℕ) (g : Searchable nod
     top-said =
         let l = top-below in
         let m = g .most in
-        said-below nodes count words sp s (pathOf words count (sp - 1)) (omega arith) child-below
+        said-below nodes count words sp s counted (pathOf words count (sp - 1)) (omega arith) child-below
 
     pub top-looped : (c : Choice) → childOf nodes (pathOf words count (sp - 1)) c < count
-        → markOf words (childOf nodes (pathOf words count (sp - 1)) c) ≡ 65535 → graphVerdict nodes ≡ Graph.HasLoop
-    top-looped c l e = path-loop nodes count (g .least) (g .most) counted (g .inRange) (markOf words) (pathOf words count) sp s c l e some
+        → markOf words (childOf nodes (pathOf words count (sp - 1)) c) ≡ 65535 → Due nodes (pathOf words count (sp - 1)) c
+        → LoopMet nodes (markOf words) sp
+    top-looped c l e due =
+        path-loop nodes count (g .least) (g .most) counted (g .inRange) (markOf words) (pathOf words count) sp s c l e due some
 
     -- ---- a node that is put on the path
 
@@ -104,10 +104,10 @@ module _ (nodes : List ℕ) (count : ℕ) (words : List ℕ) (g : Searchable nod
           let e = g .enough in
           omega arith
 
-      pub state-push : (c : Choice) → v ≡ childOf nodes (pathOf words count (sp - 1)) c
+      pub state-push : (c : Choice) → v ≡ childOf nodes (pathOf words count (sp - 1)) c → Due nodes (pathOf words count (sp - 1)) c
           → State nodes count (pushed words count sp v) (sp + 1)
           × (effort (pushed words count sp v) count (sp + 1) < effort words count sp)
-      state-push c is =
+      state-push c is due =
           let put = pushed-put words count sp v l push-fits in
           let other = pushed-other words count sp v l push-fits in
           let below = pushed-below words count sp v l push-fits in
@@ -115,7 +115,7 @@ module _ (nodes : List ℕ) (count : ℕ) (words : List ℕ) (g : Searchable nod
           let (state, less) =
           push nodes count (g .least) (g .most) counted (g .inRange) (markOf words) (pathOf words count) sp s
           (markOf (pushed words count sp v)) (pathOf (pushed words count sp v) count)
-          v l new put other below end some c is in
+          v l new put other below end some c is due in
           (state, omega arith)
 
     -- ---- the path's end, done

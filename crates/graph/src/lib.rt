@@ -34,7 +34,8 @@ pub enum Step {
 
 // What the search finds.
 pub enum Search {
-    Looping,
+    // a loop, and how many choices lead into it
+    Looping(usize),
     // no loop, and the depth
     Done(usize),
 }
@@ -70,13 +71,13 @@ fn graph_of(nodes: &[u8], count: usize, words: &mut [u16]) -> Graph
     ensures { λ r. ⌜ r ≡ graphVerdict (now (nodes .entry)) ⌝ }
 {
     match explore(nodes, count, words) {
-        Search::Looping => Graph::HasLoop,
+        Search::Looping(_) => Graph::HasLoop,
         Search::Done(depth) => shared_or_deep(nodes, count, words, depth),
     }
 }
 
 // Without a loop: a child that two ways lead to, or the depth. The marked nodes are the reached ones.
-fn shared_or_deep(nodes: &[u8], count: usize, words: &[u16], depth: usize) -> Graph
+pub fn shared_or_deep(nodes: &[u8], count: usize, words: &[u16], depth: usize) -> Graph
     requires { ⌜ Searchable (now nodes) count (now words) × Explored (now nodes) (markOf (now words)) depth ⌝ }
     ensures { λ r. ⌜ r ≡ graphVerdict (now (nodes .entry)) ⌝ }
 {
@@ -86,8 +87,8 @@ fn shared_or_deep(nodes: &[u8], count: usize, words: &[u16], depth: usize) -> Gr
     Graph::HasDepth(depth)
 }
 
-// The whole search.
-fn explore(nodes: &[u8], count: usize, words: &mut [u16]) -> Search
+// The whole search. The marks tell the way into the loop, or the heights.
+pub fn explore(nodes: &[u8], count: usize, words: &mut [u16]) -> Search
     requires { ⌜ Searchable (now nodes) count (now words) ⌝ }
     ensures { λ r. ⌜ Searched (now (nodes .entry)) (now (words .exit)) r ⌝ }
 {
@@ -95,7 +96,7 @@ fn explore(nodes: &[u8], count: usize, words: &mut [u16]) -> Search
     let mut sp = 1;
     while 0 < sp {
         match take_step(nodes, count, words, sp) {
-            Step::Looped => return Search::Looping,
+            Step::Looped => return Search::Looping(sp),
             Step::Path(next) => sp = next,
         }
     }

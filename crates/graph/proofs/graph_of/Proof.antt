@@ -22,7 +22,7 @@ shared-or-deep-requires c κs =
 
 returns : tie.Need-returns
 returns c =
-    let t = c .before .before .before .before in sym (subst (Answer t) (c .enum-told .given .1) (t .explore .ensures))
+    let t = c .before .before .before .before in sym (subst (Answer t) (c .enum-told .given .1) (t .explore .ensures) .loops)
 
 pub graph-of-spec : {M : Type 1} → statement M
 graph-of-spec =

@@ -47,20 +47,20 @@ said-height c =
 push-requires : tie.Need-push-requires
 push-requires c κs =
     let e = c .before .before .before .before .before .before .before .before .before in
-    let (way, is, l, new) = said-new (c .before .before) in
+    let (way, is, l, new, due) = said-new (c .before .before) in
     (l, push-fits _ _ _ (e .pre .0) _ (e .pre .1) (e .pre .2) _ l new, e .pre .0 .most)
 
 returns : tie.Need-returns
 returns c =
     let e = c .before .before .before .before .before .before .before .before .before .before .before .before in
-    let (way, is, l, new) = said-new (c .before .before .before .before .before) in
-    rw (c .before .before .push .ensures) (state-push _ _ _ (e .pre .0) _ (e .pre .1) (e .pre .2) _ l new way is)
+    let (way, is, l, new, due) = said-new (c .before .before .before .before .before) in
+    rw (c .before .before .push .ensures) (state-push _ _ _ (e .pre .0) _ (e .pre .1) (e .pre .2) _ l new way is due)
 
 returns-2 : tie.Need-returns-2
 returns-2 c =
     let e = c .before .before .before .before .before .before .before in
-    let (way, l, on) = subst (Said e) (c .enum-told .given .1) (said (c .before .before)) in
-    top-looped _ _ _ (e .pre .0) _ (e .pre .1) (e .pre .2) way l on
+    let (way, l, on, due) = subst (Said e) (c .enum-told .given .1) (said (c .before .before)) in
+    top-looped _ _ _ (e .pre .0) _ (e .pre .1) (e .pre .2) way l on due
 
 add-words : tie.Need-add-words
 add-words c =

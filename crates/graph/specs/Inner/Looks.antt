@@ -2,9 +2,9 @@
 -- the nodes: 0 not met yet, 65535 on the path, else the node's height. The next `count` words hold the path, the root first.
 -- Assumes nothing.
 use Prim.Native.Nat.{ℕ, max, _+_, _-_, _*_, _≤_, _<_}
-use mathlib.Core.Bool.{cond}
+use mathlib.Core.Bool.{Bool, _&&_, cond}
 use mathlib.Core.List.{List}
-use lib.Dec.{eqb}
+use lib.Dec.{eqb, leb}
 use lib.ListN.{length, getD, set}
 use Rattle.built.specs.Nodes.{nodeSize}
 use Rattle.bsp.specs.declared.Choice.{Choice}
@@ -58,3 +58,19 @@ pushed words count sp node = set (set words node pathMark) (count + sp) node
 -- the words at the beginning: no node is met but the root, which is the path
 abbrev pub begun : List ℕ → ℕ → List ℕ
 begun words count = pushed (cleared words count) count 0 (count - 1)
+
+-- the child `w` is marked as on the path
+abbrev pub onPathOk : (ℕ → ℕ) → ℕ → Bool
+onPathOk mark w = isNode w && eqb (mark w) pathMark
+
+-- by the marks after a loop was met: right where the right child is on the path
+abbrev pub pathChoice : List ℕ → (ℕ → ℕ) → ℕ → Choice
+pathChoice nodes mark w = cond (onPathOk mark (childOf nodes w Right)) Right Left
+
+-- the height of the child `w` by the marks of nodes that are done
+abbrev pub heightBy : (ℕ → ℕ) → ℕ → ℕ
+heightBy mark w = cond (isNode w) (mark w) 0
+
+-- by the marks of nodes that are done: right where the right child is as high
+abbrev pub heightChoice : List ℕ → (ℕ → ℕ) → ℕ → Choice
+heightChoice nodes mark w = cond (leb (heightBy mark (childOf nodes w Left)) (heightBy mark (childOf nodes w Right))) Right Left

@@ -6,6 +6,7 @@ use mathlib.Core.Path.{_≡_}
 use lib.Dec.{eqb}
 use lib.ListN.{length}
 use Rattle.bsp.specs.declared.Choice.{Choice}
+use Rattle.bsp.specs.declared.Choice.the-variants.{Right, Left}
 use Rattle.bsp.specs.declared.Graph.{Graph}
 use Rattle.graph.specs.declared.Step.{Step}
 use Rattle.graph.specs.declared.Step.the-variants.{Looped, Path}
@@ -16,7 +17,8 @@ use Rattle.bsp.specs.Nodes.{nodesOf, subsectorBit, childOf, root}
 use Rattle.bsp.specs.Routes.{Reached}
 use Rattle.bsp.specs.Inner.{NodesInRange}
 use Rattle.bsp.specs.Heights.{stands, height, graphVerdict}
-use Rattle.graph.specs.Inner.Looks.{pathMark, markOf, pathOf}
+use Rattle.graph.specs.Ways.{loopChoice, deepChoice, wordAfter}
+use Rattle.graph.specs.Inner.Looks.{pathMark, markOf, pathOf, pathChoice, heightChoice}
 
 -- how many of the first `n` marks are 0
 unfoldable pub unmet : (ℕ → ℕ) → ℕ → ℕ
@@ -27,6 +29,10 @@ unmet mark (suc n) = cond (eqb (mark n) 0) (suc (unmet mark n)) (unmet mark n)
 abbrev pub Tall : List ℕ → ℕ → ℕ → Type 0
 Tall nodes w h = (k : ℕ) → h ≤ k → (stands nodes k w ≡ false) × (height nodes k w ≡ h)
 
+-- the search goes left at node `w` only where no loop can be reached through the right child
+abbrev pub Due : List ℕ → ℕ → Choice → Type 0
+Due nodes w c = c ≡ Left → stands nodes (nodesOf nodes) (childOf nodes w Right) ≡ false
+
 -- the marks and the path of `sp` nodes, between two steps
 pub record Searching (nodes : List ℕ) (count : ℕ) (mark path : ℕ → ℕ) (sp : ℕ) : Type 0 where
   -- there is room on the path for every node not met yet
@@ -34,10 +40,11 @@ pub record Searching (nodes : List ℕ) (count : ℕ) (mark path : ℕ → ℕ) 
   -- the root was met, and begins the path
   pub rootMet : mark (count - 1) ≡ 0 → ⊥
   pub first : 0 < sp → path 0 ≡ count - 1
-  -- the path is of nodes that were met, each a child of the one before
+  -- the path is of different nodes that are marked so, each the child of the one before that is due
   pub inRange : (j : ℕ) → j < sp → path j < count
-  pub met : (j : ℕ) → j < sp → mark (path j) ≡ 0 → ⊥
-  pub linked : (j : ℕ) → j + 1 < sp → (c : Choice) × (path (j + 1) ≡ childOf nodes (path j) c)
+  pub marked : (j : ℕ) → j < sp → mark (path j) ≡ pathMark
+  pub apart : (i j : ℕ) → i < j → j < sp → path i ≡ path j → ⊥
+  pub linked : (j : ℕ) → j + 1 < sp → (c : Choice) × (path (j + 1) ≡ childOf nodes (path j) c) × Due nodes (path j) c
   -- a node marked as on the path is there
   pub onPath : (i : ℕ) → i < count → mark i ≡ pathMark → (j : ℕ) × (j < sp) × (path j ≡ i)
   -- a node that was met is reached
@@ -65,20 +72,34 @@ State nodes count words sp = Searching nodes count (markOf words) (pathOf words 
 abbrev pub effort : List ℕ → ℕ → ℕ → ℕ
 effort words count sp = unmet (markOf words) count + unmet (markOf words) count + sp
 
+-- what the search knows where it meets a loop: the first `n` choices by the rule are at different nodes, the last of them leads
+-- to one of these again, and the marks tell each
+pub record LoopMet (nodes : List ℕ) (mark : ℕ → ℕ) (n : ℕ) : Type 0 where
+  pub loops : graphVerdict nodes ≡ Graph.HasLoop
+  pub some : 0 < n
+  pub few : n ≤ nodesOf nodes
+  pub inRange : (j : ℕ) → j < n → wordAfter nodes (loopChoice nodes) j < nodesOf nodes
+  pub apart : (i j : ℕ) → i < j → j < n → wordAfter nodes (loopChoice nodes) i ≡ wordAfter nodes (loopChoice nodes) j → ⊥
+  pub back : (i : ℕ) × (i < n) × (wordAfter nodes (loopChoice nodes) n ≡ wordAfter nodes (loopChoice nodes) i)
+  pub told : (j : ℕ) → j < n
+      → pathChoice nodes mark (wordAfter nodes (loopChoice nodes) j) ≡ loopChoice nodes (wordAfter nodes (loopChoice nodes) j)
+
 -- what a step from `before` to `after` answers
 abbrev pub Stepped : List ℕ → ℕ → List ℕ → ℕ → List ℕ → Step → Type 0
-Stepped nodes count before sp after Looped = graphVerdict nodes ≡ Graph.HasLoop
+Stepped nodes count before sp after Looped = LoopMet nodes (markOf after) sp
 Stepped nodes count before sp after (Path next) =
     State nodes count after next × (effort after count next < effort before count sp)
 
--- what the search knows at its end: there is no loop, the depth, and that the marked nodes are the reached ones
+-- what the search knows at its end: there is no loop, the depth, that the marked nodes are the reached ones, and that each
+-- mark is its node's height
 pub record Explored (nodes : List ℕ) (mark : ℕ → ℕ) (depth : ℕ) : Type 0 where
   pub straight : stands nodes (nodesOf nodes) (root (nodesOf nodes)) ≡ false
   pub high : height nodes (nodesOf nodes) (root (nodesOf nodes)) ≡ depth
   pub known : (i : ℕ) → i < nodesOf nodes → (mark i ≡ 0 → ⊥) → Reached nodes i
   pub every : (i : ℕ) → Reached nodes i → i < subsectorBit → (i < nodesOf nodes) × (mark i ≡ 0 → ⊥)
+  pub told : (i : ℕ) → Reached nodes i → i < subsectorBit → heightChoice nodes mark i ≡ deepChoice nodes i
 
 -- what the search answers, with the words that it leaves
 abbrev pub Searched : List ℕ → List ℕ → Search → Type 0
-Searched nodes after Looping = graphVerdict nodes ≡ Graph.HasLoop
+Searched nodes after (Looping n) = LoopMet nodes (markOf after) n
 Searched nodes after (Done depth) = Explored nodes (markOf after) depth
