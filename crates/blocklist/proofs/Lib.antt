@@ -1,0 +1,4 @@
+-- The laws of BLOCKMAP's fields. Assumes nothing.
+
+pub mod Fields
+pub mod Reasons

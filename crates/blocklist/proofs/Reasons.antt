@@ -1,0 +1,2 @@
+-- TEMP
+use Prim.Native.Nat.{ℕ}
