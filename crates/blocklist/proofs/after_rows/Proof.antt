@@ -12,7 +12,7 @@ use lib.ListN.{length}
 use Rattle.range.specs.declared.Field.{Field}
 use Rattle.range.specs.Fields.{firstOut}
 use Rattle.range.proofs.Fields.{firstOut-none}
-use Rattle.blockmap.specs.Blockmap.{wordsOf, cellsOf}
+use Rattle.blockmap.specs.Blockmap.{cellsOf}
 use Rattle.blocklist.specs.Fields.{sizeField, cellFields, fieldsIfCell}
 use Rattle.blocklist.proofs.Fields.{first-stops, first-goes, bounds}
 use Rattle.blocklist.proofs.after_rows.Statement.{statement}

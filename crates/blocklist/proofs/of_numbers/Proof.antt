@@ -1,6 +1,6 @@
 -- `blocklist::of_numbers` meets its contract: what is first out among the words from `at` on is so among all. The measure is
 -- what is left of the words. Assumes nothing.
-use Prim.Native.Nat.{ℕ, suc, _+_, _-_, _≤_}
+use Prim.Native.Nat.{ℕ, suc, _-_, _≤_}
 use mathlib.Core.Path.{_≡_, refl, sym, ap, _∙_}
 use native.Mathlib.Numerals.{add-one}
 use borrow.Author.Needs.{needs}

@@ -1,15 +1,13 @@
 -- `blocklist::offending` meets its contract: size, columns and rows in turn, then the rest. Assumes nothing.
-use Prim.Native.Nat.{ℕ, _+_, _*_, _≤_}
+use Prim.Native.Nat.{ℕ, _*_, _≤_}
 use mathlib.Core.List.{List, _∷_, _++_}
-use mathlib.Core.Path.{_≡_, sym, ap, _∙_}
+use mathlib.Core.Path.{ap}
 use native.Mathlib.Nat.{mul-le-mul}
 use native.Mathlib.Omega.{arith}
 use borrow.Author.Needs.{needs}
 use denote.Ref.{now}
 use lib.ListN.{length}
 use Rattle.range.specs.declared.Field.{Field}
-use Rattle.range.specs.Fields.{firstOut}
-use Rattle.blockmap.specs.Blockmap.{wordAt}
 use Rattle.blocklist.specs.Fields.{mostBytes, wordField, lengthFields, fieldsIfCell}
 use Rattle.blocklist.proofs.Fields.{first-stops, first-goes, bounds}
 use Rattle.blocklist.proofs.offending.Statement.{statement}
