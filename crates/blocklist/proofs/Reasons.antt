@@ -5,21 +5,23 @@ use mathlib.Core.Bool.{Bool, true, false, _&&_, cond, and-false, and-eq-true-iff
 use mathlib.Core.List.{List, [], _∷_, _++_}
 use mathlib.Core.Logic.{_⊎_, inl, inr}
 use mathlib.Core.Path.{_≡_, refl, sym, ap, subst, _∙_}
+use native.Mathlib.Nat.{mul-le-mul}
 use native.Mathlib.Omega.{arith}
 use borrow.Author.Tests.{leb-true, ltb-true, lt-ltb}
 use lib.Dec.{leb, ltb, eqb}
 use lib.ListN.{length}
+use Rattle.endian.specs.Unsigned.{Bytes}
 use Rattle.refusal.specs.declared.Check.{Check}
 use Rattle.refusal.specs.declared.Check.the-variants.{Pass, Refused}
 use Rattle.refusal.specs.declared.Refusal.the-variants.{Blockmap}
 use Rattle.refusal.specs.Checks.{unless, _andThen_, each}
 use Rattle.refusal.specs.Table.{recordOf}
 use Rattle.range.specs.declared.Field.{Field}
-use Rattle.range.specs.Fields.{inRange, allIn, firstOut, noField}
+use Rattle.range.specs.Fields.{inRange, allIn, firstOut, noField, FieldFits}
 use Rattle.range.proofs.Fields.{firstOut-none, firstOut-more, allIn-none, allIn-more, first-out}
 use Rattle.blockmap.specs.Blockmap.{wordsOf, wordAt, cellsOf, headerOk, listEnd, listOk, cellCheck}
 use Rattle.blockmap.proofs.Lists.{header-long}
-use Rattle.blocklist.specs.Fields.{mostBytes, sizeField, wordField, lengthFields, headerFields, numberFields, listFields, cellFields, fieldsIfCell, blockmapFields}
+use Rattle.blocklist.specs.Fields.{mostBytes, FitsIf, sizeField, wordField, lengthFields, headerFields, numberFields, listFields, cellFields, fieldsIfCell, blockmapFields}
 use Rattle.blocklist.specs.Reasons.{SizeTold, WordTold, BlockmapReasoned}
 use Rattle.blocklist.proofs.Fields.{header-fields, cell-fields}
 
@@ -79,88 +81,115 @@ module _ (lump : List ℕ) (linedefs i : ℕ) (small : length lump ≤ mostBytes
       ∙ ap (λ (b : Bool). allIn (headerFields lump) && b) (there ∙ cell-fields lump linedefs some i (cell-long h) ∙ bad .1)
       ∙ and-false (allIn (headerFields lump))
 
--- ---- the first out of its range holds what stands there
+-- ---- what holds of the size and of each word inside the lump holds of the first field out of its range
 
+low : (f : Field) → inRange f ≡ true → f .least ≤ f .number
+low f e = leb-true (f .least) (f .number) (and-eq-true-iff (leb (f .least) (f .number)) (leb (f .number) (f .most)) .0 e .0)
+
+high : (f : Field) → inRange f ≡ true → f .number ≤ f .most
+high f e = leb-true (f .number) (f .most) (and-eq-true-iff (leb (f .least) (f .number)) (leb (f .number) (f .most)) .0 e .1)
+
+module _ (P : Field → Type 0) (none : P noField) (lump : List ℕ) (linedefs : ℕ) (small : length lump ≤ mostBytes)
+    (size : (least : ℕ) → least ≤ 33554432 → P (sizeField lump least))
+    (word : (k least most : ℕ) → k < wordsOf lump → least ≤ 33554432 → most ≤ 33554432 → P (wordField lump k least most))
+    (number : (k : ℕ) → k < wordsOf lump → P (wordField lump k 0 (linedefs - 1))) where
+  of-none : P (firstOut [])
+  of-none = subst P (sym firstOut-none) none
+
+  -- one more field in front
+  of-more : (f : Field) (fs : List Field) → P f → (inRange f ≡ true → P (firstOut fs)) → P (firstOut (f ∷ fs))
+  of-more f fs here later = subst P (sym (firstOut-more f fs)) (either (inRange f) refl)
+    where
+      either : (b : Bool) → inRange f ≡ b → P (cond b (firstOut fs) f)
+      either true e = later e
+      either false e = here
+
+  -- up to the mark
+  of-before : (b : Bool) (fs : List Field) → P (firstOut fs) → P (firstOut (cond b [] fs))
+  of-before true fs t = of-none
+  of-before false fs t = t
+
+  of-numbers : (left : ℕ) → left ≤ wordsOf lump → P (firstOut (numberFields lump linedefs left))
+  unfolding numberFields
+  of-numbers zero h = of-more (sizeField lump (length lump + 2)) [] (size (length lump + 2) (omega arith)) (λ _. of-none)
+  of-numbers (suc left) h =
+      let at = wordsOf lump - suc left in
+      let f = wordField lump at 0 (linedefs - 1) in
+      of-before (eqb (wordAt lump at) listEnd) (f ∷ numberFields lump linedefs left)
+      (of-more f (numberFields lump linedefs left) (number at (omega arith)) (λ _. of-numbers left (omega arith)))
+
+  of-cell : (i : ℕ) → 4 + i < wordsOf lump → 4 + cellsOf lump ≤ wordsOf lump → P (firstOut (cellFields lump linedefs i))
+  of-cell i h room =
+      let offset = wordAt lump (4 + i) in
+      let f = wordField lump (4 + i) (4 + cellsOf lump) (wordsOf lump - 1) in
+      of-more f (listFields lump linedefs offset) (word (4 + i) (4 + cellsOf lump) (wordsOf lump - 1) h (omega arith) (omega arith))
+      (λ (e : inRange f ≡ true).
+      let most : offset ≤ wordsOf lump - 1 = high f e in
+      of-more (wordField lump offset 0 0) (numberFields lump linedefs (wordsOf lump - (offset + 1)))
+      (word offset 0 0 (omega arith) (omega arith) (omega arith))
+      (λ _. of-numbers (wordsOf lump - (offset + 1)) (omega arith)))
+
+  of-if-cell : (i : ℕ) → 8 + 2 * cellsOf lump ≤ length lump → P (firstOut (fieldsIfCell lump linedefs i))
+  of-if-cell i h = by (ltb i (cellsOf lump)) refl
+    where
+      by : (b : Bool) → ltb i (cellsOf lump) ≡ b → P (firstOut (cond b (cellFields lump linedefs i) []))
+      by true e = let l = ltb-true i (cellsOf lump) e in of-cell i (omega arith) (omega arith)
+      by false e = of-none
+
+  of-lengths : (i : ℕ) → cellsOf lump ≤ 512 * 512 → P (firstOut (lengthFields lump ++ fieldsIfCell lump linedefs i))
+  of-lengths i few =
+      let even = length lump + length lump % 2 in
+      let need = sizeField lump (8 + 2 * cellsOf lump) in
+      of-more need (sizeField lump even ∷ fieldsIfCell lump linedefs i) (size (8 + 2 * cellsOf lump) (omega arith))
+      (λ (q : inRange need ≡ true).
+      of-more (sizeField lump even) (fieldsIfCell lump linedefs i) (size even (omega arith)) (λ _. of-if-cell i (low need q)))
+
+  of-blockmap : (i : ℕ) → P (firstOut (blockmapFields lump linedefs i))
+  of-blockmap i =
+      let columns = wordField lump 2 1 512 in
+      let rows = wordField lump 3 1 512 in
+      let rest = lengthFields lump ++ fieldsIfCell lump linedefs i in
+      of-more (sizeField lump 8) (columns ∷ rows ∷ rest) (size 8 (omega arith))
+      (λ (e : inRange (sizeField lump 8) ≡ true).
+      let long : 8 ≤ length lump = low (sizeField lump 8) e in
+      of-more columns (rows ∷ rest) (word 2 1 512 (omega arith) (omega arith) (omega arith))
+      (λ (c : inRange columns ≡ true).
+      of-more rows rest (word 3 1 512 (omega arith) (omega arith) (omega arith))
+      (λ (r : inRange rows ≡ true). of-lengths i (mul-le-mul (high columns c) (high rows r)))))
+
+-- it holds what stands there
 module _ (lump : List ℕ) (linedefs : ℕ) where
   abbrev Told : Field → Type 0
   Told f = inRange f ≡ false → SizeTold lump f ⊎ WordTold lump f
 
-  told-size : (least : ℕ) → Told (sizeField lump least)
-  told-size least _ = inl (record { offset = refl; size = refl })
-
   told-word : (k least most : ℕ) → k < wordsOf lump → Told (wordField lump k least most)
   told-word k least most h _ = inr (record { inside = omega arith; word = refl })
 
-  told-none : Told (firstOut [])
-  told-none = subst Told (sym firstOut-none) (λ (e : inRange noField ≡ false). absurd (true≢false e))
+  told : (i : ℕ) → length lump ≤ mostBytes → Told (firstOut (blockmapFields lump linedefs i))
+  told i small =
+      of-blockmap Told (λ (e : inRange noField ≡ false). absurd (true≢false e)) lump linedefs small
+      (λ least _ _. inl (record { offset = refl; size = refl })) (λ k least most h _ _. told-word k least most h)
+      (λ k h. told-word k 0 (linedefs - 1) h) i
 
-  -- one more field in front
-  told-more : (f : Field) (fs : List Field) → Told f → (inRange f ≡ true → Told (firstOut fs)) → Told (firstOut (f ∷ fs))
-  told-more f fs here later = subst Told (sym (firstOut-more f fs)) (either (inRange f) refl)
-    where
-      either : (b : Bool) → inRange f ≡ b → Told (cond b (firstOut fs) f)
-      either true e = later e
-      either false e = here
-
-  low : (f : Field) → inRange f ≡ true → f .least ≤ f .number
-  low f e = leb-true (f .least) (f .number) (and-eq-true-iff (leb (f .least) (f .number)) (leb (f .number) (f .most)) .0 e .0)
-
-  high : (f : Field) → inRange f ≡ true → f .number ≤ f .most
-  high f e = leb-true (f .number) (f .most) (and-eq-true-iff (leb (f .least) (f .number)) (leb (f .number) (f .most)) .0 e .1)
-
-  -- up to the mark
-  told-before : (b : Bool) (fs : List Field) → Told (firstOut fs) → Told (firstOut (cond b [] fs))
-  told-before true fs t = told-none
-  told-before false fs t = t
-
-  told-numbers : (left : ℕ) → left ≤ wordsOf lump → Told (firstOut (numberFields lump linedefs left))
-  unfolding numberFields
-  told-numbers zero h = told-more (sizeField lump (length lump + 2)) [] (told-size (length lump + 2)) (λ _. told-none)
-  told-numbers (suc left) h =
-      let at = wordsOf lump - suc left in
-      let f = wordField lump at 0 (linedefs - 1) in
-      told-before (eqb (wordAt lump at) listEnd) (f ∷ numberFields lump linedefs left)
-      (told-more f (numberFields lump linedefs left) (told-word at 0 (linedefs - 1) (omega arith)) (λ _. told-numbers left (omega arith)))
-
-  told-cell : (i : ℕ) → 4 + i < wordsOf lump → Told (firstOut (cellFields lump linedefs i))
-  told-cell i h =
-      let offset = wordAt lump (4 + i) in
-      let f = wordField lump (4 + i) (4 + cellsOf lump) (wordsOf lump - 1) in
-      let rest = numberFields lump linedefs (wordsOf lump - (offset + 1)) in
-      told-more f (listFields lump linedefs offset) (told-word (4 + i) (4 + cellsOf lump) (wordsOf lump - 1) h)
-      (λ (e : inRange f ≡ true).
-      let most : offset ≤ wordsOf lump - 1 = high f e in
-      told-more (wordField lump offset 0 0) rest (told-word offset 0 0 (omega arith))
-      (λ _. told-numbers (wordsOf lump - (offset + 1)) (omega arith)))
-
-  told-if-cell : (i : ℕ) → 8 + 2 * cellsOf lump ≤ length lump → Told (firstOut (fieldsIfCell lump linedefs i))
-  told-if-cell i h = by (ltb i (cellsOf lump)) refl
-    where
-      by : (b : Bool) → ltb i (cellsOf lump) ≡ b → Told (firstOut (cond b (cellFields lump linedefs i) []))
-      by true e = let l = ltb-true i (cellsOf lump) e in told-cell i (omega arith)
-      by false e = told-none
-
-  told : (i : ℕ) → Told (firstOut (blockmapFields lump linedefs i))
-  told i =
-      let cell = fieldsIfCell lump linedefs i in
-      let n = length lump in
-      let need = 8 + 2 * cellsOf lump in
-      told-more (sizeField lump 8) (wordField lump 2 1 512 ∷ wordField lump 3 1 512 ∷ lengthFields lump ++ cell) (told-size 8)
-      (λ (e : inRange (sizeField lump 8) ≡ true).
-      let long : 8 ≤ n = low (sizeField lump 8) e in
-      told-more (wordField lump 2 1 512) (wordField lump 3 1 512 ∷ lengthFields lump ++ cell) (told-word 2 1 512 (omega arith))
-      (λ _. told-more (wordField lump 3 1 512) (lengthFields lump ++ cell) (told-word 3 1 512 (omega arith))
-      (λ _. told-more (sizeField lump need) (sizeField lump (n + n % 2) ∷ cell) (told-size need)
-      (λ (q : inRange (sizeField lump need) ≡ true).
-      told-more (sizeField lump (n + n % 2)) cell (told-size (n + n % 2)) (λ _. told-if-cell i (low (sizeField lump need) q))))))
+-- its numbers fit 32 bits
+pub fields-fit : (lump : List ℕ) (linedefs i : ℕ) → Bytes lump → FitsIf lump linedefs (firstOut (blockmapFields lump linedefs i))
+fields-fit lump linedefs i bytes small few =
+    of-blockmap FieldFits (record { offset = omega arith; number = omega arith; least = omega arith; most = omega arith }) lump linedefs small
+    (λ least h. record { offset = omega arith; number = omega arith; least = omega arith; most = omega arith })
+    word (λ k h. word k 0 (linedefs - 1) h (omega arith) (omega arith)) i
+  where
+    word : (k least most : ℕ) → k < wordsOf lump → least ≤ 33554432 → most ≤ 33554432 → FieldFits (wordField lump k least most)
+    word k least most h l m =
+        let a = bytes (2 * k) in
+        let b = bytes (2 * k + 1) in
+        record { offset = omega arith; number = omega arith; least = omega arith; most = omega arith }
 
 pub blockmap-reasoned : BlockmapReasoned
 blockmap-reasoned =
     record {
       header = λ lump small. sym (header-fields lump small);
-      cell = λ lump linedefs i some good.
-          let h = header-long lump good in sym (cell-fields lump linedefs some i (omega arith));
+      cell = λ lump linedefs i some good. let h = header-long lump good in sym (cell-fields lump linedefs some i (omega arith));
       refused = λ lump linedefs i small some e.
-          let first = first-out (blockmapFields lump linedefs i) (not-all lump linedefs i small some (headerOk lump) refl e) in
-          record { first = first; holds = told lump linedefs i (first .out) };
+        let first = first-out (blockmapFields lump linedefs i) (not-all lump linedefs i small some (headerOk lump) refl e) in
+        record { first = first; holds = told lump linedefs i small (first .out) };
     }

@@ -1,12 +1,12 @@
 -- What 01 allows in BLOCKMAP, field by field, in the order in which 28 looks at them (02, W-211): the header's size, columns and rows, then a cell's
 -- offset and its list. Where the lump's size itself is at fault the field is the size, in bytes, at offset 0. Assumes nothing.
-use Prim.Native.Nat.{ℕ, zero, suc, _+_, _-_, _*_, _%_}
+use Prim.Native.Nat.{ℕ, zero, suc, _+_, _-_, _*_, _%_, _≤_}
 use mathlib.Core.Bool.{cond}
 use mathlib.Core.List.{List, [], _∷_, _++_}
 use lib.Dec.{ltb, eqb}
 use lib.ListN.{length}
 use Rattle.range.specs.declared.Field.{Field}
-use Rattle.range.specs.Fields.{fieldAt}
+use Rattle.range.specs.Fields.{fieldAt, FieldFits}
 use Rattle.blockmap.specs.Blockmap.{wordsOf, wordAt, cellsOf, listEnd}
 
 -- the most bytes of a lump, as of a file
@@ -52,3 +52,7 @@ fieldsIfCell lump linedefs i = cond (ltb i (cellsOf lump)) (cellFields lump line
 -- all that 28 looks at for cell `i`: the header, and then the cell
 abbrev pub blockmapFields : List ℕ → ℕ → ℕ → List Field
 blockmapFields lump linedefs i = headerFields lump ++ fieldsIfCell lump linedefs i
+
+-- the numbers of `f` fit 32 bits, if the lump is no longer than a file and there are at most 65,536 linedefs
+abbrev pub FitsIf : List ℕ → ℕ → Field → Type 0
+FitsIf lump linedefs f = length lump ≤ mostBytes → linedefs ≤ 65536 → FieldFits f

@@ -6,7 +6,7 @@ ghost use Prim.Native.Nat.{_+_, _-_, _<_, _≤_};
 ghost use lib.ListN.{length};
 ghost use Rattle.blockmap.specs.Blockmap.{wordsOf, wordAt, cellsOf};
 ghost use Rattle.range.specs.Fields.{firstOut};
-ghost use Rattle.blocklist.specs.Fields.{sizeField, wordField, lengthFields, numberFields, cellFields, fieldsIfCell, blockmapFields};
+ghost use Rattle.blocklist.specs.Fields.{sizeField, wordField, lengthFields, numberFields, cellFields, fieldsIfCell, blockmapFields, FitsIf};
 use range::Field;
 
 // The most bytes of a lump.
@@ -17,7 +17,7 @@ const LIST_END: usize = 65535;
 
 // The first field out of its range, of the header and of the cell with that number.
 pub fn offending(lump: &[u8], linedefs: usize, cell: usize) -> Field
-    ensures { λ r. ⌜ r ≡ firstOut (blockmapFields (now (lump .entry)) linedefs cell) ⌝ }
+    ensures { λ r. ⌜ (r ≡ firstOut (blockmapFields (now (lump .entry)) linedefs cell)) × FitsIf (now (lump .entry)) linedefs r ⌝ }
 {
     let size = size_field(lump, 8);
     if !range::in_range(size) {

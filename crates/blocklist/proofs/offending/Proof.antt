@@ -1,15 +1,17 @@
 -- `blocklist::offending` meets its contract: size, columns and rows in turn, then the rest. Assumes nothing.
 use Prim.Native.Nat.{ℕ, _*_, _≤_}
 use mathlib.Core.List.{List, _∷_, _++_}
-use mathlib.Core.Path.{ap}
+use mathlib.Core.Path.{_≡_, sym, ap, subst}
 use native.Mathlib.Nat.{mul-le-mul}
 use native.Mathlib.Omega.{arith}
 use borrow.Author.Needs.{needs}
 use denote.Ref.{now}
 use lib.ListN.{length}
 use Rattle.range.specs.declared.Field.{Field}
-use Rattle.blocklist.specs.Fields.{mostBytes, wordField, lengthFields, fieldsIfCell}
+use Rattle.range.specs.Fields.{firstOut, FieldFits}
+use Rattle.blocklist.specs.Fields.{mostBytes, wordField, lengthFields, fieldsIfCell, blockmapFields, FitsIf}
 use Rattle.blocklist.proofs.Fields.{first-stops, first-goes, bounds}
+use Rattle.blocklist.proofs.Reasons.{fields-fit}
 use Rattle.blocklist.proofs.offending.Statement.{statement}
 use Rattle.blocklist.proofs.offending.Tie as tie
 
@@ -26,8 +28,20 @@ rowsOf c = wordField (lumpOf c) 3 1 512 ∷ restOf c
 abbrev columnsOf : (c : tie.After-size-field) → List Field
 columnsOf c = wordField (lumpOf c) 2 1 512 ∷ rowsOf c
 
+-- the numbers of what is named fit
+fitting : (c : tie.After-size-field) {r : Field}
+    → r ≡ firstOut (blockmapFields (lumpOf c) (c .before .before .args .linedefs) (c .before .before .args .cell))
+    → (r ≡ firstOut (blockmapFields (lumpOf c) (c .before .before .args .linedefs) (c .before .before .args .cell)))
+      × FitsIf (lumpOf c) (c .before .before .args .linedefs) r
+fitting c e =
+    let a = c .before .before .args in
+    (e, λ small few. subst FieldFits (sym e)
+    (fields-fit (lumpOf c) (a .linedefs) (a .cell) (λ (i : ℕ). omega (arith, c .before .shared-slice-known .given i)) small few))
+
 returns : tie.Need-returns
-returns c = first-stops (columnsOf (c .before .before)) (c .before .before .size-field .ensures) (c .before .in-range .ensures) (c .if1 .taken)
+returns c =
+    fitting (c .before .before)
+    (first-stops (columnsOf (c .before .before)) (c .before .before .size-field .ensures) (c .before .in-range .ensures) (c .if1 .taken))
 
 -- the size is good
 long : (c : tie.Else1) → (8 ≤ length (lumpOf (c .before .before))) × (length (lumpOf (c .before .before)) ≤ mostBytes)
@@ -39,8 +53,9 @@ word-field-requires c κs = let h = long c .0 in omega arith
 returns-2 : tie.Need-returns-2
 returns-2 c =
     let s = c .before .before .before in
-    first-goes (columnsOf (s .before .before)) (s .before .before .size-field .ensures) (s .before .in-range .ensures) (s .if1 .left)
-    (first-stops (rowsOf (s .before .before)) (c .before .before .word-field .ensures) (c .before .in-range2 .ensures) (c .if2 .taken))
+    fitting (s .before .before)
+    (first-goes (columnsOf (s .before .before)) (s .before .before .size-field .ensures) (s .before .in-range .ensures) (s .if1 .left)
+    (first-stops (rowsOf (s .before .before)) (c .before .before .word-field .ensures) (c .before .in-range2 .ensures) (c .if2 .taken)))
 
 word-field-requires-2 : tie.Need-word-field-requires-2
 word-field-requires-2 c κs = let h = long (c .before .before .before) .0 in omega arith
@@ -49,9 +64,10 @@ returns-3 : tie.Need-returns-3
 returns-3 c =
     let k = c .before .before .before in
     let s = k .before .before .before in
-    first-goes (columnsOf (s .before .before)) (s .before .before .size-field .ensures) (s .before .in-range .ensures) (s .if1 .left)
+    fitting (s .before .before)
+    (first-goes (columnsOf (s .before .before)) (s .before .before .size-field .ensures) (s .before .in-range .ensures) (s .if1 .left)
     (first-goes (rowsOf (s .before .before)) (k .before .before .word-field .ensures) (k .before .in-range2 .ensures) (k .if2 .left)
-    (first-stops (restOf (s .before .before)) (c .before .before .word-field2 .ensures) (c .before .in-range3 .ensures) (c .if3 .taken)))
+    (first-stops (restOf (s .before .before)) (c .before .before .word-field2 .ensures) (c .before .in-range3 .ensures) (c .if3 .taken))))
 
 -- columns and rows are good
 sides : (c : tie.Else3)
@@ -86,10 +102,11 @@ returns-4 c =
     let d = c .before .before .before in
     let k = d .before .before .before in
     let s = k .before .before .before in
-    first-goes (columnsOf (s .before .before)) (s .before .before .size-field .ensures) (s .before .in-range .ensures) (s .if1 .left)
+    fitting (s .before .before)
+    (first-goes (columnsOf (s .before .before)) (s .before .before .size-field .ensures) (s .before .in-range .ensures) (s .if1 .left)
     (first-goes (rowsOf (s .before .before)) (k .before .before .word-field .ensures) (k .before .in-range2 .ensures) (k .if2 .left)
     (first-goes (restOf (s .before .before)) (d .before .before .word-field2 .ensures) (d .before .in-range3 .ensures) (d .if3 .left)
-    (c .after-rows .ensures)))
+    (c .after-rows .ensures))))
 
 pub offending-spec : {M : Type 1} → statement M
 offending-spec =
