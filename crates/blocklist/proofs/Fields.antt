@@ -12,7 +12,7 @@ use Rattle.blockmap.specs.Blockmap.{wordsOf, wordAt, cellsOf, sideOk, headerOk,
 use Rattle.blockmap.specs.Inner.{endsWell}
 use Rattle.blockmap.proofs.Lists.{endsWell-list}
 use Rattle.range.specs.declared.Field.{Field}
-use Rattle.range.specs.Fields.{inRange, allIn, firstOut, noField}
+use Rattle.range.specs.Fields.{inRange, allIn, firstOut, noField, firstOf}
 use Rattle.range.proofs.Fields.{firstOf-in, firstOf-out, allIn-none, allIn-more, firstOut-none, firstOut-more}
 use Rattle.blocklist.specs.Fields.{mostBytes, sizeField, wordField, headerFields, numberFields, listFields, cellFields}
 
@@ -61,23 +61,34 @@ module _ (lump : List ℕ) (linedefs : ℕ) where
 
 -- ---- the first out of range, by the word at `at`
 
-module _ (lump : List ℕ) (linedefs at : ℕ) {f : Field} (inside : at < wordsOf lump) (is : f ≡ wordField lump at 0 (linedefs - 1)) where
+module _ (lump : List ℕ) (linedefs at : ℕ) {w last : ℕ} (inside : at < wordsOf lump) (is : w ≡ wordAt lump at) (up : last ≡ linedefs - 1) where
   abbrev from : ℕ → List Field
   from n = numberFields lump linedefs (wordsOf lump - n)
 
-  word : wordAt lump at ≡ f .number
-  word = sym (ap (λ (x : Field). x .number) is)
+  abbrev here : Field
+  here = wordField lump at 0 (linedefs - 1)
 
-  pub first-end : f .number ≡ listEnd → noField ≡ firstOut (from at)
-  first-end e =
-      sym firstOut-none
-      ∙ ap firstOut (sym (numbers-more lump linedefs at inside ∙ ap (λ (b : Bool). cond b [] (wordField lump at 0 (linedefs - 1) ∷ from (suc at))) (eq-eqb (wordAt lump at) listEnd (word ∙ e))))
+  -- by whether it is the mark
+  by-mark : (b : Bool) → eqb (wordAt lump at) listEnd ≡ b → firstOut (from at) ≡ firstOut (cond b [] (here ∷ from (suc at)))
+  by-mark b e = ap firstOut (numbers-more lump linedefs at inside ∙ ap (λ (b : Bool). cond b [] (here ∷ from (suc at))) e)
 
-  pub numbers-go : (f .number ≡ listEnd → ⊥) → from at ≡ wordField lump at 0 (linedefs - 1) ∷ from (suc at)
-  numbers-go ne =
-      numbers-more lump linedefs at inside
-      ∙ ap (λ (b : Bool). cond b [] (wordField lump at 0 (linedefs - 1) ∷ from (suc at)))
-      (ne-eqb (wordAt lump at) listEnd (λ (q : wordAt lump at ≡ listEnd). ne (sym word ∙ q)))
+  pub first-end : w ≡ listEnd → noField ≡ firstOut (from at)
+  first-end e = sym (by-mark true (eq-eqb (wordAt lump at) listEnd (sym is ∙ e)) ∙ firstOut-none)
+
+  number : (w ≡ listEnd → ⊥) → firstOut (from at) ≡ firstOf here (firstOut (from (suc at)))
+  number other =
+      by-mark false (ne-eqb (wordAt lump at) listEnd (λ (q : wordAt lump at ≡ listEnd). other (is ∙ q))) ∙ firstOut-more here (from (suc at))
+
+  here-test : inRange here ≡ leb w last
+  here-test = rw (le-leb 0 (wordAt lump at) (omega arith), is, up)
+
+  pub first-here : {r : Field} → (w ≡ listEnd → ⊥) → last < w → r ≡ wordField lump at 0 last → r ≡ firstOut (from at)
+  first-here other h q =
+      q ∙ ap (wordField lump at 0) up
+      ∙ firstOf-out here (firstOut (from (suc at))) (here-test ∙ lt-leb w last h) ∙ sym (number other)
+
+  pub first-later : (w ≡ listEnd → ⊥) → w ≤ last → firstOut (from (suc at)) ≡ firstOut (from at)
+  first-later other h = firstOf-in here (firstOut (from (suc at))) (here-test ∙ le-leb w last h) ∙ sym (number other)
 
 -- past the last word the size is at fault
 pub first-none : (lump : List ℕ) (linedefs n : ℕ) → wordsOf lump ≤ n
@@ -145,16 +156,17 @@ and-true : (b : Bool) → (b && true) ≡ b
 and-true true = refl
 and-true false = refl
 
-opened : (lump : List ℕ) → allIn (headerFields lump) ≡ (inRange (sizeField lump 8) && (inRange (wordField lump 2 1 512) && (inRange (wordField lump 3 1 512) && (inRange (sizeField lump (8 + 2 * cellsOf lump)) && (inRange (sizeField lump (length lump + length lump % 2)) && true)))))
+five : (a b c d e : Field)
+    → allIn (a ∷ b ∷ c ∷ d ∷ e ∷ []) ≡ (inRange a && (inRange b && (inRange c && (inRange d && (inRange e && true)))))
 unfolding allIn
-opened lump = refl
+five a b c d e = refl
 
 pub header-fields : (lump : List ℕ) → length lump ≤ mostBytes → allIn (headerFields lump) ≡ headerOk lump
 header-fields lump h =
     let n = length lump in
     let even = leb (n + n % 2) n in
     let long = leb (8 + 2 * cellsOf lump) n in
-    opened lump ∙
+    five (sizeField lump 8) (wordField lump 2 1 512) (wordField lump 3 1 512) (sizeField lump (8 + 2 * cellsOf lump)) (sizeField lump (n + n % 2)) ∙
     rw (le-leb n mostBytes h, and-true (leb 8 n), and-true even, and-true long)
     (rw (sym (leb-even n), sym (leb-words (cellsOf lump) n)) (turned (leb 8 n) even (sideOk (wordAt lump 2)) (sideOk (wordAt lump 3)) long))
 

@@ -172,17 +172,19 @@ module _ (lump : List ℕ) (linedefs : ℕ) where
       (λ k h. told-word k 0 (linedefs - 1) h) i
 
 -- its numbers fit 32 bits
+word-fits : (lump : List ℕ) (k least most : ℕ) → Bytes lump → length lump ≤ mostBytes → k < wordsOf lump
+    → least < 4294967296 → most < 4294967296 → FieldFits (wordField lump k least most)
+word-fits lump k least most bytes small h l m =
+    let a = bytes (2 * k) in
+    let b = bytes (2 * k + 1) in
+    record { offset = omega arith; number = omega arith; least = l; most = m }
+
 pub fields-fit : (lump : List ℕ) (linedefs i : ℕ) → Bytes lump → FitsIf lump linedefs (firstOut (blockmapFields lump linedefs i))
 fields-fit lump linedefs i bytes small few =
     of-blockmap FieldFits (record { offset = omega arith; number = omega arith; least = omega arith; most = omega arith }) lump linedefs small
     (λ least h. record { offset = omega arith; number = omega arith; least = omega arith; most = omega arith })
-    word (λ k h. word k 0 (linedefs - 1) h (omega arith) (omega arith)) i
-  where
-    word : (k least most : ℕ) → k < wordsOf lump → least ≤ 33554432 → most ≤ 33554432 → FieldFits (wordField lump k least most)
-    word k least most h l m =
-        let a = bytes (2 * k) in
-        let b = bytes (2 * k + 1) in
-        record { offset = omega arith; number = omega arith; least = omega arith; most = omega arith }
+    (λ k least most h l m. word-fits lump k least most bytes small h (omega arith) (omega arith))
+    (λ k h. word-fits lump k 0 (linedefs - 1) bytes small h (omega arith) (omega arith)) i
 
 pub blockmap-reasoned : BlockmapReasoned
 blockmap-reasoned =
@@ -190,6 +192,6 @@ blockmap-reasoned =
       header = λ lump small. sym (header-fields lump small);
       cell = λ lump linedefs i some good. let h = header-long lump good in sym (cell-fields lump linedefs some i (omega arith));
       refused = λ lump linedefs i small some e.
-        let first = first-out (blockmapFields lump linedefs i) (not-all lump linedefs i small some (headerOk lump) refl e) in
-        record { first = first; holds = told lump linedefs i small (first .out) };
+          let first = first-out (blockmapFields lump linedefs i) (not-all lump linedefs i small some (headerOk lump) refl e) in
+          record { first = first; holds = told lump linedefs i small (first .out) };
     }

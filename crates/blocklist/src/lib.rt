@@ -78,12 +78,12 @@ fn of_numbers(lump: &[u8], linedefs: usize, first: usize) -> Field
 {
     let last = less_one(linedefs);
     for at in first..lump.len() / 2 {
-        let word = word_field(lump, at, 0, last);
-        if word.number == LIST_END {
+        let word = word_at(lump, at);
+        if word == LIST_END {
             return range::no_field();
         }
-        if !range::in_range(word) {
-            return word;
+        if last < word {
+            return word_field(lump, at, 0, last);
         }
     }
     size_field(lump, lump.len() + 2)

@@ -1,14 +1,14 @@
 -- `blocklist::of_numbers` meets its contract: what is first out among the words from `at` on is so among all. The measure is
 -- what is left of the words. Assumes nothing.
-use Prim.Native.Nat.{ℕ, suc, _-_, _≤_}
-use mathlib.Core.Path.{_≡_, refl, sym, ap, _∙_}
+use Prim.Native.Nat.{ℕ, _-_, _≤_}
+use mathlib.Core.Path.{_≡_, refl, ap, _∙_}
 use native.Mathlib.Numerals.{add-one}
 use borrow.Author.Needs.{needs}
 use denote.Ref.{now}
 use Rattle.blockmap.specs.Blockmap.{wordsOf}
 use Rattle.range.specs.Fields.{firstOut}
-use Rattle.blocklist.specs.Fields.{wordField, numberFields}
-use Rattle.blocklist.proofs.Fields.{first-stops, first-goes, first-end, numbers-go, first-none}
+use Rattle.blocklist.specs.Fields.{numberFields}
+use Rattle.blocklist.proofs.Fields.{first-end, first-here, first-later, first-none}
 use Rattle.blocklist.proofs.of_numbers.Statement.{statement}
 use Rattle.blocklist.proofs.of_numbers.Tie as tie
 
@@ -23,45 +23,32 @@ abbrev μ-loop : tie.MeasureT-loop
 loop-holds : tie.Need-loop-holds Inv-loop μ-loop
 loop-holds c = (refl, (search needs, refl))
 
--- the field of the word at hand
-here : (c : tie.After-word-field Inv-loop μ-loop)
-    → c .word-field .result ≡ wordField (now (c .before .before .before .before .before .args .lump)) (c .before .before .loop .at) 0 (c .before .before .before .before .before .args .linedefs - 1)
-here c =
-    c .word-field .ensures
-    ∙ ap (wordField (now (c .before .before .before .before .before .args .lump)) (c .before .before .loop .at) 0) (c .before .before .before .less-one .ensures)
-
 returns : tie.Need-returns Inv-loop μ-loop
 returns c =
-    let a = c .before .before .before .before .before .before .before .before .args in
-    let l = c .before .before .before .before .before .loop in
+    let a = c .before .before .before .before .before .before .before .args in
+    let l = c .before .before .before .before .loop in
     c .no-field .ensures
-    ∙ first-end (now (a .lump)) (a .linedefs) (l .at) (search needs) (here (c .before .before .before)) (c .before .if1 .taken)
+    ∙ first-end (now (a .lump)) (a .linedefs) (l .at) (search needs) (c .before .before .word-at .ensures)
+    (c .before .before .before .before .before .less-one .ensures) (c .before .if1 .taken)
     ∙ l .inv .1 .1
 
 returns-2 : tie.Need-returns-2 Inv-loop μ-loop
 returns-2 c =
-    let a = c .before .before .before .before .before .before .before .before .before .args in
-    let l = c .before .before .before .before .before .before .loop in
-    let is = here (c .before .before .before .before) in
-    first-stops (numberFields (now (a .lump)) (a .linedefs) (wordsOf (now (a .lump)) - suc (l .at))) is (c .before .in-range .ensures) (c .if2 .taken)
-    ∙ ap firstOut (sym (numbers-go (now (a .lump)) (a .linedefs) (l .at) (search needs) is (c .before .before .if1 .left)))
+    let a = c .before .before .before .before .before .before .before .before .args in
+    let l = c .before .before .before .before .before .loop in
+    first-here (now (a .lump)) (a .linedefs) (l .at) (search needs) (c .before .before .before .word-at .ensures)
+    (c .before .before .before .before .before .before .less-one .ensures) (c .before .before .if1 .left) (c .before .if2 .taken) (c .word-field .ensures)
     ∙ l .inv .1 .1
 
 loop-again : tie.Need-loop-again Inv-loop μ-loop
 loop-again c =
-    let a = c .before .before .before .before .before .before .before .before .before .args in
-    let l = c .before .before .before .before .before .before .loop in
-    let is = here (c .before .before .before .before) in
-    let rest = numberFields (now (a .lump)) (a .linedefs) (wordsOf (now (a .lump)) - suc (l .at)) in
-    let next = ap (λ (n : ℕ). firstOut (numberFields (now (a .lump)) (a .linedefs) (wordsOf (now (a .lump)) - n))) (add-one (l .at)) in (
-      refl,
-      (
-        search needs,
-        first-goes rest is (c .before .in-range .ensures) (c .if2 .left) next
-            ∙ ap firstOut (sym (numbers-go (now (a .lump)) (a .linedefs) (l .at) (search needs) is (c .before .before .if1 .left)))
-            ∙ l .inv .1 .1,
-      ),
-    )
+    let a = c .before .before .before .before .before .before .before .args in
+    let l = c .before .before .before .before .loop in
+    let later =
+    first-later (now (a .lump)) (a .linedefs) (l .at) (search needs) (c .before .before .word-at .ensures)
+    (c .before .before .before .before .before .less-one .ensures) (c .before .if1 .left) (c .if2 .left) in
+    let next = ap (λ (n : ℕ). firstOut (numberFields (now (a .lump)) (a .linedefs) (wordsOf (now (a .lump)) - n))) (add-one (l .at)) in
+    (refl, (search needs, next ∙ later ∙ l .inv .1 .1))
 
 returns-3 : tie.Need-returns-3 Inv-loop μ-loop
 returns-3 c =

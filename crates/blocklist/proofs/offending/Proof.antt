@@ -32,11 +32,13 @@ columnsOf c = wordField (lumpOf c) 2 1 512 ∷ rowsOf c
 fitting : (c : tie.After-size-field) {r : Field}
     → r ≡ firstOut (blockmapFields (lumpOf c) (c .before .before .args .linedefs) (c .before .before .args .cell))
     → (r ≡ firstOut (blockmapFields (lumpOf c) (c .before .before .args .linedefs) (c .before .before .args .cell)))
-      × FitsIf (lumpOf c) (c .before .before .args .linedefs) r
+    × FitsIf (lumpOf c) (c .before .before .args .linedefs) r
 fitting c e =
-    let a = c .before .before .args in
-    (e, λ small few. subst FieldFits (sym e)
-    (fields-fit (lumpOf c) (a .linedefs) (a .cell) (λ (i : ℕ). omega (arith, c .before .shared-slice-known .given i)) small few))
+    let a = c .before .before .args in (
+      e,
+      λ small few. subst FieldFits (sym e)
+          (fields-fit (lumpOf c) (a .linedefs) (a .cell) (λ (i : ℕ). omega (arith, c .before .shared-slice-known .given i)) small few),
+    )
 
 returns : tie.Need-returns
 returns c =
