@@ -13,7 +13,7 @@ ghost use Rattle.graph.specs.Inner.Looks.{markOf, lookAt, joined, lookBe
 ghost use Rattle.graph.specs.Inner.Searching.{State, Searchable, Stepped, Explored, Searched};
 
 // The mark of a node on the path. A height is at most the count of nodes.
-const ON_PATH: u16 = 65535;
+pub const ON_PATH: u16 = 65535;
 
 // What the marks say of a child.
 pub enum Look {
@@ -77,7 +77,7 @@ fn graph_of(nodes: &[u8], count: usize, words: &mut [u16]) -> Graph
 }
 
 // Without a loop: a child that two ways lead to, or the depth. The marked nodes are the reached ones.
-pub fn shared_or_deep(nodes: &[u8], count: usize, words: &[u16], depth: usize) -> Graph
+fn shared_or_deep(nodes: &[u8], count: usize, words: &[u16], depth: usize) -> Graph
     requires { ⌜ Searchable (now nodes) count (now words) × Explored (now nodes) (markOf (now words)) depth ⌝ }
     ensures { λ r. ⌜ r ≡ graphVerdict (now (nodes .entry)) ⌝ }
 {
