@@ -9,6 +9,7 @@ use Rattle.bsp.specs.declared.Choice.{Choice}
 use Rattle.bsp.specs.Inner.{NodesInRange}
 use Rattle.graph.specs.Ways.{wordAfter}
 use Rattle.graph.specs.Inner.Looks.{pathChoice, heightChoice}
+use Rattle.way.specs.Ways.{bytesOf}
 
 -- the choice at node `w` that the marks tell: on the way into a loop, or by the heights
 abbrev pub markChoice : List ℕ → (ℕ → ℕ) → Bool → ℕ → Choice
@@ -19,7 +20,11 @@ unfoldable pub choicesFrom : List ℕ → (ℕ → Choice) → ℕ → ℕ → L
 choicesFrom nodes rule j zero = []
 choicesFrom nodes rule j (suc n) = rule (wordAfter nodes rule j) ∷ choicesFrom nodes rule (suc j) n
 
--- `n` choices by the rule can be read off the marks
+-- the bytes of the first `n` choices that the marks tell
+abbrev pub toldBytes : List ℕ → (ℕ → ℕ) → Bool → ℕ → List ℕ
+toldBytes nodes mark looping n = bytesOf (choicesFrom nodes (markChoice nodes mark looping) 0 n)
+
+-- `n` choices by the rule can be made, and read off the marks
 pub record Printable (nodes : List ℕ) (count : ℕ) (words : List ℕ) (rule : ℕ → Choice) (n : ℕ) : Type 0 where
   pub whole : nodeSize * count ≡ length nodes
   pub least : 1 ≤ count

@@ -1,6 +1,6 @@
 -- What is promised of the two lists, in the words of W-211, and of the function that prints them. The proofs of the first are
 -- proofs/Loops.antt and proofs/Routes.antt. Assumes nothing.
-use Prim.Native.Nat.{ℕ, _*_, _<_}
+use Prim.Native.Nat.{ℕ, _<_}
 use mathlib.Core.Bool.{true, false}
 use mathlib.Core.List.{List, [], _∷_, map}
 use mathlib.Core.Path.{_≡_}
@@ -11,7 +11,6 @@ use Rattle.bsp.specs.Nodes.{nodesOf, childOf, root}
 use Rattle.bsp.specs.Routes.{Leads, Route}
 use Rattle.bsp.specs.Heights.{member, repeats, graphVerdict}
 use Rattle.bsp.specs.Inner.{NodesInRange}
-use Rattle.graph.specs.Judging.{cleared}
 use Rattle.graph.specs.Ways.{loopChoice, deepChoice}
 use Rattle.way.specs.declared.Told.{Told}
 use Rattle.way.specs.Ways.{loopWay, routeOf, wayOf, bytesOf, printed}
@@ -58,8 +57,3 @@ pub record WayPrinted (nodes before after : List ℕ) (answer : Told) : Type 0 w
   pub verdict : answer .verdict ≡ graphVerdict nodes
   pub length : answer .length ≡ size (wayOf nodes (graphVerdict nodes))
   pub out : after ≡ printed before (bytesOf (wayOf nodes (graphVerdict nodes)))
-
--- and the words: cleared, whether the list was printed or not
-pub record WayTold (nodes : List ℕ) (count : ℕ) (before after out out′ : List ℕ) (answer : Told) : Type 0 where
-  pub told : WayPrinted nodes out out′ answer
-  pub words : after ≡ cleared before (4 * count)

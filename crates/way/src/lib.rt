@@ -10,12 +10,12 @@ ghost use Prim.Native.Nat.{_+_, _*_, _<_, _≤_};
 ghost use lib.ListN.{length, drop};
 ghost use Rattle.bsp.specs.declared.Choice.the-variants.{Right, Left};
 ghost use Rattle.bsp.specs.Nodes.{subsectorBit};
-ghost use Rattle.graph.specs.Judging.{Judgeable};
+ghost use Rattle.graph.specs.Judging.{Judgeable, cleared};
 ghost use Rattle.graph.specs.Inner.Looks.{markOf, onPathOk, heightBy, LooksInside};
 ghost use Rattle.graph.specs.Inner.Searching.{Searchable, LoopMet, Explored};
-ghost use Rattle.way.specs.Ways.{choiceByte, bytesOf, printed};
-ghost use Rattle.way.specs.Promises.{WayPrinted, WayTold};
-ghost use Rattle.way.specs.Inner.{markChoice, choicesFrom, Printable};
+ghost use Rattle.way.specs.Ways.{choiceByte, printed};
+ghost use Rattle.way.specs.Promises.{WayPrinted};
+ghost use Rattle.way.specs.Inner.{markChoice, toldBytes, Printable};
 
 // The graph's verdict, and how many bytes there are to print with it.
 pub struct Told {
@@ -27,7 +27,8 @@ pub struct Told {
 // is as it was.
 pub fn judge(nodes: &[u8], count: usize, words: &mut [u16], out: &mut [u8]) -> Told
     requires { ⌜ Judgeable (now nodes) count (now words) ⌝ }
-    ensures { λ r. ⌜ WayTold (now (nodes .entry)) count (now (words .entry)) (now (words .exit)) (now (out .entry)) (now (out .exit)) r ⌝ }
+    ensures { λ r. ⌜ WayPrinted (now (nodes .entry)) (now (out .entry)) (now (out .exit)) r ⌝ }
+    ensures { λ _. ⌜ now (words .exit) ≡ cleared (now (words .entry)) (4 * count) ⌝ }
 {
     if count == 0 {
         return Told {
@@ -83,7 +84,7 @@ fn tell_depth(nodes: &[u8], count: usize, words: &[u16], depth: usize, out: &mut
 // The first n choices that the marks tell, where there is room.
 fn print_if(nodes: &[u8], count: usize, words: &[u16], looping: bool, n: usize, out: &mut [u8])
     requires { ⌜ Printable (now nodes) count (now words) (markChoice (now nodes) (markOf (now words)) looping) n ⌝ }
-    ensures { λ _. ⌜ now (out .exit) ≡ printed (now (out .entry)) (bytesOf (choicesFrom (now (nodes .entry)) (markChoice (now (nodes .entry)) (markOf (now (words .entry))) looping) 0 n)) ⌝ }
+    ensures { λ _. ⌜ now (out .exit) ≡ printed (now (out .entry)) (toldBytes (now (nodes .entry)) (markOf (now (words .entry))) looping n) ⌝ }
 {
     if out.len() < n {
         return;
@@ -92,8 +93,9 @@ fn print_if(nodes: &[u8], count: usize, words: &[u16], looping: bool, n: usize, 
 }
 
 fn print(nodes: &[u8], count: usize, words: &[u16], looping: bool, n: usize, out: &mut [u8])
-    requires { ⌜ Printable (now nodes) count (now words) (markChoice (now nodes) (markOf (now words)) looping) n × (n ≤ length (now out)) ⌝ }
-    ensures { λ _. ⌜ now (out .exit) ≡ bytesOf (choicesFrom (now (nodes .entry)) (markChoice (now (nodes .entry)) (markOf (now (words .entry))) looping) 0 n) ++ drop n (now (out .entry)) ⌝ }
+    requires { ⌜ Printable (now nodes) count (now words) (markChoice (now nodes) (markOf (now words)) looping) n ⌝ }
+    requires { ⌜ n ≤ length (now out) ⌝ }
+    ensures { λ _. ⌜ now (out .exit) ≡ toldBytes (now (nodes .entry)) (markOf (now (words .entry))) looping n ++ drop n (now (out .entry)) ⌝ }
 {
     let mut node = count - 1;
     for j in 0..n {

@@ -18,7 +18,7 @@ returns c =
     let e = c .before .before .before .before in
     let none : nodesOf (now (e .args .nodes)) ≡ 0 =
     nodesOf-whole (now (e .args .nodes)) (e .args .count) (e .pre .whole) ∙ c .if1 .taken in
-    record { told = none-printed _ none _; words = rw (c .if1 .taken) }
+    (none-printed _ none _, rw (c .if1 .taken))
 
 slice-aggregate-tell : tie.Need-slice-aggregate-tell
 slice-aggregate-tell c =
@@ -42,13 +42,11 @@ returns-2 : tie.Need-returns-2
 returns-2 c =
     let t = c .before .before .before .before .before .before .before .before in
     let e = t .before .before .before .before .before .before .before in
-    let part = length-take-le (4 * e .args .count) (now (e .args .words)) (e .pre .enough) in
-    record {
-      told = t .tell .ensures;
-      words =
-          c .before .before .clear .ensures
-          ∙ cleared-front (now (e .args .words)) (t .tell .last .1 .1 .0) (4 * e .args .count) (t .tell .kept .1 .1 .0 ∙ part);
-    }
+    let part = length-take-le (4 * e .args .count) (now (e .args .words)) (e .pre .enough) in (
+      t .tell .ensures,
+      c .before .before .clear .ensures
+          ∙ cleared-front (now (e .args .words)) (t .tell .last .1 .1 .0) (4 * e .args .count) (t .tell .kept .1 .1 .0 ∙ part),
+    )
 
 pub judge-spec : {M : Type 1} → statement M
 judge-spec =
