@@ -2,3 +2,4 @@
 
 pub mod Fields
 pub mod Reasons
+pub mod Examples
