@@ -1,3 +1,4 @@
 -- The laws of fields with their ranges. Assumes nothing.
 
 pub mod Fields
+pub mod Said

@@ -1,11 +1,12 @@
 -- A field of a record or of a lump, with the range that 01 allows there, and the first of a row of fields that is out of its range (W-211). A range
 -- whose least is above its most is empty. Assumes nothing.
-use Prim.Native.Nat.{ℕ, _<_}
+use Prim.Native.Nat.{ℕ, _≤_, _<_}
 use mathlib.Core.Bool.{Bool, true, false, _&&_, cond}
 use mathlib.Core.List.{List, [], _∷_, _++_}
 use mathlib.Core.Path.{_≡_}
 use lib.Dec.{leb}
-use Rattle.endian.specs.Unsigned.{u16At, putU32}
+use lib.ListN.{length, drop}
+use Rattle.endian.specs.Unsigned.{u16At, u32At, putU32}
 use Rattle.range.specs.declared.Field.{Field}
 
 -- the number of two bytes at `at`, where `least` to `most` is allowed
@@ -56,3 +57,16 @@ pub record FieldFits (f : Field) : Type 0 where
 -- `out` with offset, number, least and most in its first 16 bytes
 abbrev pub putField : List ℕ → Field → List ℕ
 putField out f = putU32 (putU32 (putU32 (putU32 out 0 (f .offset)) 4 (f .number)) 8 (f .least)) 12 (f .most)
+
+-- what `left` is after `f` was written into the front of `out`: it says the four numbers, and the rest is as found
+pub record FieldSaid (out : List ℕ) (f : Field) (left : List ℕ) : Type 0 where
+  pub offset : u32At left 0 ≡ f .offset
+  pub number : u32At left 4 ≡ f .number
+  pub least : u32At left 8 ≡ f .least
+  pub most : u32At left 12 ≡ f .most
+  pub rest : drop 16 left ≡ drop 16 out
+  pub long : length left ≡ length out
+
+-- so it is where there is room
+abbrev pub FieldsSaid : Type 0
+FieldsSaid = (out : List ℕ) (f : Field) → 16 ≤ length out → FieldSaid out f (putField out f)

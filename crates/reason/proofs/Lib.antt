@@ -1,3 +1,4 @@
 -- The laws of a record's fields with their ranges. Assumes nothing.
 
 pub mod Reasons
+pub mod RefusedRecords

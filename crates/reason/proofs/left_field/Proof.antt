@@ -27,7 +27,7 @@ number-at-requires : tie.Need-number-at-requires
 number-at-requires c κs =
     let s = c .before in
     let hexen = s .before .before .args .hexen in
-    (there s, rw (c .left-place .ensures, s .size .ensures) (linedef-left hexen), rw (s .size .ensures) (linedef-small hexen), s .before .before .pre .1)
+    (there s, rw (c .left-place .ensures, s .size .ensures) (linedef-left hexen), rw (s .size .ensures) (linedef-small hexen), search needs)
 
 field-requires : tie.Need-field-requires
 field-requires c κs =

@@ -24,15 +24,15 @@ front : (c : tie.After-size) (at : ℕ) → at < 5 → at + 1 < c .size .result
 front c at h = rw (c .size .ensures) (linedef-front (c .before .before .args .hexen) at h)
 
 number-at-requires : tie.Need-number-at-requires
-number-at-requires c κs = (there c, front c 0 (omega arith), small c, c .before .before .pre .1)
+number-at-requires c κs = (there c, front c 0 (omega arith), small c, search needs)
 
 number-at-requires-2 : tie.Need-number-at-requires-2
-number-at-requires-2 c κs = let s = c .before in (there s, front s 2 (omega arith), small s, s .before .before .pre .1)
+number-at-requires-2 c κs = let s = c .before in (there s, front s 2 (omega arith), small s, search needs)
 
 number-at-requires-3 : tie.Need-number-at-requires-3
 number-at-requires-3 c κs =
     let s = c .before .before .before in
-    (there s, rw (c .right-place .ensures, s .size .ensures) (linedef-right (s .before .before .args .hexen)), small s, s .before .before .pre .2)
+    (there s, rw (c .right-place .ensures, s .size .ensures) (linedef-right (s .before .before .args .hexen)), small s, search needs)
 
 returns : tie.Need-returns
 returns c =
