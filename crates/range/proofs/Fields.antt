@@ -6,7 +6,7 @@ use mathlib.Core.List.{List, [], _∷_, _++_}
 use mathlib.Core.Path.{_≡_, refl, sym, ap, subst, _∙_}
 use Rattle.endian.specs.Unsigned.{putU32}
 use Rattle.range.specs.declared.Field.{Field}
-use Rattle.range.specs.Fields.{inRange, allIn, noField, firstOf, firstOut, FirstOut, Each}
+use Rattle.range.specs.Fields.{inRange, allIn, noField, firstOf, firstOut, FirstOut}
 
 pub firstOf-in : (f g : Field) → inRange f ≡ true → g ≡ firstOf f g
 firstOf-in f g e = sym (ap (λ (b : Bool). cond b g f) e)
@@ -61,6 +61,11 @@ first-out [] e = absurd (true≢false (sym allIn-none ∙ e))
 first-out (f ∷ fs) e = ahead f fs (inRange f) refl (first-out fs) (sym (allIn-more f fs) ∙ e)
 
 -- ---- what holds of each field holds of the first
+
+-- `P` holds of each of a row
+abbrev pub Each : (Field → Type 0) → List Field → Type 0
+Each P [] = Unit
+Each P (f ∷ fs) = P f × Each P fs
 
 each-at : (P : Field → Type 0) (before after : List Field) (f : Field) → Each P (before ++ (f ∷ after)) → P f
 each-at P [] after f h = h .0

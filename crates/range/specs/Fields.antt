@@ -42,11 +42,6 @@ pub record FirstOut (fs : List Field) (f : Field) : Type 0 where
   pub good : allIn before ≡ true
   pub out : inRange f ≡ false
 
--- `P` holds of each of a row
-abbrev pub Each : (Field → Type 0) → List Field → Type 0
-Each P [] = Unit
-Each P (f ∷ fs) = P f × Each P fs
-
 -- each of its numbers fits 32 bits
 pub record FieldFits (f : Field) : Type 0 where
   pub offset : f .offset < 4294967296

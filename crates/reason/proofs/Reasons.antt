@@ -9,8 +9,8 @@ use lib.Dec.{leb, ltb, eqb}
 use lib.ListN.{length}
 use Rattle.endian.specs.Unsigned.{u16At}
 use Rattle.range.specs.declared.Field.{Field}
-use Rattle.range.specs.Fields.{fieldAt, inRange, allIn, firstOut, Each}
-use Rattle.range.proofs.Fields.{allIn-none, allIn-more, first-out, first-holds}
+use Rattle.range.specs.Fields.{fieldAt, inRange, allIn, firstOut}
+use Rattle.range.proofs.Fields.{Each, allIn-none, allIn-more, first-out, first-holds}
 use Rattle.field.specs.Records.{recordBytes}
 use Rattle.linedef.specs.Linedefs.{linedefSize, rightPlace, leftPlace, linedefOf, noSidedef}
 use Rattle.linedef.proofs.Fields.{linedef-left}

@@ -14,14 +14,20 @@ returns c =
     let w = c .before .before .field .ensures .0 in
     let a = c .before .before .before .before .args in
     let h = rw w at (c .before .if1 .taken) in
-    (c .number-at .ensures .0 ∙ child-node (recordBytes (now (a .nodes)) nodeSize (a .i)) (a .at) (nodesOf (now (a .nodes))) (a .subsectors) h, c .number-at .ensures .1)
+    let bytes = recordBytes (now (a .nodes)) nodeSize (a .i) in (
+      c .number-at .ensures .0 ∙ child-node bytes (a .at) (nodesOf (now (a .nodes))) (a .subsectors) h,
+      c .number-at .ensures .1,
+    )
 
 returns-2 : tie.Need-returns-2
 returns-2 c =
     let w = c .before .before .field .ensures .0 in
     let a = c .before .before .before .before .args in
     let h = rw w at (c .before .if1 .left) in
-    (c .field-at .ensures .0 ∙ child-subsector (recordBytes (now (a .nodes)) nodeSize (a .i)) (a .at) (nodesOf (now (a .nodes))) (a .subsectors) h, c .field-at .ensures .1)
+    let bytes = recordBytes (now (a .nodes)) nodeSize (a .i) in (
+      c .field-at .ensures .0 ∙ child-subsector bytes (a .at) (nodesOf (now (a .nodes))) (a .subsectors) h,
+      c .field-at .ensures .1,
+    )
 
 pub child-at-spec : {M : Type 1} → statement M
 child-at-spec =
