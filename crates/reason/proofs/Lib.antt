@@ -2,3 +2,4 @@
 
 pub mod Reasons
 pub mod RefusedRecords
+pub mod Examples

@@ -23,6 +23,31 @@ use Rattle.reference.specs.References.{twoSided, linedefOk, leftOk, segOk, subs
 use Rattle.reason.specs.RecordFields.{numberAt, leftFields, linedefFields, sidedefFields, segFields, subsectorFields, childAt, nodeFields}
 use Rattle.reason.specs.Reasons.{InOrder, Reasoned, RecordsReasoned}
 
+-- ---- rows of tests
+
+row-of-four : (a b c d : Bool) → (a && b && c && d) ≡ (a && (b && (c && d)))
+row-of-four false b c d = refl
+row-of-four true false c d = refl
+row-of-four true true c d = refl
+
+last-two : (a b c : Bool) → (a && b && c) ≡ (a && (b && c))
+last-two true b c = refl
+last-two false b c = refl
+
+four-same : {a b c d a' b' c' d' : Bool} → a ≡ a' → b ≡ b' → c ≡ c' → d ≡ d' → (a && b && c && d) ≡ (a' && b' && c' && d')
+four-same p q r s i = p i && q i && r i && s i
+
+allIn-one : (f : Field) → allIn (f ∷ []) ≡ inRange f
+allIn-one f = allIn-more f [] ∙ ap (λ (b : Bool). inRange f && b) allIn-none ∙ and-true (inRange f)
+
+allIn-two : (f g : Field) → allIn (f ∷ g ∷ []) ≡ (inRange f && inRange g)
+allIn-two f g = allIn-more f (g ∷ []) ∙ ap (λ (b : Bool). inRange f && b) (allIn-one g)
+
+allIn-after-three : (f g h : Field) (fs : List Field) → allIn (f ∷ g ∷ h ∷ fs) ≡ (inRange f && inRange g && inRange h && allIn fs)
+allIn-after-three f g h fs =
+    rw (allIn-more f (g ∷ h ∷ fs), allIn-more g (h ∷ fs), allIn-more h fs)
+    (sym (row-of-four (inRange f) (inRange g) (inRange h) (allIn fs)))
+
 -- ---- tests of one number
 
 -- 0 to `count - 1` is what is below `count`: but for 0, where it would hold 0
@@ -72,7 +97,7 @@ left-same : (left sidedefs : ℕ) (two : Bool) (f : Field) → 0 < sidedefs → 
 left-same left sidedefs two f h m is = by-tests (eqb left 65535) refl two
   where
     one : allIn (f ∷ []) ≡ ltb left sidedefs
-    one = allIn-more f [] ∙ rw (allIn-none, and-true (inRange f)) (is ∙ sym (below left sidedefs h))
+    one = allIn-one f ∙ is ∙ sym (below left sidedefs h)
 
     by-tests : (n : Bool) → eqb left 65535 ≡ n → (two : Bool)
         → ((n || ltb left sidedefs) && not (two && n)) ≡ allIn (cond (n && not two) [] (f ∷ []))
@@ -125,29 +150,6 @@ pub linedef-small : (hexen : Bool) → linedefSize hexen ≤ 30
 linedef-small true = omega arith
 linedef-small false = omega arith
 
--- ---- rows of tests
-
-row-of-four : (a b c d : Bool) → (a && b && c && d) ≡ (a && (b && (c && d)))
-row-of-four false b c d = refl
-row-of-four true false c d = refl
-row-of-four true true c d = refl
-
-last-two : (a b c : Bool) → (a && b && c) ≡ (a && (b && c))
-last-two true b c = refl
-last-two false b c = refl
-
-four-same : {a b c d a' b' c' d' : Bool} → a ≡ a' → b ≡ b' → c ≡ c' → d ≡ d' → (a && b && c && d) ≡ (a' && b' && c' && d')
-four-same p q r s i = p i && q i && r i && s i
-
-allIn-one : (f : Field) → allIn (f ∷ []) ≡ inRange f
-allIn-one f = allIn-more f [] ∙ ap (λ (b : Bool). inRange f && b) allIn-none ∙ and-true (inRange f)
-
-allIn-two : (f g : Field) → allIn (f ∷ g ∷ []) ≡ (inRange f && inRange g)
-allIn-two f g = allIn-more f (g ∷ []) ∙ ap (λ (b : Bool). inRange f && b) (allIn-one g)
-
-allIn-after-three : (f g h : Field) (fs : List Field) → allIn (f ∷ g ∷ h ∷ fs) ≡ (inRange f && inRange g && inRange h && allIn fs)
-allIn-after-three f g h fs = rw (allIn-more f (g ∷ h ∷ fs), allIn-more g (h ∷ fs), allIn-more h fs) (sym (row-of-four (inRange f) (inRange g) (inRange h) (allIn fs)))
-
 -- ---- each kind
 
 module _ (bytes : List ℕ) where
@@ -188,7 +190,8 @@ node-reasoned nodes subsectors i h =
     let bytes = recordBytes nodes nodeSize i in
     let count = nodesOf nodes in
     let child : ℕ → Field = λ at. childAt bytes at count subsectors in
-    let same : (at : ℕ) → childOk count subsectors (u16At bytes at) ≡ inRange (child at) = λ at. child-same bytes at count subsectors (omega arith) in
+    let same : (at : ℕ) → childOk count subsectors (u16At bytes at) ≡ inRange (child at) =
+    λ at. child-same bytes at count subsectors (omega arith) in
     reasoned bytes nodeSize (nodeOk nodes subsectors i) (nodeFields bytes count subsectors)
     (ap (λ (b : Bool). b && childOk count subsectors (u16At bytes 26)) (same 24) ∙ ap (λ (b : Bool). inRange (child 24) && b) (same 26)
     ∙ sym (allIn-two (child 24) (child 26)))

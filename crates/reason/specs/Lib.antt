@@ -2,3 +2,4 @@
 
 pub mod RecordFields
 pub mod Reasons
+pub mod Examples
