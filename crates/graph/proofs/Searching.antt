@@ -116,7 +116,8 @@ module _ (nodes : List ℕ) (count : ℕ) (least : 1 ≤ count) (most : count �
           let below : j < sp = omega arith in
           let next : j + 1 ≡ suc j = omega arith in
           let (d, is, m, on, at, then) = taken j below in
-          rw (after-more nodes (loopChoice nodes) j, after-path j below, is) (sym (subst (λ (k : ℕ). path k ≡ childOf nodes (path j) d) next (then (omega arith))))
+          rw (after-more nodes (loopChoice nodes) j, after-path j below, is)
+          (sym (subst (λ (k : ℕ). path k ≡ childOf nodes (path j) d) next (then (omega arith))))
 
       after-end : (j : ℕ) → j < sp → (i : ℕ) × (i < sp) × (wordAfter nodes (loopChoice nodes) (suc j) ≡ wordAfter nodes (loopChoice nodes) i)
       after-end j h =

@@ -222,7 +222,8 @@ module _ (nodes : List ℕ) where
       let on = loop-on nodes (verdict-holds nodes .loop .0 e) in
       let low = root-node count (stands-on count (root count) on) in
       let h = holds within count [] (root count) (omega arith) refl (λ v m. absurd (none-in v m)) low on in
-      let back = ⊎-elim (λ m. m) (λ (m : member (endOf nodes (root count) (loopWay nodes)) [] ≡ true). absurd (none-in (endOf nodes (root count) (loopWay nodes)) m)) (h .back) in
+      let end = endOf nodes (root count) (loopWay nodes) in
+      let back = ⊎-elim (λ m. m) (λ (m : member end [] ≡ true). absurd (none-in end m)) (h .back) in
       record {
         leads = h .leads;
         rule = h .rule;

@@ -19,7 +19,10 @@ height-at-requires-2 c κs =
 
 returns-2 : tie.Need-returns-2
 returns-2 c =
-    rw (c .before .before .before .if1 .left, c .before .height-at .ensures, c .height-at2 .ensures, c .before .before .child-of2 .ensures .0, c .before .before .before .before .child-of .ensures .0)
+    let test = c .before .before .before in
+    let right = test .before .child-of .ensures .0 in
+    let left = c .before .before .child-of2 .ensures .0 in
+    rw (test .if1 .left, c .before .height-at .ensures, c .height-at2 .ensures, left, right)
 
 pub goes-right-spec : {M : Type 1} → statement M
 goes-right-spec =
