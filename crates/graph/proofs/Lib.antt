@@ -4,6 +4,7 @@ pub mod Unmet
 pub mod Tall
 pub mod Ways
 pub mod Searching
+pub mod Ends
 pub mod Looks
 pub mod Words
 pub mod Sharing

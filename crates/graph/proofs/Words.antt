@@ -12,7 +12,8 @@ use Rattle.bsp.specs.Nodes.{nodesOf, subsectorBit, childOf}
 use Rattle.graph.specs.Judging.{cleared}
 use Rattle.graph.specs.Inner.Looks.{markOf, pathOf, lookBelow, LooksInside, pushed, begun}
 use Rattle.graph.specs.Inner.Searching.{unmet, Tall, Due, Searchable, State, effort, LoopMet, Explored}
-use Rattle.graph.proofs.Searching.{path-loop, path-done, push, finish, start}
+use Rattle.graph.proofs.Searching.{push, finish, start}
+use Rattle.graph.proofs.Ends.{path-loop, path-done}
 use Rattle.graph.proofs.Unmet.{unmet-some}
 use Rattle.graph.proofs.Looks.{SaidBelow, said-below}
 use Rattle.bsp.proofs.Nodes.{nodesOf-whole}
