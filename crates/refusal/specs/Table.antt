@@ -16,7 +16,7 @@ use Rattle.refusal.specs.declared.Refusal.the-variants.{PictureLength, P
 use Rattle.refusal.specs.declared.Refusal.the-variants.{PostBounds, PostRows, PixelBuffer}
 use Rattle.refusal.specs.declared.Refusal.the-variants.{EncodeSize, EncodeCover, EncodeRoom}
 use Rattle.refusal.specs.declared.Refusal.the-variants.{RecordBounds, RecordFields}
-use Rattle.refusal.specs.declared.Refusal.the-variants.{StreamSectors, StreamLength}
+use Rattle.refusal.specs.declared.Refusal.the-variants.{StreamSectors, StreamLength, ReasonRoom}
 
 -- a row of the table: number, place, record
 abbrev pub row : ℕ → ℕ → ℕ → Row
@@ -66,6 +66,7 @@ rowOf RecordBounds = row 60 0 0
 rowOf RecordFields = row 61 0 0
 rowOf StreamSectors = row 80 0 0
 rowOf StreamLength = row 81 0 0
+rowOf ReasonRoom = row 85 0 0
 
 -- the paper's number of a refusal
 abbrev pub numberOf : Refusal → ℕ

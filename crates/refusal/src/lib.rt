@@ -86,6 +86,8 @@ pub enum Refusal {
     StreamSectors,
     // 81: sidedefs as they arrive, more bytes than a file has
     StreamLength,
+    // 85: why a map is judged as it is, an output buffer under what is printed
+    ReasonRoom,
 }
 
 // What a check answers.
@@ -144,6 +146,7 @@ pub fn row_of(r: Refusal) -> Row
         Refusal::RecordFields => Row(61, 0, 0),
         Refusal::StreamSectors => Row(80, 0, 0),
         Refusal::StreamLength => Row(81, 0, 0),
+        Refusal::ReasonRoom => Row(85, 0, 0),
     }
 }
 
