@@ -3,4 +3,5 @@
 pub mod Passing
 pub mod Answers
 pub mod Numbers
+pub mod Refusing
 pub mod Demands

@@ -1,4 +1,4 @@
--- Which numbers the checks of a map give: none above 30 before the node graph is judged. Assumes nothing.
+-- Which numbers the checks of a map give: none above 22 before the records are looked at, none above 30 before the node graph is judged. Assumes nothing.
 use Prim.Native.Nat.{ℕ, _+_, _*_, _≤_}
 use mathlib.Core.Bool.{Bool}
 use mathlib.Core.List.{List}
@@ -9,7 +9,7 @@ use Rattle.refusal.specs.declared.Refusal.{Refusal}
 use Rattle.refusal.specs.declared.Refusal.the-variants.{MarkerRun, RecordSize, RecordCount, RejectLength, LinedefReference, SidedefReference, SegReference, SubsectorReference, NodeReference, Blockmap, WorkWords}
 use Rattle.refusal.specs.Table.{numberOf}
 use Rattle.refusal.specs.Checks.{unless, each}
-use Rattle.refusal.proofs.Numbers.{AtMost, unless-atMost, andThen-atMost, each-atMost}
+use Rattle.refusal.proofs.Numbers.{AtMost, unless-atMost, andThen-atMost, each-atMost, atMost-more}
 use Rattle.wad.specs.Lump.{entrySize}
 use Rattle.table.specs.Lumps.{lumpName, LINEDEFS, SIDEDEFS, VERTEXES, SEGS, SSECTORS, NODES, SECTORS, REJECT, BLOCKMAP}
 use Rattle.field.specs.Records.{recordBytes}
@@ -31,18 +31,18 @@ use Rattle.level.specs.References.{linedefsCheck, sidedefsCheck, segsChe
 use Rattle.level.specs.Verdict.{mapCheck}
 
 -- a scan of tests
-tests : (ok : ℕ → Bool) (r : ℕ → Refusal) → ((i : ℕ) → numberOf (r i) ≤ 30) → (n : ℕ)
-    → AtMost 30 (each (λ i. unless (ok i) (r i)) n)
+tests : {most : ℕ} (ok : ℕ → Bool) (r : ℕ → Refusal) → ((i : ℕ) → numberOf (r i) ≤ most) → (n : ℕ)
+    → AtMost most (each (λ i. unless (ok i) (r i)) n)
 tests ok r h n = each-atMost _ (λ i. unless-atMost (ok i) (r i) (h i)) n
 
-run : (dir : List ℕ) (count marker : ℕ) → AtMost 30 (runCheck dir count marker)
-run dir count marker =
+pub run-atMost : (dir : List ℕ) (count marker : ℕ) → AtMost 22 (runCheck dir count marker)
+run-atMost dir count marker =
     andThen-atMost _ _ (unless-atMost (eqb (entrySize dir marker) 0) (MarkerRun 0) (omega arith))
     (tests (λ i. namedOk dir count (marker + (i + 1)) (lumpName (i + 1))) (λ i. MarkerRun (i + 1)) (λ i. omega arith) 10)
 
 module _ (hexen : Bool) (lumps : List (List ℕ)) where
-  sizes : AtMost 30 (sizesCheck hexen lumps)
-  sizes =
+  pub sizes-atMost : AtMost 22 (sizesCheck hexen lumps)
+  sizes-atMost =
       andThen-atMost _ _
       (each-atMost (λ i. sizeCheck hexen lumps (i + 1)) (λ i.
       andThen-atMost _ _ (unless-atMost (wholeOk hexen lumps (i + 1)) (RecordSize (i + 1)) (omega arith))
@@ -71,8 +71,8 @@ pub map-atMost : (dir : List ℕ) (count marker : ℕ) (lumps : List (List ℕ))
     → AtMost 30 (mapCheck dir count marker lumps lent)
 map-atMost dir count marker lumps lent =
     let hexen = gameAt dir count marker in
-    andThen-atMost (runCheck dir count marker) _ (run dir count marker)
-    (andThen-atMost (sizesCheck hexen lumps) _ (sizes hexen lumps)
+    andThen-atMost (runCheck dir count marker) _ (atMost-more (runCheck dir count marker) (omega arith) (run-atMost dir count marker))
+    (andThen-atMost (sizesCheck hexen lumps) _ (atMost-more (sizesCheck hexen lumps) (omega arith) (sizes-atMost hexen lumps))
     (andThen-atMost (referencesCheck hexen lumps) _ (references hexen lumps)
     (andThen-atMost _ _ (blockmaps (mapLump lumps BLOCKMAP) (recordCount lumps LINEDEFS (linedefSize hexen)))
     (unless-atMost (leb (4 * recordCount lumps NODES nodeSize) lent) WorkWords (omega arith)))))

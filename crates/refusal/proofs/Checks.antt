@@ -41,6 +41,23 @@ pub andThen-pass : (a b : Check) → a andThen b ≡ Pass → (a ≡ Pass) × (b
 andThen-pass Pass b e = (refl, e)
 andThen-pass (Refused r) b e = let z : _≡_ {A = ℕ} 0 1 = cc in absurd (omega arith)
 
+-- the refusal of a refused check
+abbrev refusalIn : Refusal → Check → Refusal
+refusalIn r Pass = r
+refusalIn r (Refused s) = s
+
+pub refused-same : {r s : Refusal} → Refused r ≡ Refused s → r ≡ s
+refused-same {r} e = ap (refusalIn r) e
+
+pub unless-named : (b : Bool) (r : Refusal) {s : Refusal} → unless b r ≡ Refused s → r ≡ s
+unless-named true r e = let z : _≡_ {A = ℕ} 0 1 = cc in absurd (omega arith)
+unless-named false r e = refused-same e
+
+-- a row is refused by its first check or by its second
+pub andThen-by : {X : Type 0} (a b : Check) {r : Refusal} → a andThen b ≡ Refused r → (a ≡ Refused r → X) → (b ≡ Refused r → X) → X
+andThen-by Pass b e first second = second e
+andThen-by (Refused s) b e first second = first e
+
 -- ---- a scan
 
 module _ (f : ℕ → Check) where
@@ -80,3 +97,11 @@ module _ (f : ℕ → Check) where
   each-pass (suc n) e i h =
       let both = andThen-pass (each f n) (f n) (sym (each-suc n) ∙ e) in
       ⊎-elim (λ (q : i ≡ n). rw q (both .1)) (λ (l : i < n). each-pass n (both .0) i l) (eq-or-lt-of-le (le-of-suc-le-suc h))
+
+  -- a scan that is refused is refused by one of its checks
+  pub each-by : (n : ℕ) {r : Refusal} → each f n ≡ Refused r → (i : ℕ) × ((i < n) × (f i ≡ Refused r))
+  each-by zero e = let z : _≡_ {A = ℕ} 0 1 = (let p = each-none in cc) in absurd (omega arith)
+  each-by (suc n) {r} e =
+      andThen-by {X = (i : ℕ) × ((i < suc n) × (f i ≡ Refused r))} (each f n) (f n) (sym (each-suc n) ∙ e)
+      (λ q. let (i, (h, t)) = each-by n q in (i, (omega arith, t)))
+      (λ q. (n, (omega arith, q)))

@@ -1,7 +1,7 @@
 -- Which numbers a check can give: a bound on the parts of a row or a scan is a bound on the whole. Assumes nothing.
-use Prim.Native.Nat.{ℕ, zero, suc, _≤_}
+use Prim.Native.Nat.{ℕ, zero, suc, _≤_, _<_}
 use mathlib.Core.Bool.{Bool, true, false}
-use mathlib.Core.Path.{_≡_, ap}
+use mathlib.Core.Path.{_≡_, refl, ap}
 use native.Mathlib.Omega.{arith}
 use Rattle.refusal.specs.declared.Refusal.{Refusal}
 use Rattle.refusal.specs.declared.Check.{Check}
@@ -31,3 +31,12 @@ module _ {most : ℕ} where
   unfolding each
   each-atMost f h zero r e = let z : _≡_ {A = ℕ} 0 1 = cc in absurd (omega arith)
   each-atMost f h (suc n) r e = andThen-atMost (each f n) (f n) (each-atMost f h n) (h n) r e
+
+-- a refusal with a larger number is the second check's
+pub andThen-late : {most : ℕ} (a b : Check) {r : Refusal} → AtMost most a → a andThen b ≡ Refused r → most < numberOf r
+    → (a ≡ Pass) × (b ≡ Refused r)
+andThen-late Pass b h e k = (refl, e)
+andThen-late (Refused s) b {r} h e k = let p = h s refl in let q : numberOf s ≡ numberOf r = ap numberIn e in absurd (omega arith)
+
+pub atMost-more : {low high : ℕ} (a : Check) → low ≤ high → AtMost low a → AtMost high a
+atMost-more a k h r e = let p = h r e in omega arith
