@@ -102,7 +102,7 @@ abbrev numberIn : Verdict → ℕ
 numberIn (Accepted depth marker) = 0
 numberIn (NotAccepted r) = numberOf r
 
-graph-loop : (g : Graph) (m : ℕ) → graphAnswer g m ≡ NotAccepted NodeLoop → g ≡ HasLoop
+pub graph-loop : (g : Graph) (m : ℕ) → graphAnswer g m ≡ NotAccepted NodeLoop → g ≡ HasLoop
 graph-loop HasLoop m e = refl
 graph-loop HasShared m e = let z : _≡_ {A = ℕ} 31 32 = ap numberIn (sym e) in absurd (omega arith)
 graph-loop (HasDepth d) m e = let z : _≡_ {A = ℕ} 0 1 = cc in absurd (omega arith)
@@ -155,7 +155,7 @@ module _ (wad name words : List ℕ) where
   known d m q = known-by (markerAnswer wad name) refl q
 
   -- a map that is refused with a number above 30 passes every check below it, and is refused for its graph
-  graph-by : (a : Marker) (s : Refusal) → 30 < numberOf s → markerAnswer wad name ≡ a → verdictBy wad words a ≡ NotAccepted s
+  pub graph-by : (a : Marker) (s : Refusal) → 30 < numberOf s → markerAnswer wad name ≡ a → verdictBy wad words a ≡ NotAccepted s
       → (m : ℕ) × (Below31 wad name words m × (graphAnswer (graphVerdict (nodesAt wad m)) m ≡ NotAccepted s))
   graph-by (NoMarker r) s k e q = let h = marker-atMost wad name r e in absurd (not-above r s (omega arith) k q)
   graph-by (Entry m) s k e q =
@@ -179,13 +179,16 @@ module _ (wad name words : List ℕ) where
       (m, (b, (none, holds .shared none .0 is)))
 
   -- what the descent and the count of subsectors rely on
-  pub known-passed : (d m : ℕ) → Known d m → Passed (nodesAt wad m) (subsectorsAt wad m)
-  known-passed d m k =
+  pub below-passed : (m : ℕ) → Below31 wad name words m → Passed (nodesAt wad m) (subsectorsAt wad m)
+  below-passed m b =
       let dir = directoryOf wad in
       let lumps = mapLumps wad dir m in
       let hexen = gameAt dir (entryCount (headOf wad)) m in
-      let rest = andThen-pass (runCheck dir (entryCount (headOf wad)) m) (lumpsCheck hexen lumps (length words)) (k .below .passes) .1 in
+      let rest = andThen-pass (runCheck dir (entryCount (headOf wad)) m) (lumpsCheck hexen lumps (length words)) (b .passes) .1 in
       passed hexen lumps (length words) rest
+
+  pub known-passed : (d m : ℕ) → Known d m → Passed (nodesAt wad m) (subsectorsAt wad m)
+  known-passed d m k = below-passed m (k .below)
 
   one-more-of : (d m : ℕ) → Known d m → OneMore (nodesAt wad m)
   one-more-of d m k =

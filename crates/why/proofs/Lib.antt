@@ -1,0 +1,4 @@
+-- The laws of reasons. Assumes nothing.
+
+pub mod Counting
+pub mod Printing

@@ -1,0 +1,56 @@
+-- The record, header or cell that a refusal 23 to 28 names, in a map's lumps: its bytes, and its fields with their ranges in byte order
+-- (02, W-211). Assumes nothing.
+use Prim.Native.Nat.{ℕ}
+use mathlib.Core.Bool.{Bool, _&&_, cond}
+use mathlib.Core.List.{List}
+use lib.Dec.{leb, eqb}
+use Rattle.range.specs.declared.Field.{Field}
+use Rattle.range.specs.Fields.{firstOut}
+use Rattle.field.specs.Records.{recordBytes}
+use Rattle.linedef.specs.Linedefs.{linedefSize}
+use Rattle.record.specs.Sidedefs.{sidedefSize}
+use Rattle.record.specs.Vertexes.{vertexSize}
+use Rattle.record.specs.Sectors.{sectorSize}
+use Rattle.built.specs.Segs.{segSize}
+use Rattle.built.specs.Subsectors.{subsectorSize}
+use Rattle.built.specs.Nodes.{nodeSize}
+use Rattle.reason.specs.RecordFields.{linedefFields, sidedefFields, segFields, subsectorFields, nodeFields}
+use Rattle.blocklist.specs.Fields.{blockmapFields}
+use Rattle.table.specs.Lumps.{LINEDEFS, SIDEDEFS, VERTEXES, SEGS, SSECTORS, NODES, SECTORS, BLOCKMAP}
+use Rattle.lump.specs.Lumps.{mapLump, recordCount}
+
+-- 23 to 28
+abbrev pub fieldOk : ℕ → Bool
+fieldOk number = leb 23 number && leb number 28
+
+-- one of six by the refusal's number
+abbrev pub byNumber : {A : Type 0} → ℕ → A → A → A → A → A → A → A
+byNumber number linedef sidedef seg subsector node blockmap =
+    cond (eqb number 23) linedef (cond (eqb number 24) sidedef (cond (eqb number 25) seg
+    (cond (eqb number 26) subsector (cond (eqb number 27) node blockmap))))
+
+-- the bytes of record `i`; with 28 the whole lump
+abbrev pub namedBytes : Bool → List (List ℕ) → ℕ → ℕ → List ℕ
+namedBytes hexen lumps number i =
+    byNumber number
+    (recordBytes (mapLump lumps LINEDEFS) (linedefSize hexen) i)
+    (recordBytes (mapLump lumps SIDEDEFS) sidedefSize i)
+    (recordBytes (mapLump lumps SEGS) segSize i)
+    (recordBytes (mapLump lumps SSECTORS) subsectorSize i)
+    (recordBytes (mapLump lumps NODES) nodeSize i)
+    (mapLump lumps BLOCKMAP)
+
+-- its fields; with 28 those of the header and of cell `i`
+abbrev pub namedFields : Bool → List (List ℕ) → ℕ → ℕ → List Field
+namedFields hexen lumps number i =
+    byNumber number
+    (linedefFields hexen (recordBytes (mapLump lumps LINEDEFS) (linedefSize hexen) i) (recordCount lumps VERTEXES vertexSize) (recordCount lumps SIDEDEFS sidedefSize))
+    (sidedefFields (recordBytes (mapLump lumps SIDEDEFS) sidedefSize i) (recordCount lumps SECTORS sectorSize))
+    (segFields hexen (mapLump lumps LINEDEFS) (recordBytes (mapLump lumps SEGS) segSize i) (recordCount lumps VERTEXES vertexSize))
+    (subsectorFields (recordBytes (mapLump lumps SSECTORS) subsectorSize i) (recordCount lumps SEGS segSize))
+    (nodeFields (recordBytes (mapLump lumps NODES) nodeSize i) (recordCount lumps NODES nodeSize) (recordCount lumps SSECTORS subsectorSize))
+    (blockmapFields (mapLump lumps BLOCKMAP) (recordCount lumps LINEDEFS (linedefSize hexen)) i)
+
+-- the first that is out of its range
+abbrev pub namedField : Bool → List (List ℕ) → ℕ → ℕ → Field
+namedField hexen lumps number i = firstOut (namedFields hexen lumps number i)
