@@ -2,3 +2,4 @@
 
 pub mod Counting
 pub mod Printing
+pub mod Reasons
