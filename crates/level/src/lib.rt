@@ -11,7 +11,7 @@ ghost use Rattle.bsp.specs.Nodes.{nodesOf};
 ghost use Rattle.graph.specs.Judging.{Judgeable};
 ghost use Rattle.lump.specs.Lumps.{mapLumps};
 ghost use Rattle.level.specs.Inner.{AnsweredBy};
-ghost use Rattle.level.specs.Verdict.{mapCheck, Answered, AnsweredAt};
+ghost use Rattle.level.specs.Verdict.{mapCheck, graphAnswer, Answered, AnsweredAt};
 use bsp::Graph;
 use built::Node;
 use refusal::Check;
@@ -64,7 +64,14 @@ fn judge_graph(nodes: &[u8], marker: usize, words: &mut [u16]) -> Verdict
     requires { ⌜ Judgeable (now nodes) (nodesOf (now nodes)) (now words) ⌝ }
     ensures { λ r. ⌜ AnsweredBy (now (nodes .entry)) marker (now (words .entry)) r (now (words .exit)) ⌝ }
 {
-    match graph::judge(nodes, nodes.len() / Node::SIZE, words) {
+    verdict_of(graph::judge(nodes, nodes.len() / Node::SIZE, words), marker)
+}
+
+// A graph's verdict as the map's.
+pub fn verdict_of(graph: Graph, marker: usize) -> Verdict
+    ensures { λ r. ⌜ r ≡ graphAnswer graph marker ⌝ }
+{
+    match graph {
         Graph::HasLoop => Verdict::Refused(Refusal::NodeLoop),
         Graph::HasShared => Verdict::Refused(Refusal::NodeShared),
         Graph::HasDepth(depth) => Verdict::Accepted { depth, marker },

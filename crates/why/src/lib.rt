@@ -12,11 +12,9 @@ ghost use Rattle.bsp.specs.Nodes.{nodesOf};
 ghost use Rattle.graph.specs.Judging.{Judgeable};
 ghost use Rattle.lump.specs.Lumps.{mapLumps};
 ghost use Rattle.run.specs.Games.{gameAt};
-ghost use Rattle.level.specs.Verdict.{graphAnswer};
 ghost use Rattle.why.specs.Named.{fieldOk};
 ghost use Rattle.why.specs.Printing.{answerBy, ReasonTold, ReasonToldAt};
 ghost use Rattle.why.specs.Inner.{RefusedBelow, RefusalTold, GraphTold};
-use bsp::Graph;
 use built::Node;
 use level::Verdict;
 use refusal::Check;
@@ -112,17 +110,7 @@ fn tell_graph(nodes: &[u8], marker: usize, words: &mut [u16], out: &mut [u8]) ->
     let room = out.len();
     let told = way::judge(nodes, nodes.len() / Node::SIZE, words, out);
     let graph = told.verdict;
-    answer(verdict_of(graph, marker), told.length, room)
-}
-
-fn verdict_of(graph: Graph, marker: usize) -> Verdict
-    ensures { λ r. ⌜ r ≡ graphAnswer graph marker ⌝ }
-{
-    match graph {
-        Graph::HasLoop => Verdict::Refused(Refusal::NodeLoop),
-        Graph::HasShared => Verdict::Refused(Refusal::NodeShared),
-        Graph::HasDepth(depth) => Verdict::Accepted { depth, marker },
-    }
+    answer(level::verdict_of(graph, marker), told.length, room)
 }
 
 // 85 where there is no room.

@@ -1,5 +1,5 @@
 -- `level::judge_graph` meets its contract, by the graph's verdict. Assumes nothing.
-use mathlib.Core.Path.{sym, ap, _∙_}
+use mathlib.Core.Path.{ap, _∙_}
 use Rattle.bsp.specs.declared.Graph.{Graph}
 use Rattle.level.specs.Verdict.{graphAnswer}
 use borrow.Author.Needs.{needs}
@@ -8,33 +8,12 @@ use Rattle.level.proofs.judge_graph.Tie as tie
 
 returns : tie.Need-returns
 returns c =
-    let e = c .before .before .before .before .before .before .before .before in
-    let g = c .before .before .before .before .judge .ensures in
+    let e = c .before .before .before .before .before .before .before in
+    let g = c .before .before .before .judge .ensures in
     record {
-      verdicts = ap (λ (a : Graph). graphAnswer a (e .args .marker)) (sym (c .enum-told .given .1) ∙ g .verdict);
-      leaves = g .words;
-    }
-
-returns-2 : tie.Need-returns-2
-returns-2 c =
-    let e = c .before .before .before .before .before .before .before .before in
-    let g = c .before .before .before .before .judge .ensures in
-    record {
-      verdicts = ap (λ (a : Graph). graphAnswer a (e .args .marker)) (sym (c .enum-told2 .given .1) ∙ g .verdict);
-      leaves = g .words;
-    }
-
-returns-3 : tie.Need-returns-3
-returns-3 c =
-    let e = c .before .before .before .before .before .before .before .before .before in
-    let g = c .before .before .before .before .before .judge .ensures in
-    record {
-      verdicts = ap (λ (a : Graph). graphAnswer a (e .args .marker)) (sym (c .before .depth .given .1) ∙ g .verdict);
+      verdicts = c .verdict-of .ensures ∙ ap (λ (a : Graph). graphAnswer a (e .args .marker)) (g .verdict);
       leaves = g .words;
     }
 
 pub judge-graph-spec : {M : Type 1} → statement M
-judge-graph-spec =
-    tie.close
-    (tie.spec (λ c κs. search needs) (λ c. search needs) (λ c. search needs) (λ c. search needs)
-    (λ c. search needs) returns (λ c. search needs) returns-2 (λ c. search needs) returns-3)
+judge-graph-spec = tie.close (tie.spec (λ c κs. search needs) (λ c κs. search needs) (λ c. search needs) returns)

@@ -1,10 +1,10 @@
--- `why::verdict_of` meets its contract, case by case. Assumes nothing.
+-- `level::verdict_of` meets its contract, case by case. Assumes nothing.
 use mathlib.Core.Path.{sym, ap}
 use Rattle.bsp.specs.declared.Graph.{Graph}
 use Rattle.level.specs.Verdict.{graphAnswer}
 use borrow.Author.Needs.{needs}
-use Rattle.why.proofs.verdict_of.Statement.{statement}
-use Rattle.why.proofs.verdict_of.Tie as tie
+use Rattle.level.proofs.verdict_of.Statement.{statement}
+use Rattle.level.proofs.verdict_of.Tie as tie
 
 returns : tie.Need-returns
 returns c = ap (λ (a : Graph). graphAnswer a (c .before .before .args .marker)) (sym (c .enum-told .given .1))
