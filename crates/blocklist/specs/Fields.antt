@@ -7,11 +7,8 @@ use lib.Dec.{ltb, eqb}
 use lib.ListN.{length}
 use Rattle.range.specs.declared.Field.{Field}
 use Rattle.range.specs.Fields.{fieldAt, FieldFits}
+use Rattle.wad.specs.Header.{mostBytes}
 use Rattle.blockmap.specs.Blockmap.{wordsOf, wordAt, cellsOf, listEnd}
-
--- the most bytes of a lump, as of a file
-abbrev pub mostBytes : ℕ
-mostBytes = 16777216
 
 -- the lump's size, which must be `least` bytes or more
 abbrev pub sizeField : List ℕ → ℕ → Field

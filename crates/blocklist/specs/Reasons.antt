@@ -12,7 +12,8 @@ use Rattle.refusal.specs.declared.Refusal.the-variants.{Blockmap}
 use Rattle.range.specs.declared.Field.{Field}
 use Rattle.range.specs.Fields.{allIn, firstOut, FirstOut}
 use Rattle.blockmap.specs.Blockmap.{wordAt, headerOk, listOk, blockmapCheck}
-use Rattle.blocklist.specs.Fields.{mostBytes, headerFields, cellFields, blockmapFields}
+use Rattle.wad.specs.Header.{mostBytes}
+use Rattle.blocklist.specs.Fields.{headerFields, cellFields, blockmapFields}
 
 -- the lump's size
 pub record SizeTold (lump : List ℕ) (f : Field) : Type 0 where
@@ -25,7 +26,7 @@ pub record WordTold (lump : List ℕ) (f : Field) : Type 0 where
   pub word : f .number ≡ u16At lump (f .offset)
 
 -- a lump that is refused for its header, or for cell `i`
-pub record Reasoned (lump : List ℕ) (linedefs i : ℕ) (f : Field) : Type 0 where
+pub record LumpReasoned (lump : List ℕ) (linedefs i : ℕ) (f : Field) : Type 0 where
   -- `f` is out of its range, and all before it, of the header and the cell, are in theirs
   pub first : FirstOut (blockmapFields lump linedefs i) f
   -- it holds what stands there
@@ -39,4 +40,4 @@ pub record BlockmapReasoned : Type 0 where
       → listOk lump linedefs (wordAt lump (4 + i)) ≡ allIn (cellFields lump linedefs i)
   -- where 28 is answered there is a reason
   pub refused : (lump : List ℕ) (linedefs i : ℕ) → length lump ≤ mostBytes → 1 ≤ linedefs
-      → blockmapCheck lump linedefs ≡ Refused (Blockmap i) → Reasoned lump linedefs i (firstOut (blockmapFields lump linedefs i))
+      → blockmapCheck lump linedefs ≡ Refused (Blockmap i) → LumpReasoned lump linedefs i (firstOut (blockmapFields lump linedefs i))

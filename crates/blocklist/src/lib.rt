@@ -6,11 +6,10 @@ ghost use Prim.Native.Nat.{_+_, _-_, _<_, _≤_};
 ghost use lib.ListN.{length};
 ghost use Rattle.blockmap.specs.Blockmap.{wordsOf, wordAt, cellsOf};
 ghost use Rattle.range.specs.Fields.{firstOut};
+ghost use Rattle.wad.specs.Header.{mostBytes};
 ghost use Rattle.blocklist.specs.Fields.{sizeField, wordField, lengthFields, numberFields, cellFields, fieldsIfCell, blockmapFields, FitsIf};
 use range::Field;
-
-// The most bytes of a lump.
-const MOST: usize = 16777216;
+use wad::MOST_BYTES;
 
 // The mark that ends a list.
 const LIST_END: usize = 65535;
@@ -37,7 +36,7 @@ pub fn offending(lump: &[u8], linedefs: usize, cell: usize) -> Field
 // What comes after the rows.
 fn after_rows(lump: &[u8], cells: usize, linedefs: usize, cell: usize) -> Field
     requires { ⌜ (cells ≡ cellsOf (now lump)) × (cells ≤ 262144) ⌝ }
-    requires { ⌜ (8 ≤ length (now lump)) × (length (now lump) ≤ 16777216) ⌝ }
+    requires { ⌜ (8 ≤ length (now lump)) × (length (now lump) ≤ mostBytes) ⌝ }
     ensures { λ r. ⌜ r ≡ firstOut (lengthFields (now (lump .entry)) ++ fieldsIfCell (now (lump .entry)) linedefs cell) ⌝ }
 {
     let offsets = size_field(lump, 8 + 2 * cells);
@@ -57,7 +56,7 @@ fn after_rows(lump: &[u8], cells: usize, linedefs: usize, cell: usize) -> Field
 // The fields of a cell, where the header is good.
 fn of_cell(lump: &[u8], cells: usize, linedefs: usize, cell: usize) -> Field
     requires { ⌜ (cells ≡ cellsOf (now lump)) × (cell < cells) ⌝ }
-    requires { ⌜ (4 + cells ≤ wordsOf (now lump)) × (length (now lump) ≤ 16777216) ⌝ }
+    requires { ⌜ (4 + cells ≤ wordsOf (now lump)) × (length (now lump) ≤ mostBytes) ⌝ }
     ensures { λ r. ⌜ r ≡ firstOut (cellFields (now (lump .entry)) linedefs cell) ⌝ }
 {
     let offset = word_field(lump, 4 + cell, 4 + cells, lump.len() / 2 - 1);
@@ -73,7 +72,7 @@ fn of_cell(lump: &[u8], cells: usize, linedefs: usize, cell: usize) -> Field
 
 // The words from `first` on, up to the mark.
 fn of_numbers(lump: &[u8], linedefs: usize, first: usize) -> Field
-    requires { ⌜ (first ≤ wordsOf (now lump)) × (length (now lump) ≤ 16777216) ⌝ }
+    requires { ⌜ (first ≤ wordsOf (now lump)) × (length (now lump) ≤ mostBytes) ⌝ }
     ensures { λ r. ⌜ r ≡ firstOut (numberFields (now (lump .entry)) linedefs (wordsOf (now (lump .entry)) - first)) ⌝ }
 {
     let last = less_one(linedefs);
@@ -102,7 +101,7 @@ fn size_field(lump: &[u8], least: usize) -> Field
         offset: 0,
         number: lump.len(),
         least,
-        most: MOST,
+        most: MOST_BYTES,
     }
 }
 

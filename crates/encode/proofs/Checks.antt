@@ -19,7 +19,7 @@ use Rattle.picture.specs.declared.Picture.{Picture}
 use Rattle.canvas.specs.Pixels.{bufferAfter}
 use Rattle.encode.specs.declared.Encoding.{Encoding}
 use Rattle.encode.specs.Lump.{headerBytes, writtenOf, writtenLength}
-use Rattle.encode.specs.Encoding.{roomCheck, givenCheck, encodeCheck, answerOf, Encoded}
+use Rattle.encode.specs.Encoding.{outputCheck, givenCheck, encodeCheck, encodingOf, Encoded}
 use Rattle.encode.proofs.Fits.{Fit}
 use Rattle.encode.proofs.Stores.{sets-append, sets-comm}
 use Rattle.encode.proofs.Lump.{offsets, columns, length-offsets, length-written}
@@ -35,7 +35,7 @@ module _ (picture : Picture) (colour cover : List ℕ) where
   -- ---- the check's outcomes
 
   pub given-refused : (room : ℕ) {r : Refusal} → givenCheck picture colour cover ≡ Refused r → encodeCheck picture colour cover room ≡ Refused r
-  given-refused room e = sym (refused-then (roomCheck (writtenLength picture cover) room) e)
+  given-refused room e = sym (refused-then (outputCheck (writtenLength picture cover) room) e)
 
   pub room-refused : (room : ℕ) → givenCheck picture colour cover ≡ Pass → room < writtenLength picture cover
       → encodeCheck picture colour cover room ≡ Refused EncodeRoom
@@ -71,10 +71,10 @@ module _ (picture : Picture) (colour cover : List ℕ) where
   -- ---- what encoding promises, from the check's outcome
 
   pub encoded-by : (out : List ℕ) (k : Check) {answer : Encoding} {out' : List ℕ} → encodeCheck picture colour cover (length out) ≡ k
-      → answer ≡ answerOf k (writtenLength picture cover) → out' ≡ bufferAfter k (writtenOf picture colour cover) out
+      → answer ≡ encodingOf k (writtenLength picture cover) → out' ≡ bufferAfter k (writtenOf picture colour cover) out
       → Encoded picture colour cover out answer out'
   encoded-by out k e a b =
       record {
-        answered = a ∙ ap (λ (k : Check). answerOf k (writtenLength picture cover)) (sym e);
+        answered = a ∙ ap (λ (k : Check). encodingOf k (writtenLength picture cover)) (sym e);
         leaves = b ∙ ap (λ (k : Check). bufferAfter k (writtenOf picture colour cover) out) (sym e);
       }

@@ -1,9 +1,9 @@
 -- The two lumps of specs/Examples are computed. Assumes nothing.
 use mathlib.Core.Path.{refl}
 use Rattle.canvas.specs.Pixels.{listOf}
-use Rattle.encode.specs.Runs.{sumOf, joined, runFrom}
+use Rattle.encode.specs.Runs.{sumOf, laidOut, runFrom}
 use Rattle.encode.specs.Examples.{Examples}
 
 pub examples : Examples
-unfolding sumOf joined runFrom listOf
+unfolding sumOf laidOut runFrom listOf
 examples = record { narrow-lump = refl; wide-lump = refl; wide-length = refl }

@@ -12,10 +12,10 @@ use lib.ListN.{length, length-append}
 use lib.Seq.{sets, length-sets}
 use Rattle.endian.specs.Unsigned.{putU32}
 use Rattle.picture.specs.declared.Picture.{Picture}
-use Rattle.encode.specs.Runs.{joined, aboveOf, begins, runFrom, postOf, postAt, columnBytes, columnLength}
+use Rattle.encode.specs.Runs.{laidOut, aboveOf, begins, runFrom, postOf, postAt, columnBytes, columnLength}
 use Rattle.encode.specs.Lump.{pixelAt, coveredAt, u32Bytes}
-use Rattle.encode.specs.Inner.{runBytes, offsetAt, offsetsTo, columnsTo}
-use Rattle.encode.proofs.Joined.{sum-more, joined-none, joined-suc, joined-more, length-joined-le}
+use Rattle.encode.specs.Inner.{runBytes, startOfColumn, offsetsTo, columnsTo}
+use Rattle.encode.proofs.LaidOut.{sum-more, laid-none, laid-suc, laid-more, length-laid-le}
 use Rattle.encode.proofs.Stores.{sets-append, sets-comm, sets-u32}
 use Rattle.encode.proofs.Runs.{run-most, run-covered, run-ends, length-ended, length-column}
 use Rattle.encode.proofs.Lump.{length-offsets, length-columns}
@@ -23,12 +23,12 @@ use Rattle.encode.proofs.Lump.{length-offsets, length-columns}
 module _ (colour : ℕ → ℕ) (covered : ℕ → Bool) (height : ℕ) where
   -- the posts of the runs that begin above row `n`
   abbrev pub posts : ℕ → List ℕ
-  posts n = joined (postAt colour covered height) n
+  posts n = laidOut (postAt colour covered height) n
 
   -- a row where no run begins adds nothing
   quiet-row : (row : ℕ) → begins covered row ≡ false → posts (suc row) ≡ posts row
   quiet-row row e =
-      joined-suc (postAt colour covered height) row
+      laid-suc (postAt colour covered height) row
       ∙ ap (λ (b : Bool). posts row ++ cond b (postOf colour row (runFrom covered row (height - row))) []) e
       ∙ append-nil (posts row)
 
@@ -57,7 +57,7 @@ module _ (colour : ℕ → ℕ) (covered : ℕ → Bool) (height : ℕ) where
       ∙ quiet (suc row) count (λ i l.
       let n : suc row + i ≡ suc (row + i) = omega arith in
       ap (begins covered) n ∙ below-covered (row + i) (inside i (omega arith)))
-      ∙ joined-suc (postAt colour covered height) row
+      ∙ laid-suc (postAt colour covered height) row
       ∙ ap (λ (b : Bool). posts row ++ cond b (postOf colour row (runFrom covered row (height - row))) []) first
       ∙ ap (λ (n : ℕ). posts row ++ postOf colour row n) (sym e)
 
@@ -121,7 +121,7 @@ module _ (colour : ℕ → ℕ) (covered : ℕ → Bool) (height : ℕ) where
         r,
         ap length (run-posts row count above e),
         length-append (posts row) (runBytes colour row count),
-        length-joined-le (postAt colour covered height) (row + count) height (run-rows row count h e),
+        length-laid-le (postAt colour covered height) (row + count) height (run-rows row count h e),
         length-ended colour covered height,
       )
 
@@ -139,8 +139,8 @@ module _ (width height : ℕ) (colour cover : List ℕ) where
   stored-none out =
       sym (
       rw (
-        joined-none (λ column. u32Bytes (offsetAt width height cover column)),
-        joined-none (λ column. columnBytes (pixelAt colour width column) (coveredAt cover width column) height),
+        laid-none (λ column. u32Bytes (startOfColumn width height cover column)),
+        laid-none (λ column. columnBytes (pixelAt colour width column) (coveredAt cover width column) height),
       )
       )
 
@@ -150,8 +150,8 @@ module _ (width height : ℕ) (colour cover : List ℕ) where
       ∙ length-sets out 8 (offsetsTo width height cover n)
 
   pub offset-more : (n : ℕ)
-      → offsetAt width height cover (n + 1)
-      ≡ offsetAt width height cover n + length (columnBytes (pixelAt colour width n) (coveredAt cover width n) height)
+      → startOfColumn width height cover (n + 1)
+      ≡ startOfColumn width height cover n + length (columnBytes (pixelAt colour width n) (coveredAt cover width n) height)
   offset-more n =
       omega (
         arith,
@@ -160,7 +160,7 @@ module _ (width height : ℕ) (colour cover : List ℕ) where
       )
 
   -- one column more
-  pub stored-more : (out₀ : List ℕ) (n to : ℕ) {out mid last : List ℕ} → n < width → to ≡ offsetAt width height cover n
+  pub stored-more : (out₀ : List ℕ) (n to : ℕ) {out mid last : List ℕ} → n < width → to ≡ startOfColumn width height cover n
       → out ≡ stored out₀ n → mid ≡ putU32 out (8 + 4 * n) to
       → last ≡ sets mid to (columnBytes (pixelAt colour width n) (coveredAt cover width n) height)
       → last ≡ stored out₀ (n + 1)
@@ -171,8 +171,8 @@ module _ (width height : ℕ) (colour cover : List ℕ) where
       let table = 8 + 4 * width in
       let offsets : sets (sets out₀ 8 (O n)) (8 + 4 * n) (u32Bytes to) ≡ sets out₀ 8 (O (n + 1)) =
       rw (← length-offsets (sized width height) colour cover n, t) (
-      sets-append out₀ 8 (O n) (u32Bytes (offsetAt width height cover n))
-      ∙ ap (sets out₀ 8) (sym (joined-more (λ column. u32Bytes (offsetAt width height cover column)) n))
+      sets-append out₀ 8 (O n) (u32Bytes (startOfColumn width height cover n))
+      ∙ ap (sets out₀ 8) (sym (laid-more (λ column. u32Bytes (startOfColumn width height cover column)) n))
       ) in
       let first : mid ≡ sets (sets out₀ 8 (O (n + 1))) table (C n) =
       m
@@ -185,4 +185,4 @@ module _ (width height : ℕ) (colour cover : List ℕ) where
       ∙ (λ i. sets (first i) (place i) column)
       ∙ sets-append (sets out₀ 8 (O (n + 1))) table (C n) column
       ∙ ap (sets (sets out₀ 8 (O (n + 1))) table)
-      (sym (joined-more (λ column. columnBytes (pixelAt colour width column) (coveredAt cover width column) height) n))
+      (sym (laid-more (λ column. columnBytes (pixelAt colour width column) (coveredAt cover width column) height) n))

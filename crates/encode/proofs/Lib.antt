@@ -1,6 +1,6 @@
 -- The laws of encoding. Assumes nothing.
 
-pub mod Joined
+pub mod LaidOut
 pub mod Runs
 pub mod Stores
 pub mod Inner

@@ -6,10 +6,10 @@ use mathlib.Core.Path.{_≡_, refl, _∙_}
 use native.Mathlib.Omega.{arith}
 use lib.ListN.{length, length-append}
 use Rattle.picture.specs.declared.Picture.{Picture}
-use Rattle.encode.specs.Runs.{sumOf, joined, begins, columnLength}
-use Rattle.encode.specs.Lump.{pixelAt, coveredAt, columnOf, lengthOf, offsetOf, u32Bytes, writtenOf, writtenLength}
-use Rattle.encode.specs.Inner.{offsetAt}
-use Rattle.encode.proofs.Joined.{sum-none, sum-suc, sum-most, count-most, length-joined}
+use Rattle.encode.specs.Runs.{sumOf, laidOut, begins, columnLength}
+use Rattle.encode.specs.Lump.{pixelAt, coveredAt, columnOf, columnSize, columnStart, u32Bytes, writtenOf, writtenLength}
+use Rattle.encode.specs.Inner.{startOfColumn}
+use Rattle.encode.proofs.LaidOut.{sum-none, sum-suc, sum-most, count-most, length-laid}
 use Rattle.encode.proofs.Runs.{length-column}
 
 sum-fours : (n : ℕ) → sumOf (λ i. 4) n ≡ 4 * n
@@ -17,22 +17,22 @@ sum-fours zero = sum-none (λ i. 4)
 sum-fours (suc n) = let k = sum-fours n in omega (arith, sum-suc (λ i. 4) n)
 
 -- numbers of four bytes
-length-fours : (f : ℕ → ℕ) (n : ℕ) → length (joined (λ i. u32Bytes (f i)) n) ≡ 4 * n
-length-fours f n = length-joined (λ i. u32Bytes (f i)) (λ i. 4) n (λ i l. refl) ∙ sum-fours n
+length-fours : (f : ℕ → ℕ) (n : ℕ) → length (laidOut (λ i. u32Bytes (f i)) n) ≡ 4 * n
+length-fours f n = length-laid (λ i. u32Bytes (f i)) (λ i. 4) n (λ i l. refl) ∙ sum-fours n
 
 module _ (picture : Picture) (colour cover : List ℕ) where
   abbrev pub offsets : ℕ → List ℕ
-  offsets n = joined (λ column. u32Bytes (offsetOf picture cover column)) n
+  offsets n = laidOut (λ column. u32Bytes (columnStart picture cover column)) n
 
   abbrev pub columns : ℕ → List ℕ
-  columns n = joined (columnOf picture colour cover) n
+  columns n = laidOut (columnOf picture colour cover) n
 
   pub length-offsets : (n : ℕ) → length (offsets n) ≡ 4 * n
-  length-offsets n = length-fours (offsetOf picture cover) n
+  length-offsets n = length-fours (columnStart picture cover) n
 
-  pub length-columns : (n : ℕ) → length (columns n) ≡ sumOf (lengthOf picture cover) n
+  pub length-columns : (n : ℕ) → length (columns n) ≡ sumOf (columnSize picture cover) n
   length-columns n =
-      length-joined (columnOf picture colour cover) (lengthOf picture cover) n
+      length-laid (columnOf picture colour cover) (columnSize picture cover) n
       (λ i l. length-column (pixelAt colour (picture .width) i) (coveredAt cover (picture .width) i) (picture .height))
 
   pub length-written : length (writtenOf picture colour cover) ≡ writtenLength picture cover
@@ -48,7 +48,7 @@ column-most covered height h = omega (arith, count-most (begins covered) height,
 
 -- 8 + 4 × 320 + 320 × 1001
 pub offset-most : (width height : ℕ) (cover : List ℕ) (n : ℕ) → width ≤ 320 → height ≤ 200 → n ≤ width
-    → offsetAt width height cover n ≤ 321608
+    → startOfColumn width height cover n ≤ 321608
 offset-most width height cover n w h l =
     let lengths : ℕ → ℕ = λ column. columnLength (coveredAt cover width column) height in
     let sum = sum-most lengths 1001 n (λ i. column-most (coveredAt cover width i) height h) in

@@ -9,21 +9,21 @@ use native.Mathlib.Omega.{arith}
 use lib.ListN.{length, getD, List·getD-append}
 use Rattle.canvas.specs.Pixels.{listOf}
 use Rattle.canvas.proofs.Planes.{length-listOf, getD-listOf}
-use Rattle.encode.specs.Runs.{joined, aboveOf, begins, runFrom, postOf, postAt, columnBytes}
-use Rattle.encode.proofs.Joined.{joined-none, joined-suc, length-joined-suc}
+use Rattle.encode.specs.Runs.{laidOut, aboveOf, begins, runFrom, postOf, postAt, columnBytes}
+use Rattle.encode.proofs.LaidOut.{laid-none, laid-suc, length-laid-suc}
 use Rattle.encode.proofs.Runs.{run-suc, run-most, length-post, run-covered}
 use Rattle.encode.proofs.Standing.{Stands, stands-left, stands-right}
 use Rattle.encode.proofs.Reading.{Reads, PostAt, reads-end, reads-gap, reads-post}
 
--- each part of bytes that are joined stands after those before it
-pub stands-joined : (f : ℕ → List ℕ) {lump : List ℕ} {at : ℕ} (n : ℕ) → Stands lump at (joined f n) → (k : ℕ) → k < n
-    → Stands lump (at + length (joined f k)) (f k)
-stands-joined f zero s k h = absurd (not-suc-le-zero h)
-stands-joined f {lump} {at} (suc n) s k h =
-    let both = subst (Stands lump at) (joined-suc f n) s in
+-- each part of bytes that are laidOut stands after those before it
+pub stands-laid : (f : ℕ → List ℕ) {lump : List ℕ} {at : ℕ} (n : ℕ) → Stands lump at (laidOut f n) → (k : ℕ) → k < n
+    → Stands lump (at + length (laidOut f k)) (f k)
+stands-laid f zero s k h = absurd (not-suc-le-zero h)
+stands-laid f {lump} {at} (suc n) s k h =
+    let both = subst (Stands lump at) (laid-suc f n) s in
     ⊎-elim
-    (λ (e : k ≡ n). subst (λ (k : ℕ). Stands lump (at + length (joined f k)) (f k)) (sym e) (stands-right (joined f n) (f n) both))
-    (λ (l : k < n). stands-joined f n (stands-left (joined f n) (f n) both) k l)
+    (λ (e : k ≡ n). subst (λ (k : ℕ). Stands lump (at + length (laidOut f k)) (f k)) (sym e) (stands-right (laidOut f n) (f n) both))
+    (λ (l : k < n). stands-laid f n (stands-left (laidOut f n) (f n) both) k l)
     (eq-or-lt-of-le (le-of-suc-le-suc h))
 
 module _ (lump : List ℕ) (height column : ℕ) (covered : ℕ → Bool) (colour : ℕ → ℕ) (small : height < 255) where
@@ -71,10 +71,10 @@ module _ (lump : List ℕ) (height column : ℕ) (covered : ℕ → Bool) (colou
 
     -- where the posts of the rows from `row` on stand
     abbrev place : ℕ → ℕ
-    place row = at + length (joined posts row)
+    place row = at + length (laidOut posts row)
 
     place-more : (row : ℕ) → place (suc row) ≡ place row + length (posts row)
-    place-more row = let more = length-joined-suc posts row in omega arith
+    place-more row = let more = length-laid-suc posts row in omega arith
 
     moved : {from from' row row' : ℕ} → from ≡ from' → row ≡ row' → ReadsHere from' row' → ReadsHere from row
     moved {from' = from'} {row = row} e f r =
@@ -87,7 +87,7 @@ module _ (lump : List ℕ) (height column : ℕ) (covered : ℕ → Bool) (colou
     -- below the last row there is the end byte
     from-last : (row : ℕ) → row ≡ height → From row 0
     from-last row e =
-        let end = stands-right (joined posts height) (255 ∷ []) s in
+        let end = stands-right (laidOut posts height) (255 ∷ []) s in
         let inside : place height + 1 ≤ length lump = end .inside in
         let byte : getD lump (place height) 0 ≡ 255 = ap (λ (k : ℕ). getD lump k 0) (omega arith) ∙ end .byte 0 (omega arith) in
         moved (ap place e) refl (reads-end lump height column covered colour (place height) _ (omega arith) byte (omega arith))
@@ -112,7 +112,7 @@ module _ (lump : List ℕ) (height column : ℕ) (covered : ℕ → Bool) (colou
         let rows : height - row ≡ suc left = omega arith in
         let count = runFrom covered row (suc left) in
         let post : posts row ≡ postOf colour row count = rw (one, rows) in
-        let stands = stands-joined posts height (stands-left (joined posts height) (255 ∷ []) s) row (omega arith) in
+        let stands = stands-laid posts height (stands-left (laidOut posts height) (255 ∷ []) s) row (omega arith) in
         let long : length (posts row) ≡ 4 + count = ap length post ∙ length-post colour row count in
         let more = place-more row in
         let now : pending row (suc left) ≡ 0 = rw f in
@@ -128,5 +128,5 @@ module _ (lump : List ℕ) (height column : ℕ) (covered : ℕ → Bool) (colou
 
     pub column-reads : ReadsHere at 0
     column-reads =
-        let first : length (joined posts 0) ≡ 0 = ap length (joined-none posts) in
+        let first : length (laidOut posts 0) ≡ 0 = ap length (laid-none posts) in
         moved (omega arith) (omega arith) (from-row height 0 (omega arith))

@@ -27,14 +27,14 @@ use Rattle.canvas.specs.Buffers.{roomCheck, paintCheck}
 use Rattle.canvas.specs.Pixels.{bufferAfter, byColour, byCover, listOf, planeOf}
 use Rattle.canvas.proofs.Checks.{room-passed}
 use Rattle.canvas.proofs.Planes.{length-listOf, getD-listOf}
-use Rattle.encode.specs.Lump.{pixelsOf, pixelAt, coveredAt, columnOf, offsetOf, u32Bytes, headerBytes, writtenOf}
+use Rattle.encode.specs.Lump.{pixelsOf, pixelAt, coveredAt, columnOf, columnStart, u32Bytes, headerBytes, writtenOf}
 use Rattle.encode.specs.declared.Encoding.the-variants.{Written}
-use Rattle.encode.specs.Encoding.{answerOf, encodeCheck, givenCheck}
+use Rattle.encode.specs.Encoding.{encodingOf, encodeCheck, givenCheck}
 use Rattle.encode.specs.RoundTrip.{ReadBack, RoundTrip, OutputRoundTrip, PaintedRoundTrip}
 use Rattle.encode.proofs.Lump.{offsets, columns, length-offsets, length-columns, length-written}
 use Rattle.encode.proofs.Fits.{Fit, fit-of, cover-bit}
 use Rattle.encode.proofs.Standing.{Stands, stands-whole, stands-left, stands-right, stands-u32}
-use Rattle.encode.proofs.Posts.{stands-joined, column-reads}
+use Rattle.encode.proofs.Posts.{stands-laid, column-reads}
 use Rattle.encode.proofs.Columns.{Given, accepted, plane-given, listOf-same}
 
 -- what the four bytes of a number say is the number
@@ -83,18 +83,18 @@ module _ (picture : Picture) (colour cover : List ℕ) where
       subst (λ (at : ℕ). Stands lump at (columns picture colour cover wide)) n
       (stands-right first (columns picture colour cover wide) (stands-whole lump))
 
-  offset-read : (column : ℕ) → column < wide → columnOffset lump column ≡ offsetOf picture cover column
+  offset-read : (column : ℕ) → column < wide → columnOffset lump column ≡ columnStart picture cover column
   offset-read column h =
-      let here = stands-joined (λ column. u32Bytes (offsetOf picture cover column)) wide table column h in
+      let here = stands-laid (λ column. u32Bytes (columnStart picture cover column)) wide table column h in
       let n : 8 + 4 * column ≡ 8 + length (offsets picture colour cover column) + 0 =
       (let a = length-offsets picture colour cover column in omega arith) in
-      ap (u32At lump) n ∙ stands-u32 here 0 (omega arith) ∙ u32-whole (offsetOf picture cover column)
+      ap (u32At lump) n ∙ stands-u32 here 0 (omega arith) ∙ u32-whole (columnStart picture cover column)
 
-  column-stands : (column : ℕ) → column < wide → Stands lump (offsetOf picture cover column) (columnOf picture colour cover column)
+  column-stands : (column : ℕ) → column < wide → Stands lump (columnStart picture cover column) (columnOf picture colour cover column)
   column-stands column h =
       subst (λ (n : ℕ). Stands lump (tableEnd wide + n) (columnOf picture colour cover column))
       (length-columns picture colour cover column)
-      (stands-joined (columnOf picture colour cover) wide posts column h)
+      (stands-laid (columnOf picture colour cover) wide posts column h)
 
   given : Fit picture colour cover → Given lump wide (picture .height) (coveredAt cover wide) (pixelAt colour wide)
   given f =
@@ -108,7 +108,7 @@ module _ (picture : Picture) (colour cover : List ℕ) where
         column = λ column h.
             rw (offset-read column h)
             (column-reads lump (picture .height) column (coveredAt cover wide column) (pixelAt colour wide column) (omega arith)
-            (offsetOf picture cover column) (column-stands column h));
+            (columnStart picture cover column) (column-stands column h));
       }
 
   -- ---- the planes
@@ -152,7 +152,7 @@ round-trip picture colour cover l t e =
 
 -- ---- the same of an output
 
-written-pass : (k : Check) {length count : ℕ} → Written count ≡ answerOf k length → (k ≡ Pass) × (count ≡ length)
+written-pass : (k : Check) {length count : ℕ} → Written count ≡ encodingOf k length → (k ≡ Pass) × (count ≡ length)
 written-pass Pass e = (refl, cc)
 written-pass (Refused r) e = let z : _≡_ {A = ℕ} 0 1 = cc in absurd (omega arith)
 

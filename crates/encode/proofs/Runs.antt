@@ -10,8 +10,8 @@ use native.Mathlib.Omega.{arith}
 use lib.ListN.{length, length-append}
 use Rattle.canvas.specs.Pixels.{listOf}
 use Rattle.canvas.proofs.Planes.{length-listOf}
-use Rattle.encode.specs.Runs.{countOf, joined, aboveOf, begins, runFrom, postOf, postAt, columnBytes, columnLength}
-use Rattle.encode.proofs.Joined.{sum-none, sum-suc, joined-none, length-joined-suc}
+use Rattle.encode.specs.Runs.{countOf, laidOut, aboveOf, begins, runFrom, postOf, postAt, columnBytes, columnLength}
+use Rattle.encode.proofs.LaidOut.{sum-none, sum-suc, laid-none, length-laid-suc}
 
 module _ (covered : ℕ → Bool) where
   pub run-none : (row : ℕ) → runFrom covered row 0 ≡ 0
@@ -113,22 +113,22 @@ module _ (colour : ℕ → ℕ) (covered : ℕ → Bool) (height : ℕ) where
   one-row false false posts runs rows rest run e h = omega arith
 
   posts-length : (n : ℕ) → n ≤ height
-      → length (joined (postAt colour covered height) n) ≡ 4 * countOf (begins covered) n + countOf covered n + pending n
+      → length (laidOut (postAt colour covered height) n) ≡ 4 * countOf (begins covered) n + countOf covered n + pending n
   posts-length zero h =
-      rw (joined-none (postAt colour covered height), sum-none (λ i. cond (begins covered i) 1 0), sum-none (λ i. cond (covered i) 1 0))
+      rw (laid-none (postAt colour covered height), sum-none (λ i. cond (begins covered i) 1 0), sum-none (λ i. cond (covered i) 1 0))
   posts-length (suc n) h =
       let before = posts-length n (omega arith) in
       let left : height - n ≡ suc (height - suc n) = omega arith in
       let run = ap (runFrom covered n) left ∙ run-suc covered n (height - suc n) in
       let post = length-post colour n (runFrom covered n (height - n)) in
       let here = length-cond (begins covered n) (postOf colour n (runFrom covered n (height - n))) ∙ ap (λ (k : ℕ). cond (begins covered n) k 0) post in
-      length-joined-suc (postAt colour covered height) n
-      ∙ ap (λ (k : ℕ). length (joined (postAt colour covered height) n) + k) here
+      length-laid-suc (postAt colour covered height) n
+      ∙ ap (λ (k : ℕ). length (laidOut (postAt colour covered height) n) + k) here
       ∙ one-row (covered n) (aboveOf covered n) _ _ _ (runFrom covered (suc n) (height - suc n)) _ run before
       ∙ rw (sum-suc (λ i. cond (begins covered i) 1 0) n, sum-suc (λ i. cond (covered i) 1 0) n)
 
   -- the end byte is one byte
-  pub length-ended : length (columnBytes colour covered height) ≡ length (joined (postAt colour covered height) height) + 1
+  pub length-ended : length (columnBytes colour covered height) ≡ length (laidOut (postAt colour covered height) height) + 1
   length-ended = simp length-append
 
   pub length-column : length (columnBytes colour covered height) ≡ columnLength covered height

@@ -9,7 +9,7 @@ use lib.Seq.{sets, set-comm}
 use Rattle.endian.specs.Unsigned.{putU32}
 use Rattle.encode.specs.Lump.{u32Bytes}
 
--- the stores of two rows of bytes are those of the rows joined
+-- the stores of two rows of bytes are those of the rows laidOut
 pub sets-append : (l : List ℕ) (i : ℕ) (vs ws : List ℕ) → sets (sets l i vs) (i + length vs) ws ≡ sets l i (vs ++ ws)
 sets-append l i [] ws = let e : i + 0 ≡ i = omega arith in rw e
 sets-append l i (a ∷ vs) ws =

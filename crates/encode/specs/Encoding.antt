@@ -27,36 +27,36 @@ abbrev pub buffersCheck : ℕ → ℕ → ℕ → ℕ → Check
 buffersCheck width height colours covers = unless (leb (height * width) colours && leb (height * width) covers) PixelBuffer
 
 -- 56: a size that the picture check accepts
-abbrev pub sizeCheck : ℕ → ℕ → Check
-sizeCheck width height = unless (sizeOk width height) EncodeSize
+abbrev pub sidesCheck : ℕ → ℕ → Check
+sidesCheck width height = unless (sizeOk width height) EncodeSize
 
 -- 57: the first `count` bytes of cover
 abbrev pub coverCheck : List ℕ → ℕ → Check
 coverCheck cover count = unless (coverOk cover count) EncodeCover
 
 -- 58: an output of `room` bytes has place for `count`
-abbrev pub roomCheck : ℕ → ℕ → Check
-roomCheck count room = unless (leb count room) EncodeRoom
+abbrev pub outputCheck : ℕ → ℕ → Check
+outputCheck count room = unless (leb count room) EncodeRoom
 
 -- 55, 56 and 57: what is given can be written
 abbrev pub givenCheck : Picture → List ℕ → List ℕ → Check
 givenCheck picture colour cover =
     buffersCheck (picture .width) (picture .height) (length colour) (length cover)
-    andThen sizeCheck (picture .width) (picture .height)
+    andThen sidesCheck (picture .width) (picture .height)
     andThen coverCheck cover (pixelsOf picture)
 
 -- and 58: written into an output of `room` bytes
 abbrev pub encodeCheck : Picture → List ℕ → List ℕ → ℕ → Check
-encodeCheck picture colour cover room = givenCheck picture colour cover andThen roomCheck (writtenLength picture cover) room
+encodeCheck picture colour cover room = givenCheck picture colour cover andThen outputCheck (writtenLength picture cover) room
 
 -- the answer: how many bytes are written, or the refusal
-abbrev pub answerOf : Check → ℕ → Encoding
-answerOf Pass count = Written count
-answerOf (Refused r) count = NotWritten r
+abbrev pub encodingOf : Check → ℕ → Encoding
+encodingOf Pass count = Written count
+encodingOf (Refused r) count = NotWritten r
 
 -- what encoding answers, and what the output holds afterwards
 pub record Encoded (picture : Picture) (colour cover out : List ℕ) (answer : Encoding) (out' : List ℕ) : Type 0 where
   -- the layout's sum, or the first refusal of 55 to 58
-  pub answered : answer ≡ answerOf (encodeCheck picture colour cover (length out)) (writtenLength picture cover)
+  pub answered : answer ≡ encodingOf (encodeCheck picture colour cover (length out)) (writtenLength picture cover)
   -- the lump, then as it was; with a refusal all as it was
   pub leaves : out' ≡ bufferAfter (encodeCheck picture colour cover (length out)) (writtenOf picture colour cover) out

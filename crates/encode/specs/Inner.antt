@@ -3,7 +3,7 @@
 use Prim.Native.Nat.{ℕ, zero, suc, _+_}
 use mathlib.Core.List.{List, []}
 use Rattle.picture.specs.Layout.{tableEnd}
-use Rattle.encode.specs.Runs.{sumOf, joined, postOf, columnBytes, columnLength}
+use Rattle.encode.specs.Runs.{sumOf, laidOut, postOf, columnBytes, columnLength}
 use Rattle.encode.specs.Lump.{pixelAt, coveredAt, u32Bytes}
 
 -- a run of `count` rows from `row` on as a post; a run of none is nothing
@@ -12,13 +12,13 @@ runBytes colour row zero = []
 runBytes colour row (suc count) = postOf colour row (suc count)
 
 -- where column `n` begins
-abbrev pub offsetAt : ℕ → ℕ → List ℕ → ℕ → ℕ
-offsetAt width height cover n = tableEnd width + sumOf (λ column. columnLength (coveredAt cover width column) height) n
+abbrev pub startOfColumn : ℕ → ℕ → List ℕ → ℕ → ℕ
+startOfColumn width height cover n = tableEnd width + sumOf (λ column. columnLength (coveredAt cover width column) height) n
 
 -- the offsets and the bytes of the columns before `n`
 abbrev pub offsetsTo : ℕ → ℕ → List ℕ → ℕ → List ℕ
-offsetsTo width height cover n = joined (λ column. u32Bytes (offsetAt width height cover column)) n
+offsetsTo width height cover n = laidOut (λ column. u32Bytes (startOfColumn width height cover column)) n
 
 abbrev pub columnsTo : ℕ → ℕ → List ℕ → List ℕ → ℕ → List ℕ
 columnsTo width height colour cover n =
-    joined (λ column. columnBytes (pixelAt colour width column) (coveredAt cover width column) height) n
+    laidOut (λ column. columnBytes (pixelAt colour width column) (coveredAt cover width column) height) n

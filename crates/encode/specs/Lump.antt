@@ -9,7 +9,7 @@ use Rattle.endian.specs.Unsigned.{u16Bytes}
 use Rattle.endian.specs.Signed.{bitsOf}
 use Rattle.picture.specs.declared.Picture.{Picture}
 use Rattle.picture.specs.Layout.{tableEnd}
-use Rattle.encode.specs.Runs.{sumOf, joined, columnBytes, columnLength}
+use Rattle.encode.specs.Runs.{sumOf, laidOut, columnBytes, columnLength}
 
 -- the number of pixels, width × height
 abbrev pub pixelsOf : Picture → ℕ
@@ -29,16 +29,16 @@ columnOf picture colour cover column =
     columnBytes (pixelAt colour (picture .width) column) (coveredAt cover (picture .width) column) (picture .height)
 
 -- and how many they are
-abbrev pub lengthOf : Picture → List ℕ → ℕ → ℕ
-lengthOf picture cover column = columnLength (coveredAt cover (picture .width) column) (picture .height)
+abbrev pub columnSize : Picture → List ℕ → ℕ → ℕ
+columnSize picture cover column = columnLength (coveredAt cover (picture .width) column) (picture .height)
 
 -- where the column begins: after the header, the offsets and the columns before it
-abbrev pub offsetOf : Picture → List ℕ → ℕ → ℕ
-offsetOf picture cover column = tableEnd (picture .width) + sumOf (lengthOf picture cover) column
+abbrev pub columnStart : Picture → List ℕ → ℕ → ℕ
+columnStart picture cover column = tableEnd (picture .width) + sumOf (columnSize picture cover) column
 
 -- the lump's length, the layout's sum: 8 + 4 × width, and for each column 1 + 4 × runs + covered pixels
 abbrev pub writtenLength : Picture → List ℕ → ℕ
-writtenLength picture cover = offsetOf picture cover (picture .width)
+writtenLength picture cover = columnStart picture cover (picture .width)
 
 -- the four bytes of `n`
 abbrev pub u32Bytes : ℕ → List ℕ
@@ -56,5 +56,5 @@ headerBytes picture =
 abbrev pub writtenOf : Picture → List ℕ → List ℕ → List ℕ
 writtenOf picture colour cover =
     headerBytes picture
-    ++ joined (λ column. u32Bytes (offsetOf picture cover column)) (picture .width)
-    ++ joined (columnOf picture colour cover) (picture .width)
+    ++ laidOut (λ column. u32Bytes (columnStart picture cover column)) (picture .width)
+    ++ laidOut (columnOf picture colour cover) (picture .width)

@@ -17,9 +17,9 @@ abbrev pub countOf : (ℕ → Bool) → ℕ → ℕ
 countOf f n = sumOf (λ i. cond (f i) 1 0) n
 
 -- the bytes `f` of 0 to `n - 1`, one after the other
-unfoldable pub joined : (ℕ → List ℕ) → ℕ → List ℕ
-joined f zero = []
-joined f (suc n) = joined f n ++ f n
+unfoldable pub laidOut : (ℕ → List ℕ) → ℕ → List ℕ
+laidOut f zero = []
+laidOut f (suc n) = laidOut f n ++ f n
 
 -- ---- a column: `covered` says of each row whether its pixel is covered, `colour` gives its byte
 
@@ -47,7 +47,7 @@ postAt colour covered height row = cond (begins covered row) (postOf colour row 
 
 -- the column: its posts downward, then the end byte
 abbrev pub columnBytes : (ℕ → ℕ) → (ℕ → Bool) → ℕ → List ℕ
-columnBytes colour covered height = joined (postAt colour covered height) height ++ (255 ∷ [])
+columnBytes colour covered height = laidOut (postAt colour covered height) height ++ (255 ∷ [])
 
 -- its length, of the cover alone: the end byte, four bytes for each run, and one for each covered pixel
 abbrev pub columnLength : (ℕ → Bool) → ℕ → ℕ

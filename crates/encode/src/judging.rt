@@ -4,13 +4,13 @@ ghost use Prim.Native.Nat.{_*_, _≤_};
 ghost use lib.Dec.{leb};
 ghost use lib.ListN.{length};
 ghost use Rattle.refusal.specs.Checks.{_andThen_};
-ghost use Rattle.encode.specs.Encoding.{coverOk, buffersCheck, sizeCheck, coverCheck};
+ghost use Rattle.encode.specs.Encoding.{coverOk, buffersCheck, sidesCheck, coverCheck};
 use refusal::Check;
 use refusal::Refusal;
 
 // The buffers' lengths, then the size, then the cover.
 pub fn judge_given(width: usize, height: usize, colours: usize, cover: &[u8]) -> Check
-    ensures { λ r. ⌜ r ≡ (buffersCheck width height colours (length (now (cover .entry))) andThen sizeCheck width height andThen coverCheck (now (cover .entry)) (height * width)) ⌝ }
+    ensures { λ r. ⌜ r ≡ (buffersCheck width height colours (length (now (cover .entry))) andThen sidesCheck width height andThen coverCheck (now (cover .entry)) (height * width)) ⌝ }
 {
     if !(fits(width, height, colours) & fits(width, height, cover.len())) {
         return Check::Refused(Refusal::PixelBuffer);

@@ -5,12 +5,12 @@ ghost use Prim.Native.Nat.{_*_, _≤_, _<_};
 ghost use lib.ListN.{length};
 ghost use Rattle.encode.specs.Runs.{columnLength};
 ghost use Rattle.encode.specs.Lump.{coveredAt};
-ghost use Rattle.encode.specs.Inner.{offsetAt};
+ghost use Rattle.encode.specs.Inner.{startOfColumn};
 
 // The header, the offsets and all columns.
 pub fn written_length(cover: &[u8], width: usize, height: usize) -> usize
     requires { ⌜ (width ≤ 320) × (height ≤ 200) × (height * width ≤ length (now cover)) ⌝ }
-    ensures { λ r. ⌜ r ≡ offsetAt width height (now (cover .entry)) width ⌝ }
+    ensures { λ r. ⌜ r ≡ startOfColumn width height (now (cover .entry)) width ⌝ }
 {
     let mut total = 8 + 4 * width;
     for column in 0..width {

@@ -13,7 +13,7 @@ use Rattle.canvas.specs.Pixels.{planeOf, byColour, byCover, bufferAfter}
 use Rattle.encode.specs.declared.Encoding.{Encoding}
 use Rattle.encode.specs.declared.Encoding.the-variants.{Written, Refused as NotWritten}
 use Rattle.encode.specs.Lump.{writtenLength, writtenOf}
-use Rattle.encode.specs.Encoding.{encodeCheck, answerOf as encodingOf}
+use Rattle.encode.specs.Encoding.{encodeCheck, encodingOf}
 use Rattle.export_pictures.specs.declared.PictureAnswer.{PictureAnswer}
 use Rattle.export_pictures.specs.declared.LengthAnswer.{LengthAnswer}
 use Rattle.status.specs.Status.{accepted, refused}

@@ -8,7 +8,7 @@ use Rattle.level.specs.declared.Verdict.{Verdict}
 use Rattle.level.specs.declared.Verdict.the-variants.{Accepted, Refused as NotAccepted}
 use Rattle.level.specs.Verdict.{verdict, wordsAfter}
 use Rattle.why.specs.declared.Reason.{Reason}
-use Rattle.why.specs.Printing.{lengthOf, outOf, answerBy}
+use Rattle.why.specs.Printing.{printedLength, printedOut, answerBy}
 use Rattle.export_why.specs.declared.ReasonAnswer.{ReasonAnswer}
 use Rattle.status.specs.Status.{accepted, refused}
 
@@ -23,6 +23,6 @@ answerOut a = reasonOut (a .verdict) (a .length)
 
 -- the answer, the words and the output afterwards
 pub record ReasonGiven (wad name words out : List ℕ) (answer : ReasonAnswer) (wordsThen outThen : List ℕ) : Type 0 where
-  pub answers : answer ≡ answerOut (answerBy (verdict wad name words) (lengthOf wad words (markerAnswer wad name)) (length out))
+  pub answers : answer ≡ answerOut (answerBy (verdict wad name words) (printedLength wad words (markerAnswer wad name)) (length out))
   pub leaves : wordsThen ≡ wordsAfter wad name words
-  pub prints : outThen ≡ outOf wad words out (markerAnswer wad name)
+  pub prints : outThen ≡ printedOut wad words out (markerAnswer wad name)

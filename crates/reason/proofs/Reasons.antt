@@ -21,7 +21,7 @@ use Rattle.built.specs.Nodes.{nodeSize}
 use Rattle.bsp.specs.Nodes.{nodesOf, isNode, subsectorBit, childOk, nodeOk}
 use Rattle.reference.specs.References.{twoSided, linedefOk, leftOk, segOk, subsectorOk}
 use Rattle.reason.specs.RecordFields.{numberAt, leftFields, linedefFields, sidedefFields, segFields, subsectorFields, childAt, nodeFields}
-use Rattle.reason.specs.Reasons.{InOrder, Reasoned, RecordsReasoned}
+use Rattle.reason.specs.Reasons.{InOrder, RecordReasoned, RecordsReasoned}
 
 -- ---- rows of tests
 
@@ -158,7 +158,7 @@ module _ (bytes : List ℕ) where
   Held f = f .number ≡ u16At bytes (f .offset)
 
   reasoned : (size : ℕ) (ok : Bool) (fields : List Field) → ok ≡ allIn fields → InOrder 0 size fields → Each Held fields
-      → Reasoned bytes size ok fields
+      → RecordReasoned bytes size ok fields
   reasoned size ok fields e o h =
       record {
         same = e;
@@ -168,7 +168,7 @@ module _ (bytes : List ℕ) where
       }
 
 sidedef-reasoned : (bytes : List ℕ) (sectors : ℕ) → 0 < sectors
-    → Reasoned bytes sidedefSize (ltb (sidedefOf bytes .sector) sectors) (sidedefFields bytes sectors)
+    → RecordReasoned bytes sidedefSize (ltb (sidedefOf bytes .sector) sectors) (sidedefFields bytes sectors)
 sidedef-reasoned bytes sectors h =
     reasoned bytes sidedefSize (ltb (sidedefOf bytes .sector) sectors) (sidedefFields bytes sectors)
     (below (u16At bytes 28) sectors h ∙ sym (allIn-one (numberAt bytes 28 sectors)))
@@ -176,7 +176,7 @@ sidedef-reasoned bytes sectors h =
     (refl, tt)
 
 subsector-reasoned : (bytes : List ℕ) (segs : ℕ)
-    → Reasoned bytes subsectorSize (subsectorOk segs (subsectorOf bytes)) (subsectorFields bytes segs)
+    → RecordReasoned bytes subsectorSize (subsectorOk segs (subsectorOf bytes)) (subsectorFields bytes segs)
 subsector-reasoned bytes segs =
     reasoned bytes subsectorSize (subsectorOk segs (subsectorOf bytes)) (subsectorFields bytes segs)
     (segs-same (u16At bytes 0) (u16At bytes 2) segs ∙ sym (allIn-two (fieldAt bytes 0 1 segs) (fieldAt bytes 2 0 (segs - u16At bytes 0))))
@@ -184,7 +184,7 @@ subsector-reasoned bytes segs =
     (refl, (refl, tt))
 
 node-reasoned : (nodes : List ℕ) (subsectors i : ℕ) → i < nodesOf nodes
-    → Reasoned (recordBytes nodes nodeSize i) nodeSize (nodeOk nodes subsectors i)
+    → RecordReasoned (recordBytes nodes nodeSize i) nodeSize (nodeOk nodes subsectors i)
     (nodeFields (recordBytes nodes nodeSize i) (nodesOf nodes) subsectors)
 node-reasoned nodes subsectors i h =
     let bytes = recordBytes nodes nodeSize i in
@@ -199,7 +199,7 @@ node-reasoned nodes subsectors i h =
     (refl, (refl, tt))
 
 seg-reasoned : (hexen : Bool) (linedefs bytes : List ℕ) (vertices : ℕ) → 0 < vertices → 0 < length linedefs / linedefSize hexen
-    → Reasoned bytes segSize (segOk hexen linedefs vertices (segOf bytes)) (segFields hexen linedefs bytes vertices)
+    → RecordReasoned bytes segSize (segOk hexen linedefs vertices (segOf bytes)) (segFields hexen linedefs bytes vertices)
 seg-reasoned hexen linedefs bytes vertices v l =
     let count = length linedefs / linedefSize hexen in
     let left = leftOk hexen linedefs (u16At bytes 6) in
@@ -231,7 +231,7 @@ places-order true = (omega arith, refl)
 places-order false = (omega arith, refl)
 
 linedef-reasoned : (hexen : Bool) (bytes : List ℕ) (vertices sidedefs : ℕ) → 0 < vertices → 0 < sidedefs → sidedefs ≤ 65535
-    → Reasoned bytes (linedefSize hexen) (linedefOk vertices sidedefs (linedefOf hexen bytes)) (linedefFields hexen bytes vertices sidedefs)
+    → RecordReasoned bytes (linedefSize hexen) (linedefOk vertices sidedefs (linedefOf hexen bytes)) (linedefFields hexen bytes vertices sidedefs)
 linedef-reasoned hexen bytes vertices sidedefs v s m =
     let at = rightPlace hexen in
     let left = u16At bytes (leftPlace hexen) in

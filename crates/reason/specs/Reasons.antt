@@ -25,7 +25,7 @@ InOrder from end [] = from ≤ end
 InOrder from end (f ∷ fs) = (from ≤ f .offset) × InOrder (f .offset + 2) end fs
 
 -- of a record of `size` bytes whose check is `ok`, and its fields
-pub record Reasoned (bytes : List ℕ) (size : ℕ) (ok : Bool) (fields : List Field) : Type 0 where
+pub record RecordReasoned (bytes : List ℕ) (size : ℕ) (ok : Bool) (fields : List Field) : Type 0 where
   -- the check is that all are in range
   pub same : ok ≡ allIn fields
   -- they stand in byte order
@@ -37,12 +37,12 @@ pub record Reasoned (bytes : List ℕ) (size : ℕ) (ok : Bool) (fields : List F
 
 pub record RecordsReasoned : Type 0 where
   pub linedef : (hexen : Bool) (bytes : List ℕ) (vertices sidedefs : ℕ) → 0 < vertices → 0 < sidedefs → sidedefs ≤ 65535
-      → Reasoned bytes (linedefSize hexen) (linedefOk vertices sidedefs (linedefOf hexen bytes)) (linedefFields hexen bytes vertices sidedefs)
+      → RecordReasoned bytes (linedefSize hexen) (linedefOk vertices sidedefs (linedefOf hexen bytes)) (linedefFields hexen bytes vertices sidedefs)
   pub sidedef : (bytes : List ℕ) (sectors : ℕ) → 0 < sectors
-      → Reasoned bytes sidedefSize (ltb (sidedefOf bytes .sector) sectors) (sidedefFields bytes sectors)
+      → RecordReasoned bytes sidedefSize (ltb (sidedefOf bytes .sector) sectors) (sidedefFields bytes sectors)
   pub seg : (hexen : Bool) (linedefs bytes : List ℕ) (vertices : ℕ) → 0 < vertices → 0 < length linedefs / linedefSize hexen
-      → Reasoned bytes segSize (segOk hexen linedefs vertices (segOf bytes)) (segFields hexen linedefs bytes vertices)
-  pub subsector : (bytes : List ℕ) (segs : ℕ) → Reasoned bytes subsectorSize (subsectorOk segs (subsectorOf bytes)) (subsectorFields bytes segs)
+      → RecordReasoned bytes segSize (segOk hexen linedefs vertices (segOf bytes)) (segFields hexen linedefs bytes vertices)
+  pub subsector : (bytes : List ℕ) (segs : ℕ) → RecordReasoned bytes subsectorSize (subsectorOk segs (subsectorOf bytes)) (subsectorFields bytes segs)
   pub node : (nodes : List ℕ) (subsectors i : ℕ) → i < nodesOf nodes
-      → Reasoned (recordBytes nodes nodeSize i) nodeSize (nodeOk nodes subsectors i)
+      → RecordReasoned (recordBytes nodes nodeSize i) nodeSize (nodeOk nodes subsectors i)
       (nodeFields (recordBytes nodes nodeSize i) (nodesOf nodes) subsectors)

@@ -14,7 +14,8 @@ use lib.ListN.{length, getD, take, drop, take-append-drop}
 use lib.Seq.{take-all, take-length, drop-length, drop-cons}
 use Rattle.endian.specs.Unsigned.{u16At}
 use Rattle.stream.specs.declared.Stream.{Stream}
-use Rattle.stream.specs.Scraps.{mostBytes, badAt, counted, noted, stepOf, fed}
+use Rattle.wad.specs.Header.{mostBytes}
+use Rattle.stream.specs.Scraps.{badAt, byteCounted, noted, stepOf, fed}
 use Rattle.stream.specs.Inner.{Low, FirstBad, lowAfter}
 
 -- ---- any state
@@ -55,7 +56,7 @@ fed-cut s scrap n h = by (ltb n (length scrap)) refl
     by false e = ap (fed s) (take-all n scrap (ltb-false n (length scrap) e))
 
 -- a byte while there is room
-pub step-room : (s : Stream) (byte : ℕ) → s .bytes ≤ mostBytes → stepOf s byte ≡ counted (noted s (badAt s byte)) byte
+pub step-room : (s : Stream) (byte : ℕ) → s .bytes ≤ mostBytes → stepOf s byte ≡ byteCounted (noted s (badAt s byte)) byte
 step-room s byte h = rw (le-ltb mostBytes (s .bytes) h)
 
 -- the high byte of a sector

@@ -18,7 +18,8 @@ use Rattle.field.proofs.Records.{u16At-recordBytes}
 use Rattle.reference.specs.References.{sidedefCheck}
 use Rattle.size.specs.Sizes.{sizeCheck}
 use Rattle.stream.specs.declared.Stream.{Stream}
-use Rattle.stream.specs.Scraps.{mostBytes, started, badAt, counted, noted, stepOf, fed, recordsCheck, totalCheck, sectorsCheck, verdictOf}
+use Rattle.wad.specs.Header.{mostBytes}
+use Rattle.stream.specs.Scraps.{started, badAt, byteCounted, noted, stepOf, fed, recordsCheck, totalCheck, sectorsCheck, streamVerdict}
 use Rattle.stream.specs.Whole.{lumpsWith, lumpCheck, fedAll, VerdictWhole, CutsAlike, TotalStops}
 use Rattle.stream.proofs.Scraps.{fed-none, fed-cons, fed-append}
 
@@ -38,7 +39,7 @@ cuts-alike s these those e = fedAll-flatten s these ∙ ap (fed s) e ∙ sym (fe
 step-stops : (s : Stream) (byte : ℕ) → s .bytes ≤ mostBytes + 1 → stepOf s byte .bytes ≤ mostBytes + 1
 step-stops s byte h = by (ltb mostBytes (s .bytes)) refl
   where
-    by : (b : Bool) → ltb mostBytes (s .bytes) ≡ b → cond b s (counted (noted s (badAt s byte)) byte) .bytes ≤ mostBytes + 1
+    by : (b : Bool) → ltb mostBytes (s .bytes) ≡ b → cond b s (byteCounted (noted s (badAt s byte)) byte) .bytes ≤ mostBytes + 1
     by true e = h
     by false e = omega (arith, ltb-false mostBytes (s .bytes) e)
 
@@ -106,7 +107,7 @@ module _ (sectors : ℕ) (lump : List ℕ) where
       ∙ ap (λ (t : Bool). unless t (SidedefReference (k / 30))) (not-leb sectors (getD lump (k - 1) 0 + 256 * getD lump k 0))
 
   module _ (k : ℕ) (s : Stream) (a : Arrived k s) where
-    told-step : Told k s → Told (suc k) (counted (noted s (badAt s (getD lump k 0))) (getD lump k 0))
+    told-step : Told k s → Told (suc k) (byteCounted (noted s (badAt s (getD lump k 0))) (getD lump k 0))
     told-step t =
         let bytes = t .total in
         record {
@@ -152,7 +153,7 @@ module _ (sectors : ℕ) (lump : List ℕ) where
     arrived-step = by (ltb mostBytes (s .bytes)) refl
       where
         by : (b : Bool) → ltb mostBytes (s .bytes) ≡ b
-            → Arrived (suc k) (cond b s (counted (noted s (badAt s (getD lump k 0))) (getD lump k 0)))
+            → Arrived (suc k) (cond b s (byteCounted (noted s (badAt s (getD lump k 0))) (getD lump k 0)))
         by true e =
             let full = ltb-true mostBytes (s .bytes) e in
             record {
@@ -184,7 +185,7 @@ module _ (sectors : ℕ) (lump : List ℕ) where
       ap (λ (t : Bool). unless (eqb (length lump % 30) 0) (RecordSize 3) andThen unless t (RecordCount 3))
       (sym (and-true (leb 1 (length lump / 30) && leb (length lump / 30) 65535)))
 
-  verdict-told : (s : Stream) → s .sectors ≡ sectors → Told (length lump) s → verdictOf s ≡ lumpCheck sectors lump
+  verdict-told : (s : Stream) → s .sectors ≡ sectors → Told (length lump) s → streamVerdict s ≡ lumpCheck sectors lump
   verdict-told s kept t =
       (λ i. sectorsCheck (kept i)
       andThen totalCheck (t .total i)
@@ -195,21 +196,21 @@ module _ (sectors : ℕ) (lump : List ℕ) where
       andThen records-size i
       andThen each (sidedefCheck lump sectors) (length lump / 30))
 
-  verdict-over : (s : Stream) → s .sectors ≡ sectors → mostBytes < s .bytes → mostBytes < length lump → verdictOf s ≡ lumpCheck sectors lump
+  verdict-over : (s : Stream) → s .sectors ≡ sectors → mostBytes < s .bytes → mostBytes < length lump → streamVerdict s ≡ lumpCheck sectors lump
   verdict-over s kept h k = rw (kept, lt-leb (s .bytes) mostBytes h, lt-leb (length lump) mostBytes k)
 
-  verdict-arrived : (s : Stream) → Arrived (length lump) s → verdictOf s ≡ lumpCheck sectors lump
+  verdict-arrived : (s : Stream) → Arrived (length lump) s → streamVerdict s ≡ lumpCheck sectors lump
   verdict-arrived s a = by (ltb mostBytes (length lump)) refl
     where
-      by : (b : Bool) → ltb mostBytes (length lump) ≡ b → verdictOf s ≡ lumpCheck sectors lump
+      by : (b : Bool) → ltb mostBytes (length lump) ≡ b → streamVerdict s ≡ lumpCheck sectors lump
       by true e =
           let h = ltb-true mostBytes (length lump) e in
           verdict-over s (a .kept) (a .over h) h
       by false e = verdict-told s (a .kept) (a .tells (ltb-false mostBytes (length lump) e))
 
-  verdict-lump : verdictOf (fed (started sectors) lump) ≡ lumpCheck sectors lump
+  verdict-lump : streamVerdict (fed (started sectors) lump) ≡ lumpCheck sectors lump
   verdict-lump =
       verdict-arrived (fed (started sectors) lump) (arrived-from (length lump) 0 (started sectors) (omega arith) arrived-none)
 
 pub verdict-whole : VerdictWhole
-verdict-whole sectors scraps = ap verdictOf (fedAll-flatten (started sectors) scraps) ∙ verdict-lump sectors (flatten scraps)
+verdict-whole sectors scraps = ap streamVerdict (fedAll-flatten (started sectors) scraps) ∙ verdict-lump sectors (flatten scraps)

@@ -7,13 +7,10 @@ use lib.Dec.{leb, ltb, eqb}
 use Rattle.refusal.specs.declared.Check.{Check}
 use Rattle.refusal.specs.declared.Refusal.the-variants.{RecordSize, RecordCount, SidedefReference, StreamSectors, StreamLength}
 use Rattle.refusal.specs.Checks.{unless, _andThen_}
+use Rattle.wad.specs.Header.{mostBytes}
 use Rattle.record.specs.Sidedefs.{sidedefSize}
 use Rattle.table.specs.Lumps.{SIDEDEFS, leastCount, mostCount}
 use Rattle.stream.specs.declared.Stream.{Stream}
-
--- the most bytes in all
-abbrev pub mostBytes : ℕ
-mostBytes = 16777216
 
 -- where the two bytes of a sidedef's sector stand in its record
 abbrev pub lowPlace : ℕ
@@ -42,8 +39,8 @@ noted s bad =
     }
 
 -- one byte more, kept where it is the low byte of a sector
-abbrev pub counted : Stream → ℕ → Stream
-counted s byte =
+abbrev pub byteCounted : Stream → ℕ → Stream
+byteCounted s byte =
     record {
       sectors = s .sectors;
       bytes = s .bytes + 1;
@@ -54,7 +51,7 @@ counted s byte =
 
 -- a state fed with one byte; past the most bytes it stays as it is
 abbrev pub stepOf : Stream → ℕ → Stream
-stepOf s byte = cond (ltb mostBytes (s .bytes)) s (counted (noted s (badAt s byte)) byte)
+stepOf s byte = cond (ltb mostBytes (s .bytes)) s (byteCounted (noted s (badAt s byte)) byte)
 
 -- fed with a scrap, byte by byte
 unfoldable pub fed : Stream → List ℕ → Stream
@@ -76,8 +73,8 @@ recordsCheck bytes =
     andThen unless (leb (leastCount SIDEDEFS) (bytes / sidedefSize) && leb (bytes / sidedefSize) (mostCount SIDEDEFS)) (RecordCount SIDEDEFS)
 
 -- the verdict of a state: 80, 81, 20, 21, and 24 of the record that it noted
-abbrev pub verdictOf : Stream → Check
-verdictOf s =
+abbrev pub streamVerdict : Stream → Check
+streamVerdict s =
     sectorsCheck (s .sectors)
     andThen totalCheck (s .bytes)
     andThen recordsCheck (s .bytes)

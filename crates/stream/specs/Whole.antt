@@ -12,7 +12,8 @@ use Rattle.table.specs.Lumps.{SIDEDEFS}
 use Rattle.size.specs.Sizes.{sizeCheck}
 use Rattle.reference.specs.References.{sidedefCheck}
 use Rattle.stream.specs.declared.Stream.{Stream}
-use Rattle.stream.specs.Scraps.{mostBytes, started, fed, sectorsCheck, totalCheck, verdictOf}
+use Rattle.wad.specs.Header.{mostBytes}
+use Rattle.stream.specs.Scraps.{started, fed, sectorsCheck, totalCheck, streamVerdict}
 
 -- a map's lumps up to SIDEDEFS, the others without bytes
 abbrev pub lumpsWith : List ℕ → List (List ℕ)
@@ -33,7 +34,7 @@ fedAll s (scrap ∷ scraps) = fedAll (fed s scrap) scraps
 
 -- from the start's own state, whatever the scraps, the verdict is the whole lump's
 abbrev pub VerdictWhole : Type 0
-VerdictWhole = (sectors : ℕ) (scraps : List (List ℕ)) → verdictOf (fedAll (started sectors) scraps) ≡ lumpCheck sectors (flatten scraps)
+VerdictWhole = (sectors : ℕ) (scraps : List (List ℕ)) → streamVerdict (fedAll (started sectors) scraps) ≡ lumpCheck sectors (flatten scraps)
 
 -- any two cuts of the same bytes leave the same state, from any state
 abbrev pub CutsAlike : Type 0

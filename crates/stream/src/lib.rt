@@ -5,14 +5,13 @@ ghost use mathlib.Core.Bool.{cond};
 ghost use Prim.Native.Nat.{_+_, _%_, _≤_, _<_};
 ghost use lib.ListN.{length};
 ghost use Rattle.record.specs.Sidedefs.{sidedefSize};
-ghost use Rattle.stream.specs.Scraps.{mostBytes, highPlace, started, stepOf, fed, sectorsCheck, totalCheck, recordsCheck, verdictOf};
+ghost use Rattle.wad.specs.Header.{mostBytes};
+ghost use Rattle.stream.specs.Scraps.{highPlace, started, stepOf, fed, sectorsCheck, totalCheck, recordsCheck, streamVerdict};
 ghost use Rattle.stream.specs.Inner.{FirstBad, lowAfter};
 use record::Sidedef;
 use refusal::Check;
 use refusal::Refusal;
-
-// The most bytes in all.
-const MOST: usize = 16777216;
+use wad::MOST_BYTES;
 
 // Where the two bytes of a sidedef's sector stand in its record.
 const LOW: usize = 28;
@@ -54,7 +53,7 @@ pub fn feed(state: Stream, scrap: &[u8]) -> Stream
     if scrap.len() == 0 {
         return state;
     }
-    if MOST < state.bytes {
+    if MOST_BYTES < state.bytes {
         return state;
     }
     if state.bytes % Sidedef::SIZE == HIGH {
@@ -83,7 +82,7 @@ fn feed_records(state: Stream, scrap: &[u8]) -> Stream
     requires { ⌜ (state .bytes ≤ mostBytes) × (state .bytes % sidedefSize < highPlace) ⌝ }
     ensures { λ r. ⌜ r ≡ fed state (now (scrap .entry)) ⌝ }
 {
-    let n = least(scrap.len(), MOST + 1 - state.bytes);
+    let n = least(scrap.len(), MOST_BYTES + 1 - state.bytes);
     feed_part(state, &scrap[0..n])
 }
 
@@ -162,7 +161,7 @@ fn judge_sectors(sectors: usize) -> Check
 fn judge_total(bytes: usize) -> Check
     ensures { λ r. ⌜ r ≡ totalCheck bytes ⌝ }
 {
-    refusal::pass_if(bytes <= MOST, Refusal::StreamLength)
+    refusal::pass_if(bytes <= MOST_BYTES, Refusal::StreamLength)
 }
 
 // 20, then 21.
@@ -184,7 +183,7 @@ fn judge_records(bytes: usize) -> Check
 
 // The verdict on what was fed so far: 80, 81, 20, 21 and the first 24.
 pub fn verdict(state: Stream) -> Check
-    ensures { λ r. ⌜ r ≡ verdictOf state ⌝ }
+    ensures { λ r. ⌜ r ≡ streamVerdict state ⌝ }
 {
     let references = refusal::pass_if(!state.found, Refusal::SidedefReference(state.bad));
     let records = refusal::then(judge_records(state.bytes), references);

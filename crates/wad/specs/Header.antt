@@ -11,9 +11,13 @@ use Rattle.refusal.specs.declared.Refusal.the-variants.{FileLength, Mark, LumpC
 use Rattle.refusal.specs.Checks.{unless, _andThen_}
 use Rattle.wad.specs.Slices.{part}
 
--- 12 to 16,777,216 bytes
+-- the most bytes of a file, and so of a lump
+abbrev pub mostBytes : ℕ
+mostBytes = 16777216
+
+-- 12 bytes to the most
 abbrev pub lengthOk : ℕ → Bool
-lengthOk len = leb 12 len && leb len 16777216
+lengthOk len = leb 12 len && leb len mostBytes
 
 -- the header: the first twelve bytes
 abbrev pub headOf : List ℕ → List ℕ

@@ -7,6 +7,9 @@ use crate::parts::part;
 use refusal::Check;
 use refusal::Refusal;
 
+// The most bytes of a file, and so of a lump.
+pub const MOST_BYTES: usize = 16777216;
+
 pub fn head_of(wad: &[u8]) -> &[u8]
     requires { ⌜ 12 ≤ length (now wad) ⌝ }
     ensures { λ r. ⌜ (now r ≡ headOf (now (wad .entry))) × (length (now r) ≡ 12) ⌝ }
@@ -62,7 +65,7 @@ pub fn judge_header(wad: &[u8]) -> Check
     if wad.len() < 12 {
         return Check::Refused(Refusal::FileLength);
     }
-    if 16777216 < wad.len() {
+    if MOST_BYTES < wad.len() {
         return Check::Refused(Refusal::FileLength);
     }
     judge_fields(wad.len(), head_of(wad))

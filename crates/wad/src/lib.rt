@@ -11,6 +11,7 @@ pub use entries::directory_of;
 pub use entries::entry_count;
 pub use entries::judge_directory;
 pub use entries::judge_file;
+pub use header::MOST_BYTES;
 pub use lumps::Entry;
 pub use lumps::entry_offset;
 pub use lumps::entry_size;

@@ -28,7 +28,7 @@ use Rattle.level.proofs.Passing.{run-long}
 use Rattle.level.proofs.Refusing.{past-run, past-counts, refused-by}
 use Rattle.why.specs.declared.Reason.{Reason}
 use Rattle.why.specs.Named.{fieldOk, namedField}
-use Rattle.why.specs.Printing.{fieldLength, fieldPrinted, lengthBy, outBy, lengthOf, outOf, answerBy, ReasonTold, ReasonToldAt}
+use Rattle.why.specs.Printing.{fieldLength, fieldPrinted, lengthBy, outBy, printedLength, printedOut, answerBy, ReasonTold, ReasonToldAt}
 use Rattle.why.specs.Inner.{namedCount, Nameable, RefusedBelow, RefusalTold, GraphTold}
 use Rattle.why.proofs.Counting.{blockmap-within}
 
@@ -119,16 +119,16 @@ module _ (wad name words out : List ℕ) where
       → ReasonTold wad name words out (record { verdict = NotAccepted r; length = 0 }) words out
   told-nowhere {r} e =
       record {
-        answers = answer-fits (NotAccepted r) 0 (length out) (omega arith) ∙ (λ j. answerBy (verdictBy wad words (sym e j)) (lengthOf wad words (sym e j)) (length out));
+        answers = answer-fits (NotAccepted r) 0 (length out) (omega arith) ∙ (λ j. answerBy (verdictBy wad words (sym e j)) (printedLength wad words (sym e j)) (length out));
         leaves = λ j. wordsAfterBy wad words (sym e j);
-        prints = λ j. outOf wad words out (sym e j);
+        prints = λ j. printedOut wad words out (sym e j);
       }
 
   pub told-at : {m : ℕ} {a : Reason} {wordsThen outThen : List ℕ} → markerAnswer wad name ≡ Entry m
       → ReasonToldAt wad m words out a wordsThen outThen → ReasonTold wad name words out a wordsThen outThen
   told-at e t =
       record {
-        answers = t .answers ∙ (λ j. answerBy (verdictBy wad words (sym e j)) (lengthOf wad words (sym e j)) (length out));
+        answers = t .answers ∙ (λ j. answerBy (verdictBy wad words (sym e j)) (printedLength wad words (sym e j)) (length out));
         leaves = t .leaves ∙ (λ j. wordsAfterBy wad words (sym e j));
-        prints = t .prints ∙ (λ j. outOf wad words out (sym e j));
+        prints = t .prints ∙ (λ j. printedOut wad words out (sym e j));
       }

@@ -48,7 +48,7 @@ use Rattle.way.proofs.Loops.{loop-holds}
 use Rattle.way.proofs.Routes.{route-holds}
 use Rattle.why.specs.declared.Reason.{Reason}
 use Rattle.why.specs.Named.{fieldOk}
-use Rattle.why.specs.Printing.{lengthBy, lengthOf, answerBy}
+use Rattle.why.specs.Printing.{lengthBy, printedLength, answerBy}
 use Rattle.why.specs.Promises.{FieldTold, FieldToldAt, ReasonsHold}
 use Rattle.why.proofs.Counting.{linedefs-counted, sidedefs-counted, vertices-counted, sectors-counted, blockmap-within}
 use Rattle.why.proofs.Printing.{field-numbers}
@@ -104,7 +104,7 @@ judged-early (Refused s) g m r e h = ap Refused (ap (refusalIn s) e)
 
 module _ (wad name words : List ℕ) where
   field-by : (a : Marker) (r : Refusal) → markerAnswer wad name ≡ a → verdictBy wad words a ≡ NotAccepted r → fieldOk (numberOf r) ≡ true
-      → (m : ℕ) × ((markerAnswer wad name ≡ Entry m) × ((lengthOf wad words (Entry m) ≡ 16) × FieldToldAt wad m r))
+      → (m : ℕ) × ((markerAnswer wad name ≡ Entry m) × ((printedLength wad words (Entry m) ≡ 16) × FieldToldAt wad m r))
   field-by (NoMarker s) r e q ok =
       let early = marker-atMost wad name s e in
       let same : numberOf s ≡ numberOf r = ap numberIn q in
@@ -137,7 +137,7 @@ module _ (wad name words : List ℕ) where
   pub reasons-hold : ReasonsHold wad name words
   reasons-hold =
       record {
-        own = λ room answer e other. own-by (leb (lengthOf wad words (markerAnswer wad name)) room) (verdict wad name words) (lengthOf wad words (markerAnswer wad name)) answer e other;
+        own = λ room answer e other. own-by (leb (printedLength wad words (markerAnswer wad name)) room) (verdict wad name words) (printedLength wad words (markerAnswer wad name)) answer e other;
         field = λ r q ok. field-by (markerAnswer wad name) r refl q ok;
         loop = λ q.
             let (m, (b, e)) = graph-by wad name words (markerAnswer wad name) NodeLoop (omega arith) refl q in
@@ -156,7 +156,7 @@ module _ (wad name words : List ℕ) where
             let k = known wad name words depth m q in
             let nodes = nodesAt wad m in
             let t = route-holds nodes depth (k .deep) in (
-              ap (lengthOf wad words) (k .below .marks) ∙ ap (λ (c : Check). lengthBy c nodes) (k .below .passes) ∙ ap (λ (g : Graph). length (wayOf nodes g)) (k .deep) ∙ t .many,
+              ap (printedLength wad words) (k .below .marks) ∙ ap (λ (c : Check). lengthBy c nodes) (k .below .passes) ∙ ap (λ (g : Graph). length (wayOf nodes g)) (k .deep) ∙ t .many,
               t,
             );
       }

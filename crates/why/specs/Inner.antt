@@ -6,6 +6,7 @@ use mathlib.Core.Path.{_≡_}
 use lib.ListN.{length}
 use Rattle.refusal.specs.declared.Refusal.{Refusal}
 use Rattle.refusal.specs.declared.Check.the-variants.{Pass, Refused}
+use Rattle.wad.specs.Header.{mostBytes}
 use Rattle.linedef.specs.Linedefs.{linedefSize}
 use Rattle.record.specs.Sidedefs.{sidedefSize}
 use Rattle.built.specs.Segs.{segSize}
@@ -41,13 +42,13 @@ pub record Nameable (hexen : Bool) (wad dir : List ℕ) (marker number i : ℕ) 
   pub low : 23 ≤ number
   pub high : number ≤ 28
   pub inside : number ≤ 27 → i < namedCount hexen (mapLumps wad dir marker) number
-  pub small : length (mapLump (mapLumps wad dir marker) BLOCKMAP) ≤ 16777216
+  pub small : length (mapLump (mapLumps wad dir marker) BLOCKMAP) ≤ mostBytes
 
 -- a check below 31 refused the map with `r`
 pub record RefusedBelow (wad dir : List ℕ) (count marker : ℕ) (r : Refusal) : Type 0 where
   pub long : 16 * count ≤ length dir
   pub marked : marker < count
-  pub small : length wad ≤ 16777216
+  pub small : length wad ≤ mostBytes
   pub lent : ℕ
   pub refused : mapCheck dir count marker (mapLumps wad dir marker) lent ≡ Refused r
 

@@ -46,15 +46,15 @@ outBy Pass hexen lumps nodes out = printed out (bytesOf (wayOf nodes (graphVerdi
 outBy (Refused r) hexen lumps nodes out = fieldPrinted hexen lumps r out
 
 -- nothing is printed where no marker was found
-abbrev pub lengthOf : List ℕ → List ℕ → Marker → ℕ
-lengthOf wad words (Entry marker) = lengthBy (checkAt wad marker (length words)) (nodesAt wad marker)
-lengthOf wad words (NoMarker r) = 0
+abbrev pub printedLength : List ℕ → List ℕ → Marker → ℕ
+printedLength wad words (Entry marker) = lengthBy (checkAt wad marker (length words)) (nodesAt wad marker)
+printedLength wad words (NoMarker r) = 0
 
-abbrev pub outOf : List ℕ → List ℕ → List ℕ → Marker → List ℕ
-outOf wad words out (Entry marker) =
+abbrev pub printedOut : List ℕ → List ℕ → List ℕ → Marker → List ℕ
+printedOut wad words out (Entry marker) =
     outBy (checkAt wad marker (length words)) (gameAt (directoryOf wad) (entryCount (headOf wad)) marker)
     (mapLumps wad (directoryOf wad) marker) (nodesAt wad marker) out
-outOf wad words out (NoMarker r) = out
+printedOut wad words out (NoMarker r) = out
 
 -- the verdict and the length; 85, and neither of them, where the output is shorter
 abbrev pub answerBy : Verdict → ℕ → ℕ → Reason
@@ -63,12 +63,12 @@ answerBy verdict length room =
 
 -- what is promised: the answer, the words afterwards, which are as the check leaves them, and the output
 pub record ReasonTold (wad name words out : List ℕ) (answer : Reason) (wordsThen outThen : List ℕ) : Type 0 where
-  pub answers : answer ≡ answerBy (verdict wad name words) (lengthOf wad words (markerAnswer wad name)) (length out)
+  pub answers : answer ≡ answerBy (verdict wad name words) (printedLength wad words (markerAnswer wad name)) (length out)
   pub leaves : wordsThen ≡ wordsAfter wad name words
-  pub prints : outThen ≡ outOf wad words out (markerAnswer wad name)
+  pub prints : outThen ≡ printedOut wad words out (markerAnswer wad name)
 
 -- and from a marker on that was found
 pub record ReasonToldAt (wad : List ℕ) (marker : ℕ) (words out : List ℕ) (answer : Reason) (wordsThen outThen : List ℕ) : Type 0 where
-  pub answers : answer ≡ answerBy (verdictBy wad words (Entry marker)) (lengthOf wad words (Entry marker)) (length out)
+  pub answers : answer ≡ answerBy (verdictBy wad words (Entry marker)) (printedLength wad words (Entry marker)) (length out)
   pub leaves : wordsThen ≡ wordsAfterBy wad words (Entry marker)
-  pub prints : outThen ≡ outOf wad words out (Entry marker)
+  pub prints : outThen ≡ printedOut wad words out (Entry marker)

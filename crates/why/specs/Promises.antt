@@ -25,7 +25,7 @@ use Rattle.way.specs.Ways.{loopWay, routeOf}
 use Rattle.way.specs.Promises.{LoopTold, RouteTold}
 use Rattle.why.specs.declared.Reason.{Reason}
 use Rattle.why.specs.Named.{fieldOk, namedBytes, namedFields, namedField}
-use Rattle.why.specs.Printing.{lengthOf, answerBy}
+use Rattle.why.specs.Printing.{printedLength, answerBy}
 
 -- the field that a refusal names is out of its range, with every field before it in its range, and it holds what stands at its offset in
 -- the record, or in BLOCKMAP, or it is BLOCKMAP's size
@@ -41,15 +41,15 @@ FieldToldAt wad marker r =
 
 pub record ReasonsHold (wad name words : List ℕ) : Type 0 where
   -- the verdict is the map check's own, but for 85
-  pub own : (room : ℕ) (answer : Reason) → answer ≡ answerBy (verdict wad name words) (lengthOf wad words (markerAnswer wad name)) room
+  pub own : (room : ℕ) (answer : Reason) → answer ≡ answerBy (verdict wad name words) (printedLength wad words (markerAnswer wad name)) room
       → (answer .verdict ≡ Refused ReasonRoom → ⊥) → answer .verdict ≡ verdict wad name words
   -- 23 to 28: a field is printed, and holds of the map
   pub field : (r : Refusal) → verdict wad name words ≡ Refused r → fieldOk (numberOf r) ≡ true
-      → (marker : ℕ) × ((markerAnswer wad name ≡ Entry marker) × ((lengthOf wad words (Entry marker) ≡ 16) × FieldToldAt wad marker r))
+      → (marker : ℕ) × ((markerAnswer wad name ≡ Entry marker) × ((printedLength wad words (Entry marker) ≡ 16) × FieldToldAt wad marker r))
   -- 31: a list of choices is printed, never an empty one, and leads from the root into the loop
   pub loop : verdict wad name words ≡ Refused NodeLoop
       → (marker : ℕ) × ((markerAnswer wad name ≡ Entry marker)
-      × ((lengthOf wad words (Entry marker) ≡ length (loopWay (nodesAt wad marker))) × LoopTold (nodesAt wad marker) (loopWay (nodesAt wad marker))))
+      × ((printedLength wad words (Entry marker) ≡ length (loopWay (nodesAt wad marker))) × LoopTold (nodesAt wad marker) (loopWay (nodesAt wad marker))))
   -- an accepted map: a route as long as its depth
   pub route : (depth marker : ℕ) → verdict wad name words ≡ Accepted depth marker
-      → (lengthOf wad words (markerAnswer wad name) ≡ depth) × RouteTold (nodesAt wad marker) depth (routeOf (nodesAt wad marker))
+      → (printedLength wad words (markerAnswer wad name) ≡ depth) × RouteTold (nodesAt wad marker) depth (routeOf (nodesAt wad marker))

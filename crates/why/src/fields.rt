@@ -2,6 +2,7 @@
 ghost use mathlib.Core.Path.{_≡_};
 ghost use Prim.Native.Nat.{_<_, _≤_};
 ghost use lib.ListN.{length};
+ghost use Rattle.wad.specs.Header.{mostBytes};
 ghost use Rattle.range.specs.Fields.{FieldFits, putField, firstOut};
 ghost use Rattle.field.specs.Records.{recordBytes};
 ghost use Rattle.linedef.specs.Linedefs.{linedefSize};
@@ -132,7 +133,7 @@ fn of_node(hexen: bool, wad: &[u8], dir: &[u8], marker: usize, i: usize) -> Fiel
 
 fn of_blockmap(hexen: bool, wad: &[u8], dir: &[u8], marker: usize, i: usize) -> Field
     requires { ⌜ Counts hexen (now wad) (now dir) marker ⌝ }
-    requires { ⌜ length (mapLump (mapLumps (now wad) (now dir) marker) BLOCKMAP) ≤ 16777216 ⌝ }
+    requires { ⌜ length (mapLump (mapLumps (now wad) (now dir) marker) BLOCKMAP) ≤ mostBytes ⌝ }
     ensures { λ r. ⌜ (r ≡ namedField hexen (mapLumps (now (wad .entry)) (now (dir .entry)) marker) 28 i) × FieldFits r ⌝ }
 {
     blocklist::offending(

@@ -9,7 +9,8 @@ use denote.Ref.{now}
 use lib.ListN.{length}
 use Rattle.range.specs.declared.Field.{Field}
 use Rattle.range.specs.Fields.{firstOut, FieldFits}
-use Rattle.blocklist.specs.Fields.{mostBytes, wordField, lengthFields, fieldsIfCell, blockmapFields, FitsIf}
+use Rattle.wad.specs.Header.{mostBytes}
+use Rattle.blocklist.specs.Fields.{wordField, lengthFields, fieldsIfCell, blockmapFields, FitsIf}
 use Rattle.blocklist.proofs.Fields.{first-stops, first-goes, bounds}
 use Rattle.blocklist.proofs.Reasons.{fields-fit}
 use Rattle.blocklist.proofs.offending.Statement.{statement}

@@ -11,7 +11,7 @@ use lib.Arith.{digits-lt}
 use lib.ListN.{length}
 use Rattle.encode.specs.Runs.{countOf, aboveOf, begins}
 use Rattle.encode.specs.Lump.{coveredAt}
-use Rattle.encode.proofs.Joined.{sum-none, sum-more}
+use Rattle.encode.proofs.LaidOut.{sum-none, sum-more}
 use Rattle.encode.proofs.measure.column_length.Statement.{statement}
 use Rattle.encode.proofs.measure.column_length.Tie as tie
 

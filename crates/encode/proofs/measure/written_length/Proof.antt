@@ -6,14 +6,14 @@ use borrow.Author.Needs.{needs}
 use denote.Ref.{now}
 use Rattle.encode.specs.Runs.{columnLength}
 use Rattle.encode.specs.Lump.{coveredAt}
-use Rattle.encode.specs.Inner.{offsetAt}
-use Rattle.encode.proofs.Joined.{sum-none, sum-more}
+use Rattle.encode.specs.Inner.{startOfColumn}
+use Rattle.encode.proofs.LaidOut.{sum-none, sum-more}
 use Rattle.encode.proofs.Lump.{column-most, offset-most}
 use Rattle.encode.proofs.measure.written_length.Statement.{statement}
 use Rattle.encode.proofs.measure.written_length.Tie as tie
 
 abbrev Inv-loop : tie.InvT-loop
-Inv-loop cover width height total₀ column₀ total column = (column ≤ width) × (total ≡ offsetAt width height cover column)
+Inv-loop cover width height total₀ column₀ total column = (column ≤ width) × (total ≡ startOfColumn width height cover column)
 
 abbrev μ-loop : tie.MeasureT-loop
 μ-loop cover width height total₀ column₀ total column = width - column
@@ -29,7 +29,7 @@ add-total-2 c =
     let s = c .before .before .before .before in
     let a = s .args in
     let l = c .before .before .loop in
-    let e : l .total ≡ offsetAt (a .width) (a .height) (now (a .cover)) (l .column) = l .inv .1 in
+    let e : l .total ≡ startOfColumn (a .width) (a .height) (now (a .cover)) (l .column) = l .inv .1 in
     let total = offset-most (a .width) (a .height) (now (a .cover)) (l .column) (s .pre .0) (s .pre .1) (l .inv .0) in
     let one = column-most (coveredAt (now (a .cover)) (a .width) (l .column)) (a .height) (s .pre .1) in
     omega (arith, e, total, one, c .column-length .ensures)

@@ -12,7 +12,7 @@ use lib.ListN.{length, set, length-set}
 use lib.Seq.{sets, length-sets}
 use Rattle.encode.specs.Runs.{aboveOf, postAt}
 use Rattle.encode.specs.Lump.{pixelAt, coveredAt}
-use Rattle.encode.proofs.Joined.{joined-none}
+use Rattle.encode.proofs.LaidOut.{laid-none}
 use Rattle.encode.proofs.Runs.{length-ended}
 use Rattle.encode.proofs.Inner.{posts, run-rows, run-room, Next, next-of, column-more, place-more}
 use Rattle.encode.proofs.Stores.{sets-push}
@@ -32,7 +32,7 @@ abbrev μ-loop : tie.MeasureT-loop
 loop-holds : tie.Need-loop-holds Inv-loop μ-loop
 loop-holds c =
     let a = c .before .before .before .args in
-    let none = joined-none (postAt (pixelAt (now (a .colour)) (a .width) (a .column)) (coveredAt (now (a .cover)) (a .width) (a .column)) (a .height)) in
+    let none = laid-none (postAt (pixelAt (now (a .colour)) (a .width) (a .column)) (coveredAt (now (a .cover)) (a .width) (a .column)) (a .height)) in
     (search needs, (λ h. refl), omega (arith, ap length none), ap (sets (now (a .out)) (a .from)) (sym none))
 
 run-length-requires : tie.Need-run-length-requires Inv-loop μ-loop

@@ -7,8 +7,8 @@ use denote.Ref.{now}
 use lib.ListN.{length}
 use Rattle.encode.specs.Runs.{columnLength}
 use Rattle.encode.specs.Lump.{coveredAt}
-use Rattle.encode.specs.Inner.{offsetAt}
-use Rattle.encode.proofs.Joined.{sum-none, sum-le}
+use Rattle.encode.specs.Inner.{startOfColumn}
+use Rattle.encode.proofs.LaidOut.{sum-none, sum-le}
 use Rattle.encode.proofs.Inner.{stored, stored-none, length-stored, offset-more, stored-more}
 use Rattle.encode.proofs.Lump.{offset-most}
 use Rattle.encode.proofs.Stores.{length-putU32}
@@ -17,7 +17,7 @@ use Rattle.encode.proofs.writing.write_columns.Tie as tie
 
 abbrev Inv-loop : tie.InvT-loop
 Inv-loop colour cover width height out₀ to₀ column₀ out to column =
-    (column ≤ width) × (to ≡ offsetAt width height cover column) × (out ≡ stored width height colour cover out₀ column)
+    (column ≤ width) × (to ≡ startOfColumn width height cover column) × (out ≡ stored width height colour cover out₀ column)
 
 abbrev μ-loop : tie.MeasureT-loop
 μ-loop colour cover width height out₀ to₀ column₀ out to column = width - column

@@ -1,4 +1,4 @@
--- Laws of sums and of joined bytes: one more, how long they are, and what stands where. Assumes nothing.
+-- Laws of sums and of laidOut bytes: one more, how long they are, and what stands where. Assumes nothing.
 use Prim.Native.Nat.{ℕ, zero, suc, _+_, _*_, _≤_, _<_}
 use mathlib.Core.Bool.{Bool, true, false, cond}
 use mathlib.Core.List.{List, [], _++_}
@@ -8,7 +8,7 @@ use native.Mathlib.Nat.{le-of-suc-le-suc, eq-or-lt-of-le}
 use native.Mathlib.Numerals.{add-one}
 use native.Mathlib.Omega.{arith}
 use lib.ListN.{length, length-append}
-use Rattle.encode.specs.Runs.{sumOf, countOf, joined}
+use Rattle.encode.specs.Runs.{sumOf, countOf, laidOut}
 
 module _ (f : ℕ → ℕ) where
   pub sum-none : sumOf f 0 ≡ 0
@@ -46,28 +46,28 @@ pub count-most : (f : ℕ → Bool) (n : ℕ) → countOf f n ≤ n
 count-most f n = let h = sum-most (λ i. cond (f i) 1 0) 1 n (λ i. count-one (f i)) in omega arith
 
 module _ (f : ℕ → List ℕ) where
-  pub joined-none : joined f 0 ≡ []
-  unfolding joined
-  joined-none = refl
+  pub laid-none : laidOut f 0 ≡ []
+  unfolding laidOut
+  laid-none = refl
 
-  pub joined-suc : (n : ℕ) → joined f (suc n) ≡ joined f n ++ f n
-  unfolding joined
-  joined-suc n = refl
+  pub laid-suc : (n : ℕ) → laidOut f (suc n) ≡ laidOut f n ++ f n
+  unfolding laidOut
+  laid-suc n = refl
 
-  pub joined-more : (n : ℕ) → joined f (n + 1) ≡ joined f n ++ f n
-  joined-more n = rw (add-one n) (joined-suc n)
+  pub laid-more : (n : ℕ) → laidOut f (n + 1) ≡ laidOut f n ++ f n
+  laid-more n = rw (add-one n) (laid-suc n)
 
-  pub length-joined-suc : (n : ℕ) → length (joined f (suc n)) ≡ length (joined f n) + length (f n)
-  length-joined-suc n = ap length (joined-suc n) ∙ length-append (joined f n) (f n)
+  pub length-laid-suc : (n : ℕ) → length (laidOut f (suc n)) ≡ length (laidOut f n) + length (f n)
+  length-laid-suc n = ap length (laid-suc n) ∙ length-append (laidOut f n) (f n)
 
   -- as long as the lengths' sum
-  pub length-joined : (g : ℕ → ℕ) (n : ℕ) → ((i : ℕ) → i < n → length (f i) ≡ g i) → length (joined f n) ≡ sumOf g n
-  length-joined g zero h = ap length joined-none ∙ sym (sum-none g)
-  length-joined g (suc n) h =
-      let k = length-joined g n (λ i l. h i (omega arith)) in
-      length-joined-suc n ∙ rw (k, h n (omega arith)) (sym (sum-suc g n))
+  pub length-laid : (g : ℕ → ℕ) (n : ℕ) → ((i : ℕ) → i < n → length (f i) ≡ g i) → length (laidOut f n) ≡ sumOf g n
+  length-laid g zero h = ap length laid-none ∙ sym (sum-none g)
+  length-laid g (suc n) h =
+      let k = length-laid g n (λ i l. h i (omega arith)) in
+      length-laid-suc n ∙ rw (k, h n (omega arith)) (sym (sum-suc g n))
 
-  pub length-joined-le : (i n : ℕ) → i ≤ n → length (joined f i) ≤ length (joined f n)
-  length-joined-le i n h =
-      let e : (n : ℕ) → length (joined f n) ≡ sumOf (λ i. length (f i)) n = λ n. length-joined (λ i. length (f i)) n (λ i l. refl) in
+  pub length-laid-le : (i n : ℕ) → i ≤ n → length (laidOut f i) ≤ length (laidOut f n)
+  length-laid-le i n h =
+      let e : (n : ℕ) → length (laidOut f n) ≡ sumOf (λ i. length (f i)) n = λ n. length-laid (λ i. length (f i)) n (λ i l. refl) in
       rw (e i, e n) (sum-le (λ i. length (f i)) i n h)
