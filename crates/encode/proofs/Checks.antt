@@ -21,7 +21,7 @@ use Rattle.encode.specs.declared.Encoding.{Encoding}
 use Rattle.encode.specs.Lump.{headerBytes, writtenOf, writtenLength}
 use Rattle.encode.specs.Encoding.{outputCheck, givenCheck, encodeCheck, encodingOf, Encoded}
 use Rattle.encode.proofs.Fits.{Fit}
-use Rattle.encode.proofs.Stores.{sets-append, sets-comm}
+use Rattle.layout.proofs.Stores.{sets-append, sets-comm}
 use Rattle.encode.proofs.Lump.{offsets, columns, length-offsets, length-written}
 use Rattle.encode.proofs.Inner.{stored}
 

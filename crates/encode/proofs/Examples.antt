@@ -1,7 +1,8 @@
 -- The two lumps of specs/Examples are computed. Assumes nothing.
 use mathlib.Core.Path.{refl}
 use Rattle.canvas.specs.Pixels.{listOf}
-use Rattle.encode.specs.Runs.{sumOf, laidOut, runFrom}
+use Rattle.layout.specs.Rows.{sumOf, laidOut}
+use Rattle.encode.specs.Runs.{runFrom}
 use Rattle.encode.specs.Examples.{Examples}
 
 pub examples : Examples

@@ -12,11 +12,13 @@ use lib.ListN.{length, length-append}
 use lib.Seq.{sets, length-sets}
 use Rattle.endian.specs.Unsigned.{putU32}
 use Rattle.picture.specs.declared.Picture.{Picture}
-use Rattle.encode.specs.Runs.{laidOut, aboveOf, begins, runFrom, postOf, postAt, columnBytes, columnLength}
+use Rattle.layout.specs.Rows.{laidOut}
+use Rattle.encode.specs.Runs.{aboveOf, begins, runFrom, postOf, postAt, columnBytes, columnLength}
 use Rattle.encode.specs.Lump.{pixelAt, coveredAt, u32Bytes}
 use Rattle.encode.specs.Inner.{runBytes, startOfColumn, offsetsTo, columnsTo}
-use Rattle.encode.proofs.LaidOut.{sum-more, laid-none, laid-suc, laid-more, length-laid-le}
-use Rattle.encode.proofs.Stores.{sets-append, sets-comm, sets-u32}
+use Rattle.layout.proofs.LaidOut.{sum-more, laid-none, laid-suc, laid-more, length-laid-le}
+use Rattle.layout.proofs.Stores.{sets-append, sets-comm}
+use Rattle.encode.proofs.Stores.{sets-u32}
 use Rattle.encode.proofs.Runs.{run-most, run-covered, run-ends, length-ended, length-column}
 use Rattle.encode.proofs.Lump.{length-offsets, length-columns}
 

@@ -6,10 +6,11 @@ use mathlib.Core.Path.{_≡_, refl, _∙_}
 use native.Mathlib.Omega.{arith}
 use lib.ListN.{length, length-append}
 use Rattle.picture.specs.declared.Picture.{Picture}
-use Rattle.encode.specs.Runs.{sumOf, laidOut, begins, columnLength}
+use Rattle.layout.specs.Rows.{sumOf, laidOut}
+use Rattle.encode.specs.Runs.{begins, columnLength}
 use Rattle.encode.specs.Lump.{pixelAt, coveredAt, columnOf, columnSize, columnStart, u32Bytes, writtenOf, writtenLength}
 use Rattle.encode.specs.Inner.{startOfColumn}
-use Rattle.encode.proofs.LaidOut.{sum-none, sum-suc, sum-most, count-most, length-laid}
+use Rattle.layout.proofs.LaidOut.{sum-none, sum-suc, sum-most, count-most, length-laid}
 use Rattle.encode.proofs.Runs.{length-column}
 
 sum-fours : (n : ℕ) → sumOf (λ i. 4) n ≡ 4 * n

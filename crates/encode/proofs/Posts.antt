@@ -9,8 +9,9 @@ use native.Mathlib.Omega.{arith}
 use lib.ListN.{length, getD, List·getD-append}
 use Rattle.canvas.specs.Pixels.{listOf}
 use Rattle.canvas.proofs.Planes.{length-listOf, getD-listOf}
-use Rattle.encode.specs.Runs.{laidOut, aboveOf, begins, runFrom, postOf, postAt, columnBytes}
-use Rattle.encode.proofs.LaidOut.{laid-none, laid-suc, length-laid-suc}
+use Rattle.layout.specs.Rows.{laidOut}
+use Rattle.encode.specs.Runs.{aboveOf, begins, runFrom, postOf, postAt, columnBytes}
+use Rattle.layout.proofs.LaidOut.{laid-none, laid-suc, length-laid-suc}
 use Rattle.encode.proofs.Runs.{run-suc, run-most, length-post, run-covered}
 use Rattle.encode.proofs.Standing.{Stands, stands-left, stands-right}
 use Rattle.encode.proofs.Reading.{Reads, PostAt, reads-end, reads-gap, reads-post}

@@ -10,8 +10,9 @@ use native.Mathlib.Omega.{arith}
 use lib.ListN.{length, length-append}
 use Rattle.canvas.specs.Pixels.{listOf}
 use Rattle.canvas.proofs.Planes.{length-listOf}
-use Rattle.encode.specs.Runs.{countOf, laidOut, aboveOf, begins, runFrom, postOf, postAt, columnBytes, columnLength}
-use Rattle.encode.proofs.LaidOut.{sum-none, sum-suc, laid-none, length-laid-suc}
+use Rattle.layout.specs.Rows.{countOf, laidOut}
+use Rattle.encode.specs.Runs.{aboveOf, begins, runFrom, postOf, postAt, columnBytes, columnLength}
+use Rattle.layout.proofs.LaidOut.{sum-none, sum-suc, laid-none, length-laid-suc}
 
 module _ (covered : ℕ → Bool) where
   pub run-none : (row : ℕ) → runFrom covered row 0 ≡ 0

@@ -3,7 +3,8 @@
 use Prim.Native.Nat.{ℕ, zero, suc, _+_}
 use mathlib.Core.List.{List, []}
 use Rattle.picture.specs.Layout.{tableEnd}
-use Rattle.encode.specs.Runs.{sumOf, laidOut, postOf, columnBytes, columnLength}
+use Rattle.layout.specs.Rows.{sumOf, laidOut}
+use Rattle.encode.specs.Runs.{postOf, columnBytes, columnLength}
 use Rattle.encode.specs.Lump.{pixelAt, coveredAt, u32Bytes}
 
 -- a run of `count` rows from `row` on as a post; a run of none is nothing

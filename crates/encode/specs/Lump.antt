@@ -9,7 +9,8 @@ use Rattle.endian.specs.Unsigned.{u16Bytes}
 use Rattle.endian.specs.Signed.{bitsOf}
 use Rattle.picture.specs.declared.Picture.{Picture}
 use Rattle.picture.specs.Layout.{tableEnd}
-use Rattle.encode.specs.Runs.{sumOf, laidOut, columnBytes, columnLength}
+use Rattle.layout.specs.Rows.{sumOf, laidOut}
+use Rattle.encode.specs.Runs.{columnBytes, columnLength}
 
 -- the number of pixels, width × height
 abbrev pub pixelsOf : Picture → ℕ

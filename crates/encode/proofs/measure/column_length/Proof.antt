@@ -9,9 +9,10 @@ use borrow.Author.Needs.{needs}
 use denote.Ref.{now}
 use lib.Arith.{digits-lt}
 use lib.ListN.{length}
-use Rattle.encode.specs.Runs.{countOf, aboveOf, begins}
+use Rattle.layout.specs.Rows.{countOf}
+use Rattle.encode.specs.Runs.{aboveOf, begins}
 use Rattle.encode.specs.Lump.{coveredAt}
-use Rattle.encode.proofs.LaidOut.{sum-none, sum-more}
+use Rattle.layout.proofs.LaidOut.{sum-none, sum-more}
 use Rattle.encode.proofs.measure.column_length.Statement.{statement}
 use Rattle.encode.proofs.measure.column_length.Tie as tie
 

@@ -7,7 +7,7 @@ use denote.Ref.{now}
 use Rattle.encode.specs.Runs.{columnLength}
 use Rattle.encode.specs.Lump.{coveredAt}
 use Rattle.encode.specs.Inner.{startOfColumn}
-use Rattle.encode.proofs.LaidOut.{sum-none, sum-more}
+use Rattle.layout.proofs.LaidOut.{sum-none, sum-more}
 use Rattle.encode.proofs.Lump.{column-most, offset-most}
 use Rattle.encode.proofs.measure.written_length.Statement.{statement}
 use Rattle.encode.proofs.measure.written_length.Tie as tie

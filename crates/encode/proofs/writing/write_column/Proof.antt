@@ -12,10 +12,10 @@ use lib.ListN.{length, set, length-set}
 use lib.Seq.{sets, length-sets}
 use Rattle.encode.specs.Runs.{aboveOf, postAt}
 use Rattle.encode.specs.Lump.{pixelAt, coveredAt}
-use Rattle.encode.proofs.LaidOut.{laid-none}
+use Rattle.layout.proofs.LaidOut.{laid-none}
 use Rattle.encode.proofs.Runs.{length-ended}
 use Rattle.encode.proofs.Inner.{posts, run-rows, run-room, Next, next-of, column-more, place-more}
-use Rattle.encode.proofs.Stores.{sets-push}
+use Rattle.layout.proofs.Stores.{sets-push}
 use Rattle.encode.proofs.writing.write_column.Statement.{statement}
 use Rattle.encode.proofs.writing.write_column.Tie as tie
 

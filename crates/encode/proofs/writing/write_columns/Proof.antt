@@ -8,7 +8,7 @@ use lib.ListN.{length}
 use Rattle.encode.specs.Runs.{columnLength}
 use Rattle.encode.specs.Lump.{coveredAt}
 use Rattle.encode.specs.Inner.{startOfColumn}
-use Rattle.encode.proofs.LaidOut.{sum-none, sum-le}
+use Rattle.layout.proofs.LaidOut.{sum-none, sum-le}
 use Rattle.encode.proofs.Inner.{stored, stored-none, length-stored, offset-more, stored-more}
 use Rattle.encode.proofs.Lump.{offset-most}
 use Rattle.encode.proofs.Stores.{length-putU32}

@@ -13,7 +13,8 @@ use Rattle.canvas.specs.Pixels.{listOf}
 use Rattle.encode.specs.Lump.{pixelAt}
 use Rattle.canvas.proofs.Planes.{length-listOf}
 use Rattle.encode.proofs.Runs.{listOf-none, listOf-more}
-use Rattle.encode.proofs.Stores.{sets-push, sets-headed}
+use Rattle.layout.proofs.Stores.{sets-push}
+use Rattle.encode.proofs.Stores.{sets-headed}
 use Rattle.encode.proofs.writing.write_post.Statement.{statement}
 use Rattle.encode.proofs.writing.write_post.Tie as tie
 

@@ -1,4 +1,4 @@
--- Laws of sums and of laidOut bytes: one more, how long they are, and what stands where. Assumes nothing.
+-- Laws of sums and of bytes laid out: one more, how long they are, and what stands where. Assumes nothing.
 use Prim.Native.Nat.{ℕ, zero, suc, _+_, _*_, _≤_, _<_}
 use mathlib.Core.Bool.{Bool, true, false, cond}
 use mathlib.Core.List.{List, [], _++_}
@@ -8,7 +8,7 @@ use native.Mathlib.Nat.{le-of-suc-le-suc, eq-or-lt-of-le}
 use native.Mathlib.Numerals.{add-one}
 use native.Mathlib.Omega.{arith}
 use lib.ListN.{length, length-append}
-use Rattle.encode.specs.Runs.{sumOf, countOf, laidOut}
+use Rattle.layout.specs.Rows.{sumOf, countOf, laidOut}
 
 module _ (f : ℕ → ℕ) where
   pub sum-none : sumOf f 0 ≡ 0

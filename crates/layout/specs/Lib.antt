@@ -1,0 +1,3 @@
+-- Bytes one after the other. Assumes nothing.
+
+pub mod Rows
