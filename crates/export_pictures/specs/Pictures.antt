@@ -15,8 +15,8 @@ use Rattle.encode.specs.declared.Encoding.the-variants.{Written, Refused as Not
 use Rattle.encode.specs.Lump.{writtenLength, writtenOf}
 use Rattle.encode.specs.Encoding.{encodeCheck, encodingOf}
 use Rattle.export_pictures.specs.declared.PictureAnswer.{PictureAnswer}
-use Rattle.export_pictures.specs.declared.LengthAnswer.{LengthAnswer}
-use Rattle.status.specs.Status.{accepted, refused}
+use Rattle.status.specs.declared.LengthAnswer.{LengthAnswer}
+use Rattle.status.specs.Status.{accepted, refused, lengthGiven, lengthRefused}
 
 -- a header of zeros
 abbrev pub noPicture : Picture
@@ -39,8 +39,8 @@ pub record PicturePainted (lump colour cover : List ℕ) (answer : PictureAnswer
 
 -- how many bytes were written
 abbrev pub lengthOut : Encoding → LengthAnswer
-lengthOut (Written length) = record { status = accepted; length = length }
-lengthOut (NotWritten r) = record { status = refused r; length = 0 }
+lengthOut (Written length) = lengthGiven length
+lengthOut (NotWritten r) = lengthRefused r
 
 -- the writing entry's answer, and the output afterwards
 pub record PictureWritten (picture : Picture) (colour cover out : List ℕ) (answer : LengthAnswer) (out′ : List ℕ) : Type 0 where

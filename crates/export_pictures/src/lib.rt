@@ -4,7 +4,10 @@ ghost use Rattle.export_pictures.specs.Pictures.{pictureOut, pictureJudg
 use encode::Encoding;
 use picture::Picture;
 use picture::PictureVerdict;
+use status::LengthAnswer;
 use status::Status;
+use status::length_given;
+use status::length_refused;
 use status::nothing_refused;
 use status::refused;
 
@@ -54,12 +57,6 @@ pub extern "C" fn meshpigeon_paint_picture(
     answer(canvas::paint(lump, colour, cover))
 }
 
-#[repr(C)]
-pub struct LengthAnswer {
-    pub status: Status,
-    pub length: usize,
-}
-
 // A picture written from its pixels into the front of a lent buffer, 55 to 58.
 #[no_mangle]
 pub extern "C" fn meshpigeon_write_picture(
@@ -71,13 +68,7 @@ pub extern "C" fn meshpigeon_write_picture(
     ensures { λ r. ⌜ PictureWritten picture (now (colour .entry)) (now (cover .entry)) (now (out .entry)) r (now (out .exit)) ⌝ }
 {
     match encode::encode(picture, colour, cover, out) {
-        Encoding::Written(length) => LengthAnswer {
-            status: nothing_refused(),
-            length,
-        },
-        Encoding::Refused(r) => LengthAnswer {
-            status: refused(r),
-            length: 0,
-        },
+        Encoding::Written(length) => length_given(length),
+        Encoding::Refused(r) => length_refused(r),
     }
 }

@@ -1,9 +1,11 @@
 -- What every answer begins with: number 0 is accepted. Assumes nothing.
+use Prim.Native.Nat.{ℕ}
 use Rattle.refusal.specs.declared.Refusal.{Refusal}
 use Rattle.refusal.specs.declared.Check.{Check}
 use Rattle.refusal.specs.declared.Check.the-variants.{Pass, Refused}
 use Rattle.refusal.specs.Table.{numberOf, placeOf, recordOf}
 use Rattle.status.specs.declared.Status.{Status}
+use Rattle.status.specs.declared.LengthAnswer.{LengthAnswer}
 
 -- nothing was refused
 abbrev pub accepted : Status
@@ -17,3 +19,11 @@ refused r = record { number = numberOf r; place = placeOf r; «record» = record
 abbrev pub statusOf : Check → Status
 statusOf Pass = accepted
 statusOf (Refused r) = refused r
+
+-- how many bytes were written
+abbrev pub lengthGiven : ℕ → LengthAnswer
+lengthGiven length = record { status = accepted; length = length }
+
+-- a refusal has no length
+abbrev pub lengthRefused : Refusal → LengthAnswer
+lengthRefused r = record { status = refused r; length = 0 }

@@ -1,6 +1,6 @@
 // What every answer begins with.
 ghost use mathlib.Core.Path.{_≡_};
-ghost use Rattle.status.specs.Status.{accepted, refused, statusOf};
+ghost use Rattle.status.specs.Status.{accepted, refused, statusOf, lengthGiven, lengthRefused};
 use refusal::Check;
 use refusal::Refusal;
 
@@ -38,5 +38,30 @@ pub fn status_of(c: Check) -> Status
     match c {
         Check::Pass => nothing_refused(),
         Check::Refused(r) => refused(r),
+    }
+}
+
+// How many bytes were written; 0 with a refusal.
+#[repr(C)]
+pub struct LengthAnswer {
+    pub status: Status,
+    pub length: usize,
+}
+
+pub fn length_given(length: usize) -> LengthAnswer
+    ensures { λ r. ⌜ r ≡ lengthGiven length ⌝ }
+{
+    LengthAnswer {
+        status: nothing_refused(),
+        length,
+    }
+}
+
+pub fn length_refused(r: Refusal) -> LengthAnswer
+    ensures { λ a. ⌜ a ≡ lengthRefused r ⌝ }
+{
+    LengthAnswer {
+        status: refused(r),
+        length: 0,
     }
 }

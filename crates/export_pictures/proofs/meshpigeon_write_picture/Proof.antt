@@ -13,7 +13,7 @@ returns c =
     let written = c .before .before .before .before .before .before .encode .ensures in
     let g = c .before .before .length .given in
     record {
-      answers = (λ i. record { status = c .nothing-refused .ensures i; length = g .0 .0 }) ∙ ap lengthOut (sym (g .1) ∙ written .answered);
+      answers = c .length-given .ensures ∙ ap lengthOut (sym (g .1) ∙ written .answered);
       leaves = written .leaves;
     }
 
@@ -21,7 +21,7 @@ returns-2 : tie.Need-returns-2
 returns-2 c =
     let written = c .before .before .before .before .before .before .encode .ensures in
     record {
-      answers = (λ i. record { status = c .refused .ensures i; length = 0 }) ∙ ap lengthOut (sym (c .before .before .r .given .1) ∙ written .answered);
+      answers = c .length-refused .ensures ∙ ap lengthOut (sym (c .before .before .r .given .1) ∙ written .answered);
       leaves = written .leaves;
     }
 
