@@ -50,6 +50,12 @@ AT(map_answer, status, 0);
 AT(map_answer, depth, 24);
 AT(map_answer, marker, 32);
 
+SIZE(reason_answer, 48);
+AT(reason_answer, status, 0);
+AT(reason_answer, depth, 24);
+AT(reason_answer, marker, 32);
+AT(reason_answer, length, 40);
+
 SIZE(descent_answer, 40);
 AT(descent_answer, status, 0);
 AT(descent_answer, subsector, 24);
@@ -310,6 +316,132 @@ static void graphs(void)
 {
     graph_is_refused(1, 31);
     graph_is_refused(0x8000, 32);
+}
+
+/* ---- a map, and why ---- */
+
+static int all_are(const void *bytes, size_t size, uint8_t value)
+{
+    for (size_t i = 0; i < size; i++)
+        if (((const uint8_t *)bytes)[i] != value)
+            return 0;
+    return 1;
+}
+
+/* What the library is lent: as many bytes as a field needs and one more, and a word more than the nodes need. */
+static uint8_t reason[17];
+static uint16_t lent[4 * NODES + 1];
+
+static meshpigeon_reason_answer why(size_t words_len, size_t out_len)
+{
+    memset(reason, 0xA5, sizeof reason);
+    memset(lent, 0xA5, sizeof lent);
+    return meshpigeon_why(wad, wad_len, map_name, 8, lent, words_len, reason, out_len);
+}
+
+static int reason_is(meshpigeon_reason_answer w, size_t depth, size_t marker, size_t length)
+{
+    return w.depth == depth && w.marker == marker && w.length == length;
+}
+
+/* What was printed, with all bytes behind it as found. */
+static int printed_is(const void *bytes, size_t length)
+{
+    return memcmp(reason, bytes, length) == 0 && all_are(reason + length, sizeof reason - length, 0xA5);
+}
+
+/* The words as a refusal below 31 leaves them, and as 31, 32 and acceptance do. */
+static int words_as_found(void)
+{
+    return all_are(lent, sizeof lent, 0xA5);
+}
+
+static int words_cleared(void)
+{
+    return all_are(lent, 8 * NODES, 0) && lent[4 * NODES] == 0xA5A5;
+}
+
+/* The children of node 0 and of node 1, the root. */
+static void give_children(uint16_t right_0, uint16_t left_0, uint16_t right_1, uint16_t left_1)
+{
+    const uint8_t of_0[] = {W(right_0), W(left_0)}, of_1[] = {W(right_1), W(left_1)};
+    memcpy(wad + lump_offset(BEFORE + 7) + 24, of_0, sizeof of_0);
+    memcpy(wad + lump_offset(BEFORE + 7) + 28 + 24, of_1, sizeof of_1);
+}
+
+/* The deepest route: through node 0 on either side of the root, and right where both children are as deep. */
+static void routes(void)
+{
+    build_wad();
+    meshpigeon_reason_answer w = why(4 * NODES + 1, sizeof reason);
+    EXPECT(accepted(w.status) && reason_is(w, DEPTH, BEFORE, 2) && printed_is("RR", 2) && words_cleared());
+    give_children(0x8001, 0x8000, 0x8003, 0);
+    w = why(4 * NODES, 2);
+    EXPECT(accepted(w.status) && reason_is(w, DEPTH, BEFORE, 2) && printed_is("LR", 2) && words_cleared());
+    w = why(4 * NODES, 1);
+    EXPECT(status_is(w.status, 85, 0, 0) && reason_is(w, 0, 0, 0) && printed_is("", 0) && words_cleared());
+}
+
+/* Linedef 1 has right sidedef 513 of one sidedef. */
+static void fields(void)
+{
+    static const uint8_t field[] = {L(10), L(513), L(0), L(0)};
+    build_wad();
+    wad[lump_offset(BEFORE + 2) + 14 + 10] = 1;
+    wad[lump_offset(BEFORE + 2) + 14 + 11] = 2;
+    meshpigeon_reason_answer w = why(4 * NODES, sizeof reason);
+    EXPECT(status_is(w.status, 23, 2, 1) && reason_is(w, 0, 0, 16) && printed_is(field, 16) && words_as_found());
+    w = why(0, 16);
+    EXPECT(status_is(w.status, 23, 2, 1) && reason_is(w, 0, 0, 16) && printed_is(field, 16) && words_as_found());
+    w = why(4 * NODES, 15);
+    EXPECT(status_is(w.status, 85, 0, 0) && reason_is(w, 0, 0, 0) && printed_is("", 0) && words_as_found());
+}
+
+/* Four numbers of which each is another: the offset of cell 0 leads to word 259, and words 5 to 8 are behind the offsets. */
+static void cells(void)
+{
+    static const uint8_t field[] = {L(8), L(259), L(5), L(8)}, offset[] = {W(259)};
+    build_wad();
+    memcpy(wad + lump_offset(BEFORE + 10) + 8, offset, sizeof offset);
+    meshpigeon_reason_answer w = why(4 * NODES, 16);
+    EXPECT(status_is(w.status, 28, 10, 0) && reason_is(w, 0, 0, 16) && printed_is(field, 16) && words_as_found());
+}
+
+/* From the root right to node 0, whose left child is node 0 again; and left to it, whose right child is the root. */
+static void loops(void)
+{
+    build_wad();
+    give_children(0x8001, 0, 0, 0x8003);
+    meshpigeon_reason_answer w = why(4 * NODES + 1, sizeof reason);
+    EXPECT(status_is(w.status, 31, 7, 0) && reason_is(w, 0, 0, 2) && printed_is("RL", 2) && words_cleared());
+    w = why(4 * NODES + 1, 1);
+    EXPECT(status_is(w.status, 85, 0, 0) && reason_is(w, 0, 0, 0) && printed_is("", 0) && words_cleared());
+    give_children(1, 0, 0x8003, 0);
+    w = why(4 * NODES, 2);
+    EXPECT(status_is(w.status, 31, 7, 0) && reason_is(w, 0, 0, 2) && printed_is("LR", 2) && words_cleared());
+}
+
+/* Refusals that print nothing ask for no room. */
+static void silences(void)
+{
+    build_wad();
+    meshpigeon_reason_answer w = why(4 * NODES - 1, 0);
+    EXPECT(status_is(w.status, 30, 7, 0) && reason_is(w, 0, 0, 0) && printed_is("", 0) && words_as_found());
+    give_children(0x8001, 0x8001, 0, 0x8003);
+    w = why(4 * NODES, 0);
+    EXPECT(status_is(w.status, 32, 7, 0) && reason_is(w, 0, 0, 0) && printed_is("", 0) && words_cleared());
+    wad[wad_start + 16 + 8] = 'p';
+    w = why(4 * NODES, sizeof reason);
+    EXPECT(status_is(w.status, 6, 0, 1) && reason_is(w, 0, 0, 0) && printed_is("", 0) && words_as_found());
+}
+
+static void reasons(void)
+{
+    routes();
+    fields();
+    cells();
+    loops();
+    silences();
 }
 
 static void points(void)
@@ -721,14 +853,6 @@ static void count_down(uint8_t *bytes, size_t size)
         bytes[i] = (uint8_t)(255 - i);
 }
 
-static int all_are(const void *bytes, size_t size, uint8_t value)
-{
-    for (size_t i = 0; i < size; i++)
-        if (((const uint8_t *)bytes)[i] != value)
-            return 0;
-    return 1;
-}
-
 /* Record 1 of a lump of two is read, and written; records that are not there are tried, and must leave everything as it was. A trial has
  * the name of its kind, or its own where the kind has two; READ is the call, BEGIN the record before any field is given, END what is
  * expected of a read besides the fields, NOTHING what holds of a refused one. */
@@ -871,6 +995,7 @@ int main(void)
     games();
     maps();
     graphs();
+    reasons();
     points();
     orders();
     orders_are_refused(1, 44);
