@@ -17,15 +17,20 @@ mod raw;
 mod record;
 mod refusal;
 mod sidedefs;
+mod why;
 
 pub use game::{Linedef, Thing};
 pub use pair::{pair_find, pair_judge_map, pair_judge_map_with, pair_lump, PairEntry, PairFile, PairLump, PairMap, PairRefusal};
 pub use record::{Node, Sector, Seg, Sidedef, Subsector, Vertex};
 pub use refusal::Refusal;
 pub use sidedefs::Sidedefs;
+pub use why::{why, why_with, Choice, Explained, Field, Reason};
 
 /// As many work words as any map needs: four for each of 32,767 nodes.
 pub const MOST_WORDS: usize = 4 * 32_767;
+
+/// As many bytes as any reason needs: a choice at each of 32,767 nodes.
+pub const MOST_REASON: usize = 32_767;
 
 /// As many words as any draw order needs: one more than 32,767 nodes.
 pub const MOST_DRAWN: usize = 32_767 + 1;

@@ -55,6 +55,8 @@ answers! {
     GameAnswer { hexen: bool }
     /// An accepted map.
     MapAnswer { depth: usize, marker: usize }
+    /// A map with its reason: how long that is.
+    ReasonAnswer { depth: usize, marker: usize, length: usize }
     /// Where a descent ends.
     DescentAnswer { subsector: usize, count: usize }
     /// How long a draw order is.
@@ -85,6 +87,16 @@ extern "C" {
         words: *mut u16,
         words_len: usize,
     ) -> MapAnswer;
+    fn meshpigeon_why(
+        wad: Bytes,
+        wad_len: usize,
+        name: Bytes,
+        name_len: usize,
+        words: *mut u16,
+        words_len: usize,
+        out: BytesMut,
+        out_len: usize,
+    ) -> ReasonAnswer;
     fn meshpigeon_descend(nodes: Bytes, nodes_len: usize, subsectors: usize, x: i16, y: i16) -> DescentAnswer;
     fn meshpigeon_draw_order(
         nodes: Bytes,
@@ -157,6 +169,15 @@ pub(crate) fn map_game(wad: &[u8], marker: usize) -> Result<GameAnswer, Refusal>
 
 pub(crate) fn judge_map(wad: &[u8], name: &[u8], words: &mut [u16]) -> Result<MapAnswer, Refusal> {
     unsafe { meshpigeon_judge_map(wad.as_ptr(), wad.len(), name.as_ptr(), name.len(), words.as_mut_ptr(), words.len()) }.checked()
+}
+
+/// An answer that a refusal does not clear: `length` stays.
+pub(crate) fn why(wad: &[u8], name: &[u8], words: &mut [u16], out: &mut [u8]) -> (Result<ReasonAnswer, Refusal>, usize) {
+    let (wad_len, name_len, words_len, out_len) = (wad.len(), name.len(), words.len(), out.len());
+    let (wad, name, words, out) = (wad.as_ptr(), name.as_ptr(), words.as_mut_ptr(), out.as_mut_ptr());
+    let answer = unsafe { meshpigeon_why(wad, wad_len, name, name_len, words, words_len, out, out_len) };
+    let length = answer.length;
+    (answer.checked(), length)
 }
 
 pub(crate) fn descend(nodes: &[u8], subsectors: usize, x: i16, y: i16) -> Result<DescentAnswer, Refusal> {

@@ -17,7 +17,7 @@ const fn sizes(hexen: bool) -> [usize; 9] {
 /// Why something was refused.
 #[derive(Clone, Copy, Debug, PartialEq, Eq)]
 pub struct Refusal {
-    /// The number in the table of refusals, 1 to 81.
+    /// The number in the table of refusals: 1 to 7, 10 to 12, 20 to 28, 30 to 32, 40 to 46, 50 to 58, 60, 61, 80, 81, 85.
     pub number: u32,
     /// The map lump concerned, 0 (the marker) to 10 (BLOCKMAP); 0 where none is.
     pub place: usize,
@@ -58,7 +58,7 @@ impl Refusal {
     /// Whether the caller's loan or question is at fault, and not the file: too few words, a short buffer, a number or a name that
     /// cannot be asked for, a record that cannot be written.
     pub fn is_callers(&self) -> bool {
-        matches!(self.number, 7 | 10 | 30 | 41 | 45 | 55..=58 | 60 | 61 | 80)
+        matches!(self.number, 7 | 10 | 30 | 41 | 45 | 55..=58 | 60 | 61 | 80 | 85)
     }
 
     fn say_of_file(&self, out: &mut fmt::Formatter<'_>) -> fmt::Result {
@@ -224,6 +224,11 @@ impl fmt::Display for Refusal {
             ),
             80 => write!(out, "the count of sectors is not one that a map can have: a map has 1 to 65,535"),
             81 => write!(out, "more bytes came than any SIDEDEFS may have: at most 16,777,216 may come"),
+            85 => write!(
+                out,
+                "the output is too short for the reason: a field has 16 bytes, and a list of choices one for each, at most as many \
+                 as there are nodes"
+            ),
             number => write!(out, "refused with number {number}"),
         }
     }

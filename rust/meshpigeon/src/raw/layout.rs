@@ -25,6 +25,7 @@ layout! {
     MarkerAnswer 40 { status 0, marker 24, compared 32 }
     GameAnswer 32 { status 0, hexen 24 }
     MapAnswer 40 { status 0, depth 24, marker 32 }
+    ReasonAnswer 48 { status 0, depth 24, marker 32, length 40 }
     DescentAnswer 40 { status 0, subsector 24, count 32 }
     OrderAnswer 32 { status 0, count 24 }
     Sidedefs 32 { sectors 0, bytes 8, bad 16, low 24, found 25 }
