@@ -62,7 +62,7 @@ fn painted(pixels: &[[u8; 4]], palette: &Palette) -> (Vec<u8>, Vec<u8>) {
 fn refuse(file: &OsStr, picture: Picture, refusal: Refusal, report: &mut Report) {
     let outcome = Outcome::Refused(refusal, Finding::in_image(refusal, picture));
     let (file, subject) = (file.to_string_lossy().into_owned(), Subject::File);
-    report.verdict(&Verdict { file, subject, source: Source::File, game: None, outcome });
+    report.verdict(&Verdict::plain(file, subject, Source::File, outcome));
 }
 
 fn tell(file: &OsStr, picture: Picture, length: usize, output: &OsStr, report: &mut Report) {

@@ -148,12 +148,12 @@ impl fmt::Display for Finding {
 }
 
 /// `1 byte`, `2,000 bytes`.
-fn some(count: usize, thing: &str) -> String {
+pub fn some(count: usize, thing: &str) -> String {
     format!("{} {thing}{}", grouped(count as i128), if count == 1 { "" } else { "s" })
 }
 
 /// A number with a comma before every three digits, as the sentences write theirs.
-fn grouped(number: i128) -> String {
+pub fn grouped(number: i128) -> String {
     let digits = number.unsigned_abs().to_string();
     let mut text = String::from(if number < 0 { "-" } else { "" });
     for (at, digit) in digits.char_indices() {

@@ -2,11 +2,12 @@
 
 use crate::finding::Finding;
 use crate::name;
-use crate::pair::{Base, Opened};
+use crate::pair::{Base, Judged, Lent, Opened};
 use crate::report::Report;
 use crate::verdict::{Outcome, Source, Subject, Verdict};
 use crate::wad::Wad;
-use meshpigeon::{Accepted, Node, Refusal, Subsector, MOST_WORDS};
+use crate::why::Why;
+use meshpigeon::{Accepted, Node, Refusal, Subsector};
 use std::ffi::{OsStr, OsString};
 
 /// Judges the named maps of each file, or all of them where none is named; over a base, those of the pair.
@@ -21,29 +22,31 @@ pub fn run(files: &[OsString], base: Option<&OsStr>, maps: &[OsString], report: 
             asked.push(map);
         }
     }
-    let mut words = vec![0; MOST_WORDS];
+    let mut lent = Lent::new();
     for file in files {
         match Opened::open(file, &below) {
-            Ok(opened) => judge_file(file, &opened, &asked, &mut words, report),
+            Ok(opened) => judge_file(file, &opened, &asked, &mut lent, report),
             Err((source, fault)) => report.fault_of(file, source, fault),
         }
     }
     report.summary(files.len());
 }
 
-fn judge_file(file: &OsStr, opened: &Opened, asked: &[Vec<u8>], words: &mut [u16], report: &mut Report) {
+fn judge_file(file: &OsStr, opened: &Opened, asked: &[Vec<u8>], lent: &mut Lent, report: &mut Report) {
     let maps = if asked.is_empty() { opened.maps() } else { asked.to_vec() };
     let file = file.to_string_lossy();
     if maps.is_empty() {
         let (subject, outcome) = (Subject::File, Outcome::NoMap);
-        report.verdict(&Verdict { file: file.to_string(), subject, source: Source::File, game: None, outcome });
+        report.verdict(&Verdict::plain(file.to_string(), subject, Source::File, outcome));
     }
     for map in maps {
-        let (source, judged) = opened.judge(&map, words);
+        let Judged { source, verdict, reason } = opened.judge(&map, lent);
         let wad = opened.wad(source);
-        let outcome = outcome_of(wad, &map, judged);
+        let why = Why::of(reason, verdict.err(), wad, &map);
+        let outcome = outcome_of(wad, &map, verdict);
         let game = if outcome.has_lumps() { wad.game(&map) } else { None };
-        report.verdict(&Verdict { file: file.to_string(), subject: Subject::Map(name::text(&map)), source, game, outcome });
+        let subject = Subject::Map(name::text(&map));
+        report.verdict(&Verdict { file: file.to_string(), subject, source, game, outcome, why });
     }
 }
 

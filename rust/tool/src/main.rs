@@ -9,6 +9,7 @@
 mod args;
 mod descend;
 mod encode;
+mod field;
 mod finding;
 mod input;
 mod json;
@@ -27,6 +28,7 @@ mod sidedefs;
 mod svg;
 mod verdict;
 mod wad;
+mod why;
 
 use args::{Command, Request};
 use report::Report;

@@ -5,7 +5,7 @@ use crate::input::Fault;
 use crate::name;
 use crate::verdict::Source;
 use crate::wad::Wad;
-use meshpigeon::{Accepted, PairFile, Refusal};
+use meshpigeon::{Accepted, PairFile, Reason, Refusal, MOST_REASON, MOST_WORDS};
 use std::ffi::OsStr;
 
 /// What lies below each file.
@@ -38,6 +38,29 @@ impl Base {
     }
 }
 
+/// What the library is lent for every map: enough words for any graph, and room for any reason.
+pub struct Lent {
+    words: Vec<u16>,
+    reason: Vec<u8>,
+}
+
+impl Lent {
+    /// As much as any map needs.
+    pub fn new() -> Self {
+        Self { words: vec![0; MOST_WORDS], reason: vec![0; MOST_REASON] }
+    }
+}
+
+/// What the library says of a map.
+pub struct Judged {
+    /// The file that it was judged in.
+    pub source: Source,
+    /// Its verdict.
+    pub verdict: Result<Accepted, Refusal>,
+    /// The reason of it.
+    pub reason: Reason,
+}
+
 /// A good file, alone or over a good base.
 pub struct Opened<'a> {
     wad: Wad,
@@ -66,15 +89,23 @@ impl<'a> Opened<'a> {
         maps
     }
 
-    /// The library's verdict on a map, and where it comes from.
-    pub fn judge(&self, map: &[u8], words: &mut [u16]) -> (Source, Result<Accepted, Refusal>) {
+    /// The library's verdict on a map with its reason, and where it comes from. The map is judged once: of a pair, in the file that has
+    /// its name, which is the verdict of `meshpigeon::pair_judge_map`, since both directories are good. 10 and 11 are of neither file.
+    pub fn judge(&self, map: &[u8], lent: &mut Lent) -> Judged {
+        let source = self.source_of(map);
+        let (verdict, length) = meshpigeon::why_with(self.wad(source).bytes(), map, &mut lent.words, &mut lent.reason);
+        let reason = Reason::of(&verdict, &lent.reason[..length]);
+        let named = !verdict.is_err_and(|refusal| matches!(refusal.number, 10 | 11));
+        let source = if named { source } else { source.of_neither() };
+        Judged { source, verdict, reason }
+    }
+
+    /// The file that has the name of a map.
+    fn source_of(&self, map: &[u8]) -> Source {
         let Some(base) = self.base else {
-            return (Source::File, meshpigeon::judge_map_with(self.wad.bytes(), map, words));
+            return Source::File;
         };
-        match meshpigeon::pair_judge_map_with(base.bytes(), self.wad.bytes(), map, words) {
-            Ok(judged) => (Source::Pair(Some(judged.file)), Ok(judged.map)),
-            Err(refused) => (Source::Pair(refused.file), Err(refused.refusal)),
-        }
+        Source::Pair(meshpigeon::pair_find(base.bytes(), self.wad.bytes(), map).ok().map(|entry| entry.file))
     }
 
     /// The file that something comes from; of neither, the file itself.

@@ -82,7 +82,7 @@ fn paint(origin: &Origin, lump: &[u8], palette: &Palette, output: &OsStr, report
             let outcome = Outcome::Refused(refusal, Finding::in_picture(refusal, lump));
             let subject = origin.lump.clone().map_or(Subject::File, Subject::Lump);
             let (file, source) = (origin.file.to_string_lossy().into_owned(), origin.source);
-            report.verdict(&Verdict { file, subject, source, game: None, outcome });
+            report.verdict(&Verdict::plain(file, subject, source, outcome));
         }
         Ok(picture) => {
             let pixels = pixels(&colour, &cover, palette);

@@ -76,7 +76,7 @@ impl Report {
             Fault::Refused(refusal, found) => {
                 let file = file.to_string_lossy().into_owned();
                 let (subject, outcome) = (Subject::File, Outcome::Refused(refusal, found));
-                self.verdict(&Verdict { file, subject, source, game: None, outcome });
+                self.verdict(&Verdict::plain(file, subject, source, outcome));
             }
         }
     }

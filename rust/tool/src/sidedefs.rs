@@ -23,7 +23,7 @@ pub fn run(sectors: usize, report: &mut Report) {
         Err(refusal) => {
             let outcome = Outcome::Refused(refusal, Finding::in_sidedefs(refusal, &sidedefs));
             let (file, subject) = (INPUT.to_string(), Subject::File);
-            report.verdict(&Verdict { file, subject, source: Source::File, game: None, outcome });
+            report.verdict(&Verdict::plain(file, subject, Source::File, outcome));
         }
         Ok(()) => tell(sidedefs.bytes / Sidedef::SIZE, sectors, report),
     }

@@ -3,6 +3,7 @@
 use crate::finding::Finding;
 use crate::json::Object;
 use crate::name::shown;
+use crate::why::Why;
 use meshpigeon::{Accepted, PairFile, PairRefusal, Refusal};
 
 /// What was judged, and what came of it.
@@ -17,6 +18,8 @@ pub struct Verdict {
     pub game: Option<Game>,
     /// What came of it.
     pub outcome: Outcome,
+    /// The reason that the library told of a map.
+    pub why: Option<Why>,
 }
 
 /// Whose records a map has.
@@ -48,6 +51,14 @@ pub enum Source {
 }
 
 impl Source {
+    /// Of a pair, neither file.
+    pub fn of_neither(self) -> Self {
+        match self {
+            Self::File => Self::File,
+            Self::Pair(_) => Self::Pair(None),
+        }
+    }
+
     /// `base` or `patch`, of a pair.
     pub fn name(self) -> Option<&'static str> {
         match self {
@@ -98,10 +109,14 @@ pub fn counted(count: usize, thing: &str) -> String {
 }
 
 impl Verdict {
+    /// A verdict on what is no map, or no map that was judged: it has neither a game nor a reason.
+    pub fn plain(file: String, subject: Subject, source: Source, outcome: Outcome) -> Self {
+        Self { file, subject, source, game: None, outcome, why: None }
+    }
+
     /// The refusal of a walk down a map's nodes.
     pub fn of_walk(file: &str, map: String, refusal: Refusal) -> Self {
-        let outcome = Outcome::Refused(refusal, None);
-        Self { file: file.to_string(), subject: Subject::Map(map), source: Source::File, game: None, outcome }
+        Self::plain(file.to_string(), Subject::Map(map), Source::File, Outcome::Refused(refusal, None))
     }
 
     /// Whether it is a refusal.
@@ -144,6 +159,7 @@ impl Verdict {
             .text("lump", named.or(lump))
             .count("record", refusal.filter(|it| it.names_record()).map(|it| it.record))
             .object("found", found.map(Finding::json))
+            .object("reason", self.why.as_ref().map(Why::json))
             .count("depth", accepted.map(|it| it.depth))
             .count("marker", accepted.map(|it| it.marker))
             .text("game", self.game.map(Game::name))
@@ -187,7 +203,10 @@ impl Verdict {
                 let (nodes, subsectors) = (counted(*nodes, "node"), counted(*subsectors, "subsector"));
                 format!("accepted{}, depth {}, {nodes}, {subsectors}", self.notes(), accepted.depth)
             }
-            Outcome::Refused(refusal, None) => self.sentence(*refusal),
+            Outcome::Refused(refusal, None) => match &self.why {
+                Some(why) => why.words(self.sentence(*refusal)),
+                None => self.sentence(*refusal),
+            },
             Outcome::Refused(refusal, Some(found)) => format!("{}; {found}", self.sentence(*refusal)),
             Outcome::NoMap => "no map".to_string(),
         }
@@ -208,7 +227,7 @@ mod tests {
 
     fn refused(number: u32, place: usize, record: usize, subject: Subject) -> Verdict {
         let refusal = Refusal { number, place, record };
-        Verdict { file: "a.wad".into(), subject, source: Source::File, game: None, outcome: Outcome::Refused(refusal, None) }
+        Verdict::plain("a.wad".into(), subject, Source::File, Outcome::Refused(refusal, None))
     }
 
     #[test]
@@ -216,7 +235,7 @@ mod tests {
         let map = || Subject::Map("MAP01".into());
         let outcome = Outcome::Accepted(Accepted { depth: 1, marker: 0 }, 1, 2);
         let (source, game) = (Source::File, Some(Game::Doom));
-        let mut good = Verdict { file: "accepted.wad".into(), subject: map(), source, game, outcome };
+        let mut good = Verdict { file: "accepted.wad".into(), subject: map(), source, game, outcome, why: None };
         assert_eq!(good.line(true), "accepted.wad:MAP01: \x1b[32maccepted\x1b[0m, depth 1, 1 node, 2 subsectors");
         good.game = Some(Game::Hexen);
         assert_eq!(good.line(true), "accepted.wad:MAP01: \x1b[32maccepted\x1b[0m (Hexen), depth 1, 1 node, 2 subsectors");

@@ -94,10 +94,14 @@ impl Wad {
         Ok((self.lump(marker + Node::PLACE), subsectors))
     }
 
+    /// The marker's entry number of the map of a name, if it is there.
+    pub fn marker(&self, map: &[u8]) -> Option<usize> {
+        meshpigeon::find_map(&self.bytes, map).marker.ok()
+    }
+
     /// The game of the map of a name, if it is there.
     pub fn game(&self, map: &[u8]) -> Option<Game> {
-        let marker = meshpigeon::find_map(&self.bytes, map).marker.ok()?;
-        let hexen = meshpigeon::map_game(&self.bytes, marker).ok()?;
+        let hexen = meshpigeon::map_game(&self.bytes, self.marker(map)?).ok()?;
         Some(if hexen { Game::Hexen } else { Game::Doom })
     }
 

@@ -32,7 +32,10 @@ fn a_refused_map_of_hexen_is_said_to_be_one() {
     let said = changed(|plan| plan.map.nodes[1].right = 2).run(&["judge", "a.wad"]);
     assert!(said.out.starts_with("a.wad:MAP01: refused 31 at NODES (Hexen): the nodes turn back"), "{said:?}");
     let said = changed(|plan| plan.map.linedefs[5].right = 99).run(&["judge", "a.wad"]);
-    assert!(said.out.starts_with("a.wad:MAP01: refused 23 at LINEDEFS 5 (Hexen): linedef 5 names"), "{said:?}");
+    assert!(
+        said.out.starts_with("a.wad:MAP01: refused 23 at LINEDEFS 5 (Hexen): linedef 5: its right sidedef is 99, and"),
+        "{said:?}"
+    );
     let said = changed(|plan| plan.entry_at(9).name = *b"OTHER\0\0\0").run(&["judge", "a.wad"]);
     assert!(said.out.starts_with("a.wad:MAP01: refused 12 at REJECT: "), "{said:?}");
     assert_eq!(said.status, 1);

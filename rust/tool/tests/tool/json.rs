@@ -5,14 +5,16 @@ use crate::support::{changed, good, lumps, Folder, Said};
 use generator::{hexen_rooms, rooms, PictureSpec, Plan, MAP_NAME};
 use std::ffi::OsStr;
 
-const KEYS: [&str; 12] = ["file", "map", "number", "place", "lump", "record", "found", "depth", "marker", "game", "from", "text"];
+const KEYS: [&str; 13] =
+    ["file", "map", "number", "place", "lump", "record", "found", "reason", "depth", "marker", "game", "from", "text"];
 
-/// The values of a verdict without a base by its keys; its text is left out, but not empty.
+/// The values of a verdict without a base by its keys; its reason is left out, and its text, but not empty.
 fn verdict(line: &str) -> Vec<Value> {
     let (keys, mut values): (Vec<String>, Vec<Value>) = object(line).into_iter().unzip();
     assert_eq!(keys, KEYS);
     assert!(matches!(values.pop(), Some(Value::Text(text)) if !text.is_empty()));
     assert_eq!(values.pop(), Some(Null));
+    values.remove(7);
     values
 }
 

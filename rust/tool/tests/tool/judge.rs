@@ -44,11 +44,7 @@ fn a_shared_child_is_refused_with_its_number_and_lump() {
 fn a_reference_is_refused_with_its_record() {
     let folder = Folder::with("a.wad", &changed(|map| map.sidedefs[7].sector = 4));
     let said = folder.run(&["judge", "a.wad"]);
-    assert!(
-        said.out.starts_with("a.wad:MAP01: refused 24 at SIDEDEFS 7: sidedef 7 names a sector that is not there"),
-        "{said:?}"
-    );
-    assert_eq!(said.status, 1);
+    said.is(1, &["a.wad:MAP01: refused 24 at SIDEDEFS 7: sidedef 7: its sector is 4, and this map has sectors 0 to 3"]);
 }
 
 #[test]

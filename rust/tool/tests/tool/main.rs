@@ -18,3 +18,4 @@ mod samples;
 mod sidedefs;
 mod support;
 mod usage;
+mod why;

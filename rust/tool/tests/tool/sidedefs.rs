@@ -132,7 +132,8 @@ fn answers_are_objects_too() {
     let bytes = lump(&[0, 4]);
     fed(&["sidedefs", "5", "--json"], &bytes).is(0, &[r#"{"file":"-","number":0,"sectors":5,"count":2}"#]);
     let said = fed(&["sidedefs", "--json", "4"], &bytes);
-    let start = r#"{"file":"-","map":null,"number":24,"place":3,"lump":"SIDEDEFS","record":1,"found":null,"depth":null,"#;
+    let start =
+        r#"{"file":"-","map":null,"number":24,"place":3,"lump":"SIDEDEFS","record":1,"found":null,"reason":null,"depth":null,"#;
     assert!(said.out.starts_with(start), "{said:?}");
     for (sectors, size, parts) in [
         ("0", 60, r#""number":80,"place":null,"lump":null,"record":null,"found":{"sectors":0}"#),
