@@ -247,6 +247,22 @@ fn the_leading_0_is_told_from_the_only_linedef() {
     refused(&one(&[0, 3, 65_535]), &words, &field(("linedef", [byte, 3, 0, 0])));
 }
 
+#[test]
+fn the_request_has_two_examples() {
+    let left = changed(|map| {
+        map.sidedefs.resize(641, map.sidedefs[0]);
+        map.linedefs[5].left = 812;
+    });
+    let words = "23 at LINEDEFS 5: linedef 5: its left sidedef is 812, and this map has sidedefs 0 to 640";
+    refused(&left, words, &field(("left", [12, 812, 0, 640])));
+    let child = changed(|map| {
+        map.nodes.resize(32, map.nodes[0]);
+        map.nodes[17].left = 40;
+    });
+    let words = "27 at NODES 17: node 17's left child is node 40, and there are nodes 0 to 31";
+    refused(&child, words, &field(("left", [26, 40, 0, 31])));
+}
+
 /// What is said of every loop before its way.
 const LOOP: &str =
     "31 at NODES: the nodes turn back on themselves: some way down from the root never ends, and every way must end at \
