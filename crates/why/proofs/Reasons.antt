@@ -66,22 +66,22 @@ field-told hexen lumps lent e late small =
     refused-by hexen lumps lent e late (λ n i. fieldOk n ≡ true → FieldTold hexen lumps n i)
     (λ i h bad _.
     let t = records-reasoned .linedef hexen (recordBytes (mapLump lumps LINEDEFS) (linedefSize hexen) i) (recordCount lumps VERTEXES vertexSize) (recordCount lumps SIDEDEFS sidedefSize) (vertices .0) (sidedefs .0) (sidedefs .1) in
-    record { first = t .first bad; holds = inl (t .holds bad) })
+    record { first = t .first bad; holds = inl (t .holds bad); order = λ no. t .order })
     (λ i h bad _.
     let t = records-reasoned .sidedef (recordBytes (mapLump lumps SIDEDEFS) sidedefSize i) (recordCount lumps SECTORS sectorSize) (sectors .0) in
-    record { first = t .first bad; holds = inl (t .holds bad) })
+    record { first = t .first bad; holds = inl (t .holds bad); order = λ no. t .order })
     (λ i h bad _.
     let t = records-reasoned .seg hexen (mapLump lumps LINEDEFS) (recordBytes (mapLump lumps SEGS) segSize i) (recordCount lumps VERTEXES vertexSize) (vertices .0) (linedefs .0) in
-    record { first = t .first bad; holds = inl (t .holds bad) })
+    record { first = t .first bad; holds = inl (t .holds bad); order = λ no. t .order })
     (λ i h bad _.
     let t = records-reasoned .subsector (recordBytes (mapLump lumps SSECTORS) subsectorSize i) (recordCount lumps SEGS segSize) in
-    record { first = t .first bad; holds = inl (t .holds bad) })
+    record { first = t .first bad; holds = inl (t .holds bad); order = λ no. t .order })
     (λ i h bad _.
     let t = records-reasoned .node (mapLump lumps NODES) (recordCount lumps SSECTORS subsectorSize) i h in
-    record { first = t .first bad; holds = inl (t .holds bad) })
+    record { first = t .first bad; holds = inl (t .holds bad); order = λ no. t .order })
     (λ i q _.
     let t = blockmap-reasoned .refused (mapLump lumps BLOCKMAP) (recordCount lumps LINEDEFS (linedefSize hexen)) i small (linedefs .0) q in
-    record { first = t .first; holds = ⊎-elim (λ s. inr (refl, s)) (λ w. inl (w .word)) (t .holds) })
+    record { first = t .first; holds = ⊎-elim (λ s. inr (refl, s)) (λ w. inl (w .word)) (t .holds); order = λ no. absurd (no refl) })
     (λ (q : fieldOk 30 ≡ true). absurd (true≢false (sym q)))
 
 -- the refusal and the number of a refused map

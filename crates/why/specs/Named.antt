@@ -40,6 +40,10 @@ namedBytes hexen lumps number i =
     (recordBytes (mapLump lumps NODES) nodeSize i)
     (mapLump lumps BLOCKMAP)
 
+-- how many bytes a record has; BLOCKMAP is none
+abbrev pub namedSize : Bool → ℕ → ℕ
+namedSize hexen number = byNumber number (linedefSize hexen) sidedefSize segSize subsectorSize nodeSize 0
+
 -- its fields; with 28 those of the header and of cell `i`
 abbrev pub namedFields : Bool → List (List ℕ) → ℕ → ℕ → List Field
 namedFields hexen lumps number i =

@@ -23,8 +23,9 @@ use Rattle.level.specs.declared.Verdict.the-variants.{Accepted, Refused}
 use Rattle.level.specs.Verdict.{nodesAt, verdict}
 use Rattle.way.specs.Ways.{loopWay, routeOf}
 use Rattle.way.specs.Promises.{LoopTold, RouteTold}
+use Rattle.reason.specs.Reasons.{InOrder}
 use Rattle.why.specs.declared.Reason.{Reason}
-use Rattle.why.specs.Named.{fieldOk, namedBytes, namedFields, namedField}
+use Rattle.why.specs.Named.{fieldOk, namedBytes, namedSize, namedFields, namedField}
 use Rattle.why.specs.Printing.{printedLength, answerBy}
 
 -- the field that a refusal names is out of its range, with every field before it in its range, and it holds what stands at its offset in
@@ -33,6 +34,8 @@ pub record FieldTold (hexen : Bool) (lumps : List (List ℕ)) (number i : ℕ) :
   pub first : FirstOut (namedFields hexen lumps number i) (namedField hexen lumps number i)
   pub holds : (namedField hexen lumps number i .number ≡ u16At (namedBytes hexen lumps number i) (namedField hexen lumps number i .offset))
       ⊎ ((number ≡ 28) × SizeTold (namedBytes hexen lumps number i) (namedField hexen lumps number i))
+  -- a record's fields stand in byte order; BLOCKMAP's in the order of its checks
+  pub order : (number ≡ 28 → ⊥) → InOrder 0 (namedSize hexen number) (namedFields hexen lumps number i)
 
 -- of the map at entry `marker` of a file
 abbrev pub FieldToldAt : List ℕ → ℕ → Refusal → Type 0
