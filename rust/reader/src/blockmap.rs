@@ -3,9 +3,9 @@
 use crate::bytes::u16_at;
 use crate::Refusal;
 
-const HEADER_WORDS: usize = 4;
-const MOST_CELLS_ASIDE: usize = 512;
-const LIST_END: u16 = 65_535;
+pub(crate) const HEADER_WORDS: usize = 4;
+pub(crate) const MOST_CELLS_ASIDE: usize = 512;
+pub(crate) const LIST_END: u16 = 65_535;
 
 /// The words of a lump, and which of them a good list is known to run through.
 struct Lists {

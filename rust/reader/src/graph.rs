@@ -6,8 +6,8 @@ use crate::{Node, Refusal, SUBSECTOR_BIT};
 const WORDS: usize = 1 << 16;
 
 /// The two child words of each node.
-struct Graph {
-    children: Vec<[u16; 2]>,
+pub(crate) struct Graph {
+    pub(crate) children: Vec<[u16; 2]>,
 }
 
 /// The depth of the graph below the last node: refusals 31 and 32. Children must be in range.
@@ -16,8 +16,7 @@ struct Graph {
 /// reaches: N choices pass N + 1 nodes, so one of them twice. Where there is none, the lists of
 /// choices that lead to a node or subsector can be counted, and W-202 allows one.
 pub(crate) fn judge(nodes: &[u8]) -> Result<usize, Refusal> {
-    let children = Node::all(nodes).map(|node| [node.right, node.left]);
-    let graph = Graph { children: children.collect() };
+    let graph = Graph::read(nodes);
     let Some(root) = graph.children.len().checked_sub(1) else { return Ok(0) };
     let order = graph.order_below(root).ok_or(Refusal::new(31, 7, 0))?;
     if graph.is_shared(&order) {
@@ -27,8 +26,12 @@ pub(crate) fn judge(nodes: &[u8]) -> Result<usize, Refusal> {
 }
 
 impl Graph {
+    pub(crate) fn read(nodes: &[u8]) -> Self {
+        Self { children: Node::all(nodes).map(|node| [node.right, node.left]).collect() }
+    }
+
     /// The nodes among a node's children.
-    fn node_children(&self, node: usize) -> impl Iterator<Item = usize> {
+    pub(crate) fn node_children(&self, node: usize) -> impl Iterator<Item = usize> {
         self.children[node].into_iter().filter(|word| word & SUBSECTOR_BIT == 0).map(usize::from)
     }
 
@@ -36,7 +39,7 @@ impl Graph {
     ///
     /// Nodes are taken as soon as all reached places that name them are taken (Kahn); a cycle is
     /// what can never be taken.
-    fn order_below(&self, root: usize) -> Option<Vec<usize>> {
+    pub(crate) fn order_below(&self, root: usize) -> Option<Vec<usize>> {
         let (mut parents, reached) = self.parents_below(root);
         let mut order = Vec::with_capacity(reached);
         let mut free = if parents[root] == 0 { vec![root] } else { vec![] };

@@ -30,6 +30,9 @@ mod reference;
 mod refusal;
 mod sidedefs;
 mod wad;
+mod why;
+mod why_blockmap;
+mod why_graph;
 
 pub use descent::{descend, Found};
 pub use game::{Linedef, Thing};
@@ -41,6 +44,7 @@ pub use record::{Node, Sector, Seg, Sidedef, Subsector, Vertex};
 pub use refusal::Refusal;
 pub use sidedefs::{judge_sidedefs, Sidedefs};
 pub use wad::{directory, entry, find_map, is_map_name, is_name, lump, name_of, Directory, Search};
+pub use why::why;
 
 /// The sidedef number that means none.
 pub const NO_SIDEDEF: u16 = 65_535;

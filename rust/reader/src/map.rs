@@ -86,19 +86,23 @@ pub fn judge_map(wad: &[u8], name: &[u8], words: &mut [u16]) -> Result<Accepted,
 /// Judges the map whose marker is entry `marker` of a good directory: refusals 12 and 20 to 32.
 pub(crate) fn judge_run(wad: &[u8], directory: Directory, marker: usize, words: &mut [u16]) -> Result<Accepted, Refusal> {
     let lumps = run_of(wad, directory, marker)?;
-    judge_sizes(&lumps)?;
+    Ok(Accepted { depth: judge_lumps(&lumps, words)?, marker })
+}
+
+/// Judges the ten lumps of a map and answers the depth: refusals 20 to 32.
+pub(crate) fn judge_lumps(lumps: &Lumps, words: &mut [u16]) -> Result<usize, Refusal> {
+    judge_sizes(lumps)?;
     if lumps.at(9).len() != reject_size(lumps.count(8)) {
         return Err(Refusal::new(22, 9, 0));
     }
-    reference::judge(&lumps)?;
+    reference::judge(lumps)?;
     blockmap::judge(lumps.at(10), lumps.count(2))?;
     let wanted = 4 * lumps.count(7);
     if words.len() < wanted {
         return Err(Refusal::new(30, 7, 0));
     }
     words[..wanted].fill(0);
-    let depth = graph::judge(lumps.at(7))?;
-    Ok(Accepted { depth, marker })
+    graph::judge(lumps.at(7))
 }
 
 /// Bytes of REJECT for a number of sectors: their square in bits, rounded up to whole bytes.
@@ -122,7 +126,7 @@ fn is_hexen(wad: &[u8], directory: Directory, marker: usize) -> bool {
 }
 
 /// The ten lumps after the marker: refusal 12.
-fn run_of(wad: &[u8], directory: Directory, marker: usize) -> Result<Lumps<'_>, Refusal> {
+pub(crate) fn run_of(wad: &[u8], directory: Directory, marker: usize) -> Result<Lumps<'_>, Refusal> {
     let run: Vec<Entry> = entries(wad, directory).skip(marker).take(11).collect();
     if run[0].size != 0 {
         return Err(Refusal::new(12, 0, 0));
