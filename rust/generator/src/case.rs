@@ -1,6 +1,6 @@
 //! What a case is: the bytes, the question asked of them, and what is known of the answer.
 
-use crate::{Kind, Record};
+use crate::{Explained, Kind, Record};
 use reader::{Accepted, Found, PairEntry, PairMap, PairRefusal, Picture, Refusal, Search};
 
 /// One input with one question.
@@ -42,6 +42,15 @@ pub enum Question {
         name: Vec<u8>,
         /// The work words as lent.
         words: Vec<u16>,
+    },
+    /// Judge a map and say why.
+    Why {
+        /// The asked name.
+        name: Vec<u8>,
+        /// The work words as lent.
+        words: Vec<u16>,
+        /// The output as lent.
+        out: Vec<u8>,
     },
     /// A lump of a pair, the bytes being the patch.
     PairFind {
@@ -133,6 +142,8 @@ pub enum Expected {
     Accepted,
     /// A map with this depth and marker.
     Map(Accepted),
+    /// A map's verdict with its reason.
+    Explained(Explained),
     /// A descent that ends so.
     Found(Found),
     /// A search that ends so, found or not.

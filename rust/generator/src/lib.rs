@@ -5,6 +5,7 @@
 //! - [`case`] gives any number of small cases, each from a seed and an index;
 //! - [`single_case`] and [`pair_case`] go through [`damages`] and all pairs of them,
 //!   [`all_picture_damages`] does so for pictures;
+//! - [`why_case`] gives maps that are asked for their reason, and [`with_reason`] makes one of any map check's case;
 //! - [`limits`] lists both sides of every limit, each case built when asked for;
 //! - [`MapSpec`], [`Plan`], [`BlockmapSpec`], [`PictureSpec`] and [`Canvas`] build inputs by hand;
 //! - [`ordinary_map`], [`hexen_map_of`], [`largest_map`], [`largest_hexen_map_of`], [`directory_of`],
@@ -46,6 +47,9 @@ mod limit_lump;
 mod limit_map;
 mod limit_run;
 mod limit_scraps;
+mod limit_why;
+mod limit_why_blockmap;
+mod limit_why_graph;
 mod limit_written;
 mod map;
 mod name;
@@ -63,6 +67,9 @@ mod scraps;
 mod search;
 mod shrink;
 mod valid;
+mod why;
+mod why_blockmap;
+mod why_fields;
 mod written;
 
 pub use bench::{
@@ -96,4 +103,5 @@ pub use scraps::{facing, map_around, scraps, sidedefs_case};
 pub use search::{halves, joined, named_entries, pair_in_vain, search_case, search_in_vain, search_to_the_first};
 pub use shrink::shrink;
 pub use valid::{any_plan, map_case, sound_plan, valid_case, verdict};
+pub use why::{why_case, with_reason, Explained, Printed};
 pub use written::{every_second, written_case, Canvas, Run};

@@ -7,6 +7,9 @@ use crate::limit_lump::lump_limits;
 use crate::limit_map::map_limits;
 use crate::limit_run::run_limits;
 use crate::limit_scraps::scraps_limits;
+use crate::limit_why::why_limits;
+use crate::limit_why_blockmap::why_blockmap_limits;
+use crate::limit_why_graph::why_graph_limits;
 use crate::limit_written::written_limits;
 use crate::name::name_limits;
 use crate::patch::patch_limits;
@@ -36,6 +39,9 @@ pub fn limits() -> Vec<Build> {
     all.extend(patch_limits());
     all.extend(written_limits());
     all.extend(scraps_limits());
+    all.extend(why_limits());
+    all.extend(why_blockmap_limits());
+    all.extend(why_graph_limits());
     all
 }
 

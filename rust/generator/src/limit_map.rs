@@ -191,7 +191,7 @@ fn child_limits(least: Sizes) -> Vec<Build> {
     all
 }
 
-fn unreached_child(map: &mut MapSpec, child: u16, right: bool) {
+pub(crate) fn unreached_child(map: &mut MapSpec, child: u16, right: bool) {
     let (first, root) = (0, map.nodes.len() - 1);
     map.nodes[first] = Node { right: SUBSECTOR_BIT, left: SUBSECTOR_BIT, ..Node::default() };
     map.nodes[root] = Node { right: SUBSECTOR_BIT, left: SUBSECTOR_BIT | 1, ..Node::default() };

@@ -4,7 +4,7 @@ mod common;
 
 use common::check;
 use generator::{all_picture_damages, case, damages, pair_case, pair_count, patch_case, single_case};
-use generator::{sidedefs_case, written_case, Expected, Rng, PICTURE_DAMAGES};
+use generator::{sidedefs_case, why_case, written_case, Expected, Rng, PICTURE_DAMAGES};
 use reader::PairFile;
 use std::collections::{BTreeMap, BTreeSet};
 
@@ -70,7 +70,7 @@ fn cases_of_all_families() {
     }
     println!("{met:?}");
     let wanted = [0, 1, 2, 3, 4, 5, 6, 7, 10, 11, 12, 20, 21, 22, 23, 24, 25, 26, 27, 28, 30, 31, 32];
-    let more = [40, 41, 42, 43, 44, 45, 46, 50, 51, 52, 53, 54, 55, 56, 57, 58, 60, 61, 80];
+    let more = [40, 41, 42, 43, 44, 45, 46, 50, 51, 52, 53, 54, 55, 56, 57, 58, 60, 61, 80, 85];
     assert!(wanted.iter().chain(&more).all(|number| met.contains_key(number)));
 }
 
@@ -111,6 +111,14 @@ fn every_number_of_small_sidedefs_in_scraps_is_met() {
     let mut rng = Rng::new(6);
     let met: BTreeSet<u32> = (0..5_000).map(|_| check(&sidedefs_case(&mut rng))).collect();
     assert_eq!(met, [0, 20, 21, 24, 80].into());
+}
+
+#[test]
+fn every_number_of_a_map_with_its_reason_is_met() {
+    let mut rng = Rng::new(7);
+    let met: BTreeSet<u32> = (0..20_000).map(|_| check(&why_case(&mut rng))).collect();
+    let of_maps = (0..=6).chain(10..=12).chain(20..=28).chain(30..=32);
+    assert_eq!(met, of_maps.chain([85]).collect());
 }
 
 #[test]

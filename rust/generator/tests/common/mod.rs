@@ -8,6 +8,7 @@ use reader::*;
 enum Answer {
     Good,
     Map(Accepted),
+    Explained(Result<Accepted, Refusal>, Vec<u8>),
     Found(Found),
     Search(Search),
     Hexen(bool),
@@ -24,6 +25,9 @@ pub fn check(case: &Case) -> u32 {
         Expected::Refused(refusal) => answer == Err(refusal),
         Expected::Accepted => answer.is_ok(),
         Expected::Map(accepted) => answer == Ok(Answer::Map(accepted)),
+        Expected::Explained(it) => {
+            matches!(&answer, Ok(Answer::Explained(verdict, bytes)) if *verdict == it.verdict && it.printed.fits(bytes))
+        }
         Expected::Found(found) => answer == Ok(Answer::Found(found)),
         Expected::Search(search) => answer == Ok(Answer::Search(search)),
         Expected::Hexen(hexen) => answer == Ok(Answer::Hexen(hexen)),
@@ -34,6 +38,7 @@ pub fn check(case: &Case) -> u32 {
     assert!(good, "{}: {:?}, not {:?}", case.label, answer, case.expected);
     match answer {
         Err(refusal) | Ok(Answer::Search(Search { marker: Err(refusal), .. })) => refusal.number,
+        Ok(Answer::Explained(Err(refusal), _)) => refusal.number,
         Ok(Answer::PairEntry(Err(it)) | Answer::PairMap(Err(it))) => it.refusal.number,
         Ok(_) => 0,
     }
@@ -47,6 +52,7 @@ fn ask(case: &Case) -> Result<Answer, Refusal> {
         Question::FindMap { name } => Ok(Answer::Search(find_map(bytes, name))),
         Question::MapGame { marker } => map_game(bytes, *marker).map(Answer::Hexen),
         Question::JudgeMap { name, words } => ask_map(bytes, name, words),
+        Question::Why { name, words, out } => ask_why(bytes, name, words, out),
         Question::PairFind { base, name } => Ok(Answer::PairEntry(ask_pair(base, bytes, name))),
         Question::PairJudgeMap { base, name, words } => Ok(Answer::PairMap(ask_pair_map(base, bytes, name, words))),
         Question::Descend { subsectors, x, y } => descend(bytes, *subsectors, *x, *y).map(Answer::Found),
@@ -82,6 +88,24 @@ fn ask_map(wad: &[u8], name: &[u8], lent: &[u16]) -> Result<Answer, Refusal> {
     assert!(words[..zeroed].iter().all(|&word| word == 0));
     assert_eq!(words[zeroed..], lent[zeroed..]);
     verdict.map(Answer::Map)
+}
+
+/// The verdict and the words are the map check's, and nothing is written but the reason. 85 comes exactly where the reason is longer than the
+/// output, and with it nothing is written.
+fn ask_why(wad: &[u8], name: &[u8], lent: &[u16], lent_out: &[u8]) -> Result<Answer, Refusal> {
+    let (mut words, mut out, mut left) = (lent.to_vec(), lent_out.to_vec(), lent.to_vec());
+    let (verdict, length) = why(wad, name, &mut words, &mut out);
+    let judged = judge_map(wad, name, &mut left);
+    let mut whole = vec![0; 40_000];
+    let (again, printed) = why(wad, name, &mut lent.to_vec(), &mut whole);
+    assert_eq!((again, &words), (judged, &left));
+    assert_eq!(out[length..], lent_out[length..]);
+    if printed > out.len() {
+        assert_eq!((verdict, length), (Err(Refusal::plain(85)), 0));
+        return verdict.map(|_| Answer::Good);
+    }
+    assert_eq!((verdict, length, &out[..length]), (judged, printed, &whole[..printed]));
+    Ok(Answer::Explained(verdict, whole[..printed].to_vec()))
 }
 
 /// The file of a pair.
