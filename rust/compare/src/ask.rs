@@ -14,11 +14,13 @@ pub struct Outcome {
     pub file: u32,
     /// How many names were compared, with a refusal too.
     pub compared: usize,
+    /// How many bytes of a reason were printed, with a refusal too.
+    pub printed: usize,
     /// The bytes of the entry or lump that was asked for.
     pub part: Vec<u8>,
     /// The work words, or those of a draw order, afterwards.
     pub words: Vec<u16>,
-    /// The colour buffer afterwards, or what was written to: a lump, or the output of a picture.
+    /// The colour buffer afterwards, or what was written to: a lump, or the output of a picture or a reason.
     pub first: Vec<u8>,
     /// The cover buffer afterwards.
     pub second: Vec<u8>,
@@ -26,12 +28,13 @@ pub struct Outcome {
 
 impl Outcome {
     fn new(numbers: Result<Vec<i64>, Refused>) -> Self {
-        Self { numbers, file: 0, compared: 0, part: Vec::new(), words: Vec::new(), first: Vec::new(), second: Vec::new() }
+        let (part, words, first, second) = Default::default();
+        Self { numbers, file: 0, compared: 0, printed: 0, part, words, first, second }
     }
 }
 
 macro_rules! asker {
-    ($(#[$about:meta])* $name:ident, $side:ident, $judge_map:ident, $draw_order:ident, $pair_judge_map:ident,
+    ($(#[$about:meta])* $name:ident, $side:ident, $judge_map:ident, $why:ident, $draw_order:ident, $pair_judge_map:ident,
      $write_picture:ident, $part:expr, $pair_part:expr) => {
         $(#[$about])*
         pub fn $name(case: &Case) -> Outcome {
@@ -67,6 +70,12 @@ macro_rules! asker {
                     let mut outcome = Outcome::new(judged.map(|it| vec![it.depth as i64, it.marker as i64]).map_err(refused));
                     outcome.words = words;
                     outcome
+                }
+                Question::Why { name, words, out } => {
+                    let (mut words, mut out) = (words.clone(), out.clone());
+                    let (verdict, printed) = $side::$why(bytes, name, &mut words, &mut out);
+                    let numbers = verdict.map(|it| vec![it.depth as i64, it.marker as i64]).map_err(refused);
+                    Outcome { printed, words, first: out, ..Outcome::new(numbers) }
                 }
                 Question::PairFind { base, name } => {
                     let found = $side::pair_find(base, bytes, name);
@@ -204,14 +213,14 @@ macro_rules! write {
 
 asker! {
     /// Asks the proved library.
-    ask_library, meshpigeon, judge_map_with, draw_order_with, pair_judge_map_with, write_picture_with,
+    ask_library, meshpigeon, judge_map_with, why_with, draw_order_with, pair_judge_map_with, write_picture_with,
     |bytes, number| meshpigeon::lump(bytes, number).unwrap_or_default().to_vec(),
     |base, patch, name| meshpigeon::pair_lump(base, patch, name).map_or_else(|_| Vec::new(), |lump| lump.bytes.to_vec())
 }
 
 asker! {
     /// Asks the independent reader.
-    ask_reader, reader, judge_map, draw_order, pair_judge_map, write_picture,
+    ask_reader, reader, judge_map, why, draw_order, pair_judge_map, write_picture,
     |bytes, number| reader::lump(bytes, number).to_vec(),
     |base, patch, name| reader::pair_lump(base, patch, name).to_vec()
 }

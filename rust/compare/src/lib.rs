@@ -5,6 +5,7 @@
 #![deny(missing_docs)]
 
 mod ask;
+mod reason;
 mod stream;
 
 pub use ask::{ask_library, ask_reader, Outcome};
@@ -23,7 +24,7 @@ pub fn fault(case: &Case) -> Option<String> {
     if !comes_back(case, &library) {
         return Some(format!("what was written is not read back: {library:?}"));
     }
-    if let Some(words) = stream::fault(case) {
+    if let Some(words) = stream::fault(case).or_else(|| reason::fault(case, &library)) {
         return Some(words);
     }
     let known = match case.expected {
@@ -31,6 +32,11 @@ pub fn fault(case: &Case) -> Option<String> {
         Expected::Refused(it) => library.numbers == Err((it.number, it.place, it.record)),
         Expected::Accepted => library.numbers.is_ok(),
         Expected::Map(it) => library.numbers == Ok(vec![it.depth as i64, it.marker as i64]),
+        Expected::Explained(it) => {
+            let verdict = it.verdict.map(|it| vec![it.depth as i64, it.marker as i64]);
+            let verdict = verdict.map_err(|it| (it.number, it.place, it.record));
+            library.numbers == verdict && it.printed.fits(&library.first[..library.printed])
+        }
         Expected::Found(it) => library.numbers == Ok(vec![it.subsector as i64, it.count as i64]),
         Expected::Count(it) => library.numbers == Ok(vec![it as i64]),
         Expected::Hexen(it) => library.numbers == Ok(vec![i64::from(it)]),

@@ -1,7 +1,7 @@
 //! Library and reader on generated cases: 200,000 by default, any number by MESHPIGEON_CASES, from MESHPIGEON_SEED.
 
 use compare::fault;
-use generator::{all_picture_damages, case, every_second, limits, shrink, Canvas, Case, Rng};
+use generator::{all_picture_damages, case, every_second, limits, shrink, why_case, with_reason, Canvas, Case, Question, Rng};
 use std::env;
 use std::thread;
 
@@ -26,8 +26,8 @@ fn hold(case: &Case, origin: &str) {
     panic!("{origin}: {}\n{words}\nthe shrunk case is in {}", case.label, file.display());
 }
 
-#[test]
-fn generated_cases_agree() {
+/// Holds the cases of a seed, as many as asked for.
+fn hold_all(case: fn(u64, u64) -> Case) {
     let (seed, cases) = (number("MESHPIGEON_SEED", 20_261_115), number("MESHPIGEON_CASES", 200_000));
     let threads = thread::available_parallelism().map_or(1, |it| it.get() as u64);
     thread::scope(|scope| {
@@ -39,6 +39,28 @@ fn generated_cases_agree() {
             });
         }
     });
+}
+
+#[test]
+fn generated_cases_agree() {
+    hold_all(case);
+}
+
+#[test]
+fn reasons_of_generated_maps_agree() {
+    hold_all(|seed, index| why_case(&mut Rng::of_case(seed, index)));
+}
+
+/// Whatever the map check is asked at a limit, the reason is asked for too.
+#[test]
+fn reasons_at_both_sides_of_every_limit_agree() {
+    let mut rng = Rng::new(15);
+    for (index, build) in limits().iter().enumerate() {
+        let case = build();
+        if matches!(case.question, Question::JudgeMap { .. }) {
+            hold(&with_reason(case, &mut rng), &format!("reason at limit {index}"));
+        }
+    }
 }
 
 #[test]
