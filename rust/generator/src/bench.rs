@@ -1,5 +1,6 @@
 //! The large inputs of a benchmark, most of them at any size so that growth can be measured.
-//! Every map among them is called [`MAP_NAME`](crate::MAP_NAME), and good, but for those with a shared child.
+//! Every map among them is called [`MAP_NAME`](crate::MAP_NAME), and good, but for those with a shared child and those that are
+//! refused for their reason.
 
 use crate::blockmap::LIST_END;
 use crate::map::encode;
@@ -31,7 +32,27 @@ pub fn hexen_map_of(scale: usize) -> Vec<u8> {
     ordinary_of(true, scale)
 }
 
+/// The same as [`map_of`], but the last sidedef faces a sector that is not there. It is refused 24.
+pub fn bad_sidedef_of(scale: usize) -> Vec<u8> {
+    let mut map = ordinary_spec(false, scale);
+    let last = map.sidedefs.len() - 1;
+    map.sidedefs[last].sector = map.sectors.len() as u16;
+    Plan::wad_of(map)
+}
+
+/// The same, but the last seg has no such direction. It is refused 25.
+pub fn bad_seg_of(scale: usize) -> Vec<u8> {
+    let mut map = ordinary_spec(false, scale);
+    let last = map.segs.len() - 1;
+    map.segs[last].direction = 2;
+    Plan::wad_of(map)
+}
+
 fn ordinary_of(hexen: bool, scale: usize) -> Vec<u8> {
+    Plan::wad_of(ordinary_spec(hexen, scale))
+}
+
+fn ordinary_spec(hexen: bool, scale: usize) -> MapSpec {
     let mut rng = Rng::new(1);
     let sizes = Sizes {
         hexen,
@@ -46,7 +67,7 @@ fn ordinary_of(hexen: bool, scale: usize) -> Vec<u8> {
         columns: 36,
         rows: 23 * scale.min(8) as u16,
     };
-    Plan::wad_of(MapSpec::new(sizes, Shape::Balanced, Layout::Separate, &mut rng).0)
+    MapSpec::new(sizes, Shape::Balanced, Layout::Separate, &mut rng).0
 }
 
 /// The largest map that fits 16 MiB: most counts at their limits, the rest shared between
@@ -165,6 +186,28 @@ pub fn shared_subsector(nodes: usize) -> Vec<u8> {
     Plan::wad_of(map)
 }
 
+/// A file with a map whose nodes, up to 32,767, are a chain that ends at its own root. It is refused 31, and the way into the loop has a choice
+/// at each node.
+pub fn long_loop(nodes: usize) -> Vec<u8> {
+    let mut map = small_map(Shape::Chain, nodes);
+    for (at, node) in map.nodes.iter_mut().enumerate() {
+        let below = at.checked_sub(1).unwrap_or(nodes - 1) as u16;
+        (node.right, node.left) = if at % 2 == 0 { (below, SUBSECTOR_BIT) } else { (SUBSECTOR_BIT, below) };
+    }
+    Plan::wad_of(map)
+}
+
+/// A file with a map whose root has a balanced tree of all but two of its nodes, up to 32,767, on the right, and a node that is its own child on
+/// the left. It is refused 31, for a way of two choices.
+pub fn loop_behind_tree(nodes: usize) -> Vec<u8> {
+    let mut map = small_map(Shape::Balanced, nodes - 2);
+    let (tree, own) = (nodes as u16 - 3, nodes as u16 - 2);
+    for (right, left) in [(own, SUBSECTOR_BIT), (tree, own)] {
+        map.nodes.push(Node { right, left, ..Node::default() });
+    }
+    Plan::wad_of(map)
+}
+
 /// A map with these nodes, as many subsectors as their tree needs, if a map may have so many, and no more than it must of the rest.
 fn small_map(shape: Shape, nodes: usize) -> MapSpec {
     let sizes = Sizes { nodes, subsectors: 32_767.min(nodes + 1), ..Sizes::LEAST };
@@ -184,6 +227,20 @@ pub fn hostile_blockmap_of(bytes: usize) -> Vec<u8> {
     map.blockmap.offsets = (start..).take(32_000).collect();
     map.blockmap.lists.clear();
     filled(map, bytes, || 0)
+}
+
+/// A file of `bytes` bytes, at least 140,000, with a BLOCKMAP of 32,000 cells: the lists of all but the last run through the same words, and that of
+/// the last runs from there to the lump's last word, which is no linedef. It is refused 28.
+pub fn bad_blockmap_of(bytes: usize) -> Vec<u8> {
+    let sizes = Sizes { columns: 250, rows: 128, ..Sizes::LEAST };
+    let mut map = MapSpec::plain(sizes, &mut Rng::new(5));
+    let start = BlockmapSpec::lists_start(32_000) as u16;
+    map.blockmap.offsets = (start..).take(31_999).chain([start + 32_000]).collect();
+    map.blockmap.lists = [vec![0; 31_999], vec![LIST_END, 0]].concat();
+    let rest = bytes.saturating_sub(Plan::wad_of(map.clone()).len()) / 2;
+    map.blockmap.lists.resize(map.blockmap.lists.len() + rest - 1, 0);
+    map.blockmap.lists.push(sizes.linedefs as u16);
+    Plan::wad_of(map)
 }
 
 /// 320 columns that share about four million empty posts.

@@ -12,6 +12,9 @@ const GOOD: [u16; 14] = [0, 0, 2, 2, 8, 10, 8, 10, 0, 65_535, 0, 2, 1, 65_535];
 /// A cell, and its field: offset, number, least and most.
 type Fault = (usize, [u32; 4]);
 
+/// What is shown, the words that are changed, and what is wrong then.
+type Change = (&'static str, &'static [(usize, u16)], Option<Fault>);
+
 /// All of them.
 pub(crate) fn why_blockmap_limits() -> Vec<Build> {
     let mut all = size_limits();
@@ -86,7 +89,7 @@ fn side_limits() -> Vec<Build> {
 
 /// Each word of offsets and lists with another number, and several at once.
 fn word_limits() -> Vec<Build> {
-    let cases: [(&'static str, &[(usize, u16)], Option<Fault>); 26] = [
+    let cases: [Change; 26] = [
         ("offset", &[(4, 0)], Some((0, [8, 0, 8, 13]))),
         ("offset", &[(4, 7)], Some((0, [8, 7, 8, 13]))),
         ("offset", &[(5, 8)], None),

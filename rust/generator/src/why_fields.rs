@@ -6,9 +6,12 @@ use reader::{Linedef, Refusal, NO_SIDEDEF, SUBSECTOR_BIT, TWO_SIDED};
 /// The first bad field of a record: offset, number, least and most.
 type First = Option<[u32; 4]>;
 
+/// Spoils one record and answers its first bad field.
+type Spoil = fn(&mut MapSpec, usize, &mut Rng) -> First;
+
 /// Spoils any kind of record, and now and then a later one of its kind.
 pub(crate) fn spoil_record(map: &mut MapSpec, rng: &mut Rng) -> Explained {
-    let (number, place, count, spoil): (u32, usize, usize, fn(&mut MapSpec, usize, &mut Rng) -> First) = match rng.below(5) {
+    let (number, place, count, spoil): (_, _, _, Spoil) = match rng.below(5) {
         0 => (23, 2, map.linedefs.len(), linedef),
         1 => (24, 3, map.sidedefs.len(), sidedef),
         2 => (25, 5, map.segs.len(), seg),

@@ -5,7 +5,7 @@ mod common;
 use common::check;
 use generator::*;
 use reader::{descend, directory, draw_order, find_map, judge_map, judge_picture, map_game, Accepted, Found, Refusal, Search};
-use reader::{judge_sidedefs, pair_find, pair_judge_map, write_picture, PairFile, Picture};
+use reader::{judge_sidedefs, pair_find, pair_judge_map, why, write_picture, PairFile, Picture};
 
 #[test]
 fn both_sides_of_every_limit() {
@@ -100,6 +100,32 @@ fn pixels_are_an_ordinary_picture_and_one_of_the_most_posts() {
     };
     assert_eq!(written(320, &checkered(320, 200)), 8 + 320 * (4 + 1 + 100 * 5));
     assert!((15_000..18_000).contains(&written(128, &pixels(128, 128))));
+}
+
+/// Number and record of a refusal, and what is printed.
+fn reason_of(wad: &[u8]) -> (u32, usize, Vec<u8>) {
+    let mut out = vec![0; 32_767];
+    let (verdict, length) = why(wad, &MAP_NAME, &mut vec![1; 4 * 32_767], &mut out);
+    let refusal = verdict.err().unwrap_or(Refusal::plain(0));
+    (refusal.number, refusal.record, out[..length].to_vec())
+}
+
+#[test]
+fn refused_inputs_have_their_reasons() {
+    let field = |numbers: [u32; 4]| numbers.map(u32::to_le_bytes).concat();
+    assert_eq!(reason_of(&map_of(1)), (0, 0, vec![b'R'; 8]));
+    assert_eq!(reason_of(&bad_sidedef_of(2)), (24, 2 * 666 - 1, field([28, 176, 0, 175])));
+    assert_eq!((reason_of(&bad_seg_of(1)).0, reason_of(&bad_seg_of(1)).1), (25, 746));
+    let way = reason_of(&long_loop(32_767));
+    assert_eq!((way.0, way.2.len(), &way.2[..3]), (31, 32_767, &b"RLR"[..]));
+    for nodes in [8_191, 32_767] {
+        assert_eq!(reason_of(&loop_behind_tree(nodes)), (31, 0, b"LR".to_vec()));
+    }
+    let wad = bad_blockmap_of(MOST_BYTES);
+    assert!((MOST_BYTES - 1..=MOST_BYTES).contains(&wad.len()));
+    let size = reader::lump(&wad, 10).len() as u32;
+    assert_eq!(reason_of(&wad), (28, 31_999, field([size - 2, 1, 0, 0])));
+    assert_eq!(reason_of(&chain(32_766)).2.len(), 32_766);
 }
 
 #[test]

@@ -162,6 +162,17 @@ fn reader_scraps<const LENGTH: usize>(lump: &[u8]) -> usize {
     told(sidedefs.verdict().map_err(|it| it.number), lump)
 }
 
+/// How much is printed of a map's reason.
+fn library_why(wad: &[u8]) -> usize {
+    let (mut words, mut out) = (vec![0; meshpigeon::MOST_WORDS], vec![0; meshpigeon::MOST_REASON]);
+    meshpigeon::why_with(wad, &given::MAP_NAME, &mut words, &mut out).1
+}
+
+fn reader_why(wad: &[u8]) -> usize {
+    let (mut words, mut out) = (vec![0; meshpigeon::MOST_WORDS], vec![0; meshpigeon::MOST_REASON]);
+    reader::why(wad, &given::MAP_NAME, &mut words, &mut out).1
+}
+
 /// The rows of one lump: in a map with little else, whose check is mostly this lump's; in one piece; and in scraps.
 const IN_A_MAP: &str = "65,535 sidedefs in a map";
 const IN_ONE_PIECE: &str = "65,535 sidedefs in one piece";
@@ -349,6 +360,38 @@ fn inputs() -> Vec<Input> {
             sized: |n| vec![0; given::MOST_BYTES * n / 4],
             library: library_scraps::<1>,
             reader: reader_scraps::<1>,
+        },
+        Input { name: "reason: ordinary map's route", sized: |n| given::map_of(n), library: library_why, reader: reader_why },
+        Input {
+            name: "reason: last sidedef (24)",
+            sized: |n| given::bad_sidedef_of(n),
+            library: library_why,
+            reader: reader_why,
+        },
+        Input { name: "reason: last seg (25)", sized: |n| given::bad_seg_of(n), library: library_why, reader: reader_why },
+        Input {
+            name: "reason: chain of 32,766 nodes",
+            sized: |n| given::chain(32_766 * n / 4),
+            library: library_why,
+            reader: reader_why,
+        },
+        Input {
+            name: "reason: loop of 32,767 (31)",
+            sized: |n| given::long_loop(32_767 * n / 4),
+            library: library_why,
+            reader: reader_why,
+        },
+        Input {
+            name: "reason: loop behind a tree (31)",
+            sized: |n| given::loop_behind_tree(32_767 * n / 4),
+            library: library_why,
+            reader: reader_why,
+        },
+        Input {
+            name: "reason: BLOCKMAP of 16 MiB (28)",
+            sized: |n| given::bad_blockmap_of(given::MOST_BYTES * n / 4),
+            library: library_why,
+            reader: reader_why,
         },
         Input {
             name: "hostile BLOCKMAP of 16 MiB",
