@@ -1,9 +1,6 @@
 // The papers' vectors. Each statement of standard input puts one question to the library; what is answered is held to the
 // file stdout. The head of the file stdin says how a statement is written.
 mod ask;
-mod print;
-mod records;
-mod script;
 
 // Room for 2 MB of file after the other parts.
 const STORE: usize = 2200000;

@@ -1,0 +1,119 @@
+// The eight kinds of map record. One is read, its fields are printed, and it is written into a lump, which is printed too.
+use status::Status;
+
+// With an index alone the record is read from the lump, with an index and its bytes from those. It is written to the index.
+pub fn put(kind: usize, lump: &[u8], with: &[u8]) {
+    let i = script::argument(with, 0);
+    if with.len() == 4 {
+        return copy_record(kind, lump, i, lump, i);
+    }
+    copy_record(kind, script::part(with, 4, with.len()), 0, lump, i);
+}
+
+fn copy_record(kind: usize, from: &[u8], index: usize, lump: &[u8], i: usize) {
+    let n = lump.len() % 64001;
+    let mut copy = script::copied(lump);
+    write(kind, from, index, &mut copy[..n], i);
+}
+
+fn write(kind: usize, from: &[u8], index: usize, to: &mut [u8], i: usize) {
+    print::status(write_kind(kind, from, index, to, i));
+    print::bytes(to);
+}
+
+// Things and linedefs have four kinds each: read as Doom's or, the later two, as Hexen's; written as Doom's or, the second of
+// two, as Hexen's.
+fn write_kind(kind: usize, from: &[u8], index: usize, to: &mut [u8], i: usize) -> Status {
+    match kind {
+        0..=3 => thing(kind, from, index, to, i),
+        4..=7 => linedef(kind - 4, from, index, to, i),
+        8 => sidedef(from, index, to, i),
+        9 => vertex(from, index, to, i),
+        10 => seg(from, index, to, i),
+        11 => subsector(from, index, to, i),
+        12 => node(from, index, to, i),
+        _ => sector(from, index, to, i),
+    }
+}
+
+fn thing(games: usize, from: &[u8], index: usize, to: &mut [u8], i: usize) -> Status {
+    let a = export_records::meshpigeon_read_thing(from, index, 2 <= games);
+    let mut t = a.thing;
+    print::signed(&[t.id, t.x, t.y, t.height]);
+    print::words(&[t.angle, t.kind, t.flags, t.action as u16]);
+    print::bytes(&t.args);
+    print::flag(t.hexen);
+    print::status(a.status);
+    t.hexen = games % 2 == 1;
+    export_records::meshpigeon_write_thing(to, i, t)
+}
+
+fn linedef(games: usize, from: &[u8], index: usize, to: &mut [u8], i: usize) -> Status {
+    let a = export_records::meshpigeon_read_linedef(from, index, 2 <= games);
+    let mut l = a.linedef;
+    print::words(&[l.start, l.end, l.flags, l.special, l.tag, l.right, l.left]);
+    print::bytes(&l.args);
+    print::flag(l.hexen);
+    print::status(a.status);
+    l.hexen = games % 2 == 1;
+    export_records::meshpigeon_write_linedef(to, i, l)
+}
+
+fn sidedef(from: &[u8], index: usize, to: &mut [u8], i: usize) -> Status {
+    let a = export_records::meshpigeon_read_sidedef(from, index);
+    let s = a.sidedef;
+    print::signed(&[s.x_offset, s.y_offset]);
+    print::bytes(&s.upper);
+    print::bytes(&s.lower);
+    print::bytes(&s.middle);
+    print::words(&[s.sector]);
+    print::status(a.status);
+    export_records::meshpigeon_write_sidedef(to, i, s)
+}
+
+fn vertex(from: &[u8], index: usize, to: &mut [u8], i: usize) -> Status {
+    let a = export_records::meshpigeon_read_vertex(from, index);
+    let v = a.vertex;
+    print::signed(&[v.x, v.y]);
+    print::status(a.status);
+    export_records::meshpigeon_write_vertex(to, i, v)
+}
+
+fn seg(from: &[u8], index: usize, to: &mut [u8], i: usize) -> Status {
+    let a = export_records::meshpigeon_read_seg(from, index);
+    let s = a.seg;
+    print::words(&[s.start, s.end, s.angle, s.linedef, s.direction]);
+    print::signed(&[s.offset]);
+    print::status(a.status);
+    export_records::meshpigeon_write_seg(to, i, s)
+}
+
+fn subsector(from: &[u8], index: usize, to: &mut [u8], i: usize) -> Status {
+    let a = export_records::meshpigeon_read_subsector(from, index);
+    let s = a.subsector;
+    print::words(&[s.number, s.first]);
+    print::status(a.status);
+    export_records::meshpigeon_write_subsector(to, i, s)
+}
+
+fn node(from: &[u8], index: usize, to: &mut [u8], i: usize) -> Status {
+    let a = export_records::meshpigeon_read_node(from, index);
+    let n = a.node;
+    print::signed(&[n.x, n.y, n.dx, n.dy]);
+    print::signed(&n.right_box);
+    print::signed(&n.left_box);
+    print::words(&[n.right, n.left]);
+    print::status(a.status);
+    export_records::meshpigeon_write_node(to, i, n)
+}
+
+fn sector(from: &[u8], index: usize, to: &mut [u8], i: usize) -> Status {
+    let a = export_records::meshpigeon_read_sector(from, index);
+    let s = a.sector;
+    print::signed(&[s.floor, s.ceiling]);
+    print::bytes(&s.floor_flat);
+    print::bytes(&s.ceiling_flat);
+    print::words(&[s.light, s.special, s.tag]);
+    print::status(a.status);
+    export_records::meshpigeon_write_sector(to, i, s)
+}
