@@ -12,7 +12,7 @@ pub fn put(written: bool, file: &[u8], with: &[u8]) {
 fn picture(lump: &[u8], with: &[u8]) {
     let end = script::plus(4, script::argument(with, 0));
     let colours = script::part(with, 4, end);
-    let covers = script::part(with, end, with.len());
+    let covers = script::rest(with, end);
     let m = colours.len() % 64001;
     let n = covers.len() % 64001;
     let mut colour = script::copied(colours);
@@ -39,7 +39,7 @@ fn picture_answer(a: export_pictures::PictureAnswer) {
 fn encode(out: &[u8], with: &[u8]) {
     let end = script::plus(20, script::argument(with, 16));
     let colours = script::part(with, 20, end);
-    let covers = script::part(with, end, with.len());
+    let covers = script::rest(with, end);
     let picture = header(with);
     let n = out.len() % 64001;
     let mut copy = script::copied(out);

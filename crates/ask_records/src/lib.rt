@@ -7,7 +7,7 @@ pub fn put(kind: usize, lump: &[u8], with: &[u8]) {
     if with.len() == 4 {
         return copy_record(kind, lump, i, lump, i);
     }
-    copy_record(kind, script::part(with, 4, with.len()), 0, lump, i);
+    copy_record(kind, script::rest(with, 4), 0, lump, i);
 }
 
 fn copy_record(kind: usize, from: &[u8], index: usize, lump: &[u8], i: usize) {

@@ -1,4 +1,7 @@
 // The script: what its statements lend is written into one store of two parts, and the registers hold how far each goes.
+ghost use mathlib.Core.Path.{_≡_};
+ghost use lib.ListN.{length};
+
 mod asked;
 mod text;
 
@@ -12,8 +15,18 @@ use text::minus;
 pub use text::part;
 pub use text::place_among;
 pub use text::plus;
+pub use text::rest;
 use text::sum;
 use text::width_of;
+
+// Room for a script, all zeros. What is lent of it needs its length.
+pub const ROOM: usize = 131072;
+
+pub fn room() -> [u8; ROOM]
+    ensures { λ r. ⌜ 131072 ≡ length r ⌝ }
+{
+    [0; ROOM]
+}
 
 // The store's parts: 0 is what is asked with, from 0 on; 1 is the file or lump. Register i is where part i ends.
 pub const FILE_START: usize = 196608;
@@ -63,7 +76,7 @@ fn token(b: u8, text: &[u8], store: &mut [u8], r: &mut [usize; 9]) {
     match b {
         b' ' | b'\n' => r[NEXT] = plus(at, 1),
         b'#' => r[NEXT] = find(text, at, b'\n'),
-        b'"' => quoted(part(token, 1, token.len()), store, r),
+        b'"' => quoted(rest(token, 1), store, r),
         b'-' | b'0'..=b'9' => number(token, store, r),
         _ => word(token, r),
     }
@@ -93,7 +106,7 @@ fn go_to(part: usize, at: usize, r: &mut [usize; 9]) {
 // A number, a letter for its width, then * and how many times.
 fn number(token: &[u8], store: &mut [u8], r: &mut [usize; 9]) {
     let star = find(token, 0, b'*');
-    let times = sum(part(token, plus(star, 1), token.len()));
+    let times = sum(rest(token, plus(star, 1)));
     let width = width_of(byte(token, minus(star, 1)));
     let digits = part(token, 0, if width == 1 { star } else { minus(star, 1) });
     use_number(sum(digits), width, times, store, r);

@@ -16,6 +16,10 @@ pub fn part(s: &[u8], from: usize, to: usize) -> &[u8] {
     wad::part_if(s, from, minus(to, from))
 }
 
+pub fn rest(s: &[u8], from: usize) -> &[u8] {
+    part(s, from, s.len())
+}
+
 // Where a byte stands next, or the line ends.
 pub fn find(s: &[u8], from: usize, b: u8) -> usize {
     for i in from..s.len() {

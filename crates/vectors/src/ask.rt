@@ -1,11 +1,14 @@
-// The questions: each is put to the library with what is lent, and the answer printed, then what was lent.
+// The questions: each is put to the library with what is lent, and the answer printed.
 
-// Which question a word names: its place among these. Those from RECORDS on read and write one.
-const RECORDS: usize = 11;
+// Which question a word names: its place among these. Those from MAPS on are lent words; those from RECORDS on read and write one.
+const MAPS: usize = 11;
+
+const RECORDS: usize = 15;
 
 pub(crate) fn number_of(word: &[u8]) -> usize {
     script::place_among(
-        b"base title directory entry marker game descend map order picture encode \
+        b"base title directory entry marker game descend find sidedefs picture encode \
+        map order pair why \
         THINGS THINGS.DH THINGS.HD THINGS.H LINEDEFS LINEDEFS.DH LINEDEFS.HD LINEDEFS.H \
         SIDEDEFS VERTEXES SEGS SSECTORS NODES SECTORS ",
         word,
@@ -20,9 +23,11 @@ pub(crate) fn put(asked: usize, with: &[u8], file: &[u8], word: usize, words: us
         4 => marker(file, with),
         5 => game(file, with),
         6 => descend(file, with),
-        7 | 8 => lend_words(asked == 8, file, with, word, words),
+        7 => find(file, with),
+        8 => sidedefs(file, with),
         9 | 10 => ask_pictures::put(asked == 10, file, with),
-        RECORDS..=24 => ask_records::put(asked - RECORDS, file, with),
+        MAPS..=14 => ask_maps::put(asked - MAPS, file, with, word, words),
+        RECORDS..=28 => ask_records::put(asked - RECORDS, file, with),
         _ => print::ill_formed(),
     }
 }
@@ -53,42 +58,28 @@ fn game(file: &[u8], with: &[u8]) {
 // Asked with the count of subsectors, then x and y.
 fn descend(nodes: &[u8], with: &[u8]) {
     let x = script::coordinate(with, 4);
-    let a = export_maps::meshpigeon_descend(
-        nodes,
-        script::argument(with, 0),
-        x,
-        script::coordinate(with, 8),
-    );
+    let y = script::coordinate(with, 8);
+    let a = export_maps::meshpigeon_descend(nodes, script::argument(with, 0), x, y);
     print::answer(a.status, a.subsector, a.count);
 }
 
-fn lend_words(order: bool, file: &[u8], with: &[u8], word: usize, count: usize) {
-    if 131072 < count {
-        return print::ill_formed();
+// The file is the base and then the patch. Asked with the base's length, then the name.
+fn find(file: &[u8], with: &[u8]) {
+    let n = script::argument(with, 0);
+    let base = script::part(file, 0, n);
+    let a = export_pairs::meshpigeon_pair_find(base, script::rest(file, n), script::rest(with, 4));
+    print::answer(a.status, a.file as usize, a.offset);
+    print::number(a.size);
+}
+
+// Asked with the count of sectors, of 64 bits, then each scrap's length. After its end the lump begins again.
+fn sidedefs(lump: &[u8], with: &[u8]) {
+    let mut state = export_sidedefs::meshpigeon_sidedefs_start(script::long_argument(with));
+    let mut at = 0;
+    for i in 2..with.len() / 4 {
+        let end = script::plus(at, script::argument(with, 4 * i));
+        state = export_sidedefs::meshpigeon_sidedefs_feed(state, script::part(lump, at, end));
+        at = if end == lump.len() { 0 } else { end };
     }
-    let mut words = [(word % 65536) as u16; 131072];
-    fill_words(order, file, with, &mut words[..count]);
-}
-
-fn fill_words(order: bool, file: &[u8], with: &[u8], words: &mut [u16]) {
-    if order {
-        return draw_order(file, with, words);
-    }
-    judge_map(file, with, words);
-}
-
-fn judge_map(file: &[u8], name: &[u8], words: &mut [u16]) {
-    let a = export_maps::meshpigeon_judge_map(file, name, words);
-    print::answer(a.status, a.depth, a.marker);
-    print::words(words);
-}
-
-// Asked as a descent is.
-fn draw_order(nodes: &[u8], with: &[u8], words: &mut [u16]) {
-    let x = script::coordinate(with, 4);
-    let y = script::coordinate(with, 8);
-    let a = export_maps::meshpigeon_draw_order(nodes, script::argument(with, 0), x, y, words);
-    print::status(a.status);
-    print::number(a.count);
-    print::words(words);
+    print::status(export_sidedefs::meshpigeon_sidedefs_verdict(state));
 }

@@ -6,12 +6,12 @@ mod ask;
 const STORE: usize = 2200000;
 
 fn main() {
-    let mut text = io::large_buffer();
+    let mut text = script::room();
     let n = io::read_full(0, &mut text);
     let mut store = [0u8; STORE];
     let mut r = [0usize; 9];
     go_over(&text[..n], &mut store, &mut r);
-    if n == 65536 {
+    if n == script::ROOM {
         print::ill_formed();
     }
 }

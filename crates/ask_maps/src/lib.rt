@@ -1,0 +1,70 @@
+// Questions that words are lent to: each is put with what else is lent, and the answer printed, then the words.
+
+// The questions by number: map, order, pair, why.
+pub fn put(asked: usize, file: &[u8], with: &[u8], word: usize, count: usize) {
+    if 131072 < count {
+        return print::ill_formed();
+    }
+    let mut words = [(word % 65536) as u16; 131072];
+    answer(asked, file, with, &mut words[..count]);
+}
+
+fn answer(asked: usize, file: &[u8], with: &[u8], words: &mut [u16]) {
+    match asked {
+        0 => judge_map(file, with, words),
+        1 => draw_order(file, with, words),
+        2 => judge_pair(file, with, words),
+        _ => why(file, with, words),
+    }
+}
+
+fn judge_map(file: &[u8], name: &[u8], words: &mut [u16]) {
+    let a = export_maps::meshpigeon_judge_map(file, name, words);
+    print::answer(a.status, a.depth, a.marker);
+    print::words(words);
+}
+
+// Asked as a descent is.
+fn draw_order(nodes: &[u8], with: &[u8], words: &mut [u16]) {
+    let x = script::coordinate(with, 4);
+    let y = script::coordinate(with, 8);
+    let a = export_maps::meshpigeon_draw_order(nodes, script::argument(with, 0), x, y, words);
+    print::status(a.status);
+    print::number(a.count);
+    print::words(words);
+}
+
+// The file is the base and then the patch. Asked with the base's length, then the name.
+fn judge_pair(file: &[u8], with: &[u8], words: &mut [u16]) {
+    let n = script::argument(with, 0);
+    let base = script::part(file, 0, n);
+    let patch = script::rest(file, n);
+    let a = export_pairs::meshpigeon_pair_judge_map(base, patch, script::rest(with, 4), words);
+    print::answer(a.status, a.file as usize, a.depth);
+    print::number(a.marker);
+    print::words(words);
+}
+
+// Asked with the name of eight bytes; the output holds 9s.
+fn why(file: &[u8], with: &[u8], words: &mut [u16]) {
+    let n = output_length(with) % 32769;
+    let mut out = [9u8; 32768];
+    reason(file, script::part(with, 0, 8), words, &mut out[..n]);
+}
+
+// What stands behind the name, or else 20.
+fn output_length(with: &[u8]) -> usize {
+    if with.len() <= 8 {
+        return 20;
+    }
+    script::argument(with, 8)
+}
+
+fn reason(file: &[u8], name: &[u8], words: &mut [u16], out: &mut [u8]) {
+    let a = export_why::meshpigeon_why(file, name, words, out);
+    print::answer(a.status, a.depth, a.marker);
+    print::number(a.length);
+    print::bytes(out);
+    print::text(b" words");
+    print::words(words);
+}
