@@ -37,7 +37,7 @@ fn draw_order(nodes: &[u8], with: &[u8], words: &mut [u16]) {
 // The file is the base and then the patch. Asked with the base's length, then the name.
 fn judge_pair(file: &[u8], with: &[u8], words: &mut [u16]) {
     let n = script::argument(with, 0);
-    let base = script::part(file, 0, n);
+    let base = script::lent(file, 0, n);
     let patch = script::rest(file, n);
     let a = export_pairs::meshpigeon_pair_judge_map(base, patch, script::rest(with, 4), words);
     print::answer(a.status, a.file as usize, a.depth);
@@ -47,9 +47,12 @@ fn judge_pair(file: &[u8], with: &[u8], words: &mut [u16]) {
 
 // Asked with the name of eight bytes; the output holds 9s.
 fn why(file: &[u8], with: &[u8], words: &mut [u16]) {
-    let n = output_length(with) % 32769;
+    let n = output_length(with);
+    if 32768 < n {
+        return print::ill_formed();
+    }
     let mut out = [9u8; 32768];
-    reason(file, script::part(with, 0, 8), words, &mut out[..n]);
+    reason(file, script::lent(with, 0, 8), words, &mut out[..n]);
 }
 
 // What stands behind the name, or else 20.

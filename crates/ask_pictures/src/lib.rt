@@ -11,7 +11,7 @@ pub fn put(written: bool, file: &[u8], with: &[u8]) {
 // Asked with the length of the colour plane, then what both planes hold.
 fn picture(lump: &[u8], with: &[u8]) {
     let end = script::plus(4, script::argument(with, 0));
-    let colours = script::part(with, 4, end);
+    let colours = script::lent(with, 4, end);
     let covers = script::rest(with, end);
     let m = colours.len() % 64001;
     let n = covers.len() % 64001;
@@ -38,7 +38,7 @@ fn picture_answer(a: export_pictures::PictureAnswer) {
 // Written over the file. Asked with width, height, both offsets and the length of the colour plane, then what both planes hold.
 fn encode(out: &[u8], with: &[u8]) {
     let end = script::plus(20, script::argument(with, 16));
-    let colours = script::part(with, 20, end);
+    let colours = script::lent(with, 20, end);
     let covers = script::rest(with, end);
     let picture = header(with);
     let n = out.len() % 64001;

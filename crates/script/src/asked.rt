@@ -1,5 +1,14 @@
 // What a question is asked with: numbers, and bytes to be changed.
 use crate::byte;
+use crate::part;
+
+// A part that has to be there.
+pub fn lent(s: &[u8], from: usize, to: usize) -> &[u8] {
+    if (to < from) | (s.len() < to) {
+        print::ill_formed();
+    }
+    part(s, from, to)
+}
 
 // A number of 32 bits.
 pub fn argument(with: &[u8], at: usize) -> usize {

@@ -8,6 +8,7 @@ mod text;
 pub use asked::argument;
 pub use asked::coordinate;
 pub use asked::copied;
+pub use asked::lent;
 pub use asked::long_argument;
 use text::byte;
 pub use text::find;

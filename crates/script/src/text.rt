@@ -1,4 +1,5 @@
 // The text of a script, byte by byte: each function is total, so that a caller needs no facts.
+
 // Past the end every byte is a line's end.
 pub fn byte(s: &[u8], at: usize) -> u8 {
     if at < s.len() { s[at] } else { b'\n' }

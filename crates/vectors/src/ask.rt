@@ -66,7 +66,7 @@ fn descend(nodes: &[u8], with: &[u8]) {
 // The file is the base and then the patch. Asked with the base's length, then the name.
 fn find(file: &[u8], with: &[u8]) {
     let n = script::argument(with, 0);
-    let base = script::part(file, 0, n);
+    let base = script::lent(file, 0, n);
     let a = export_pairs::meshpigeon_pair_find(base, script::rest(file, n), script::rest(with, 4));
     print::answer(a.status, a.file as usize, a.offset);
     print::number(a.size);
@@ -78,7 +78,7 @@ fn sidedefs(lump: &[u8], with: &[u8]) {
     let mut at = 0;
     for i in 2..with.len() / 4 {
         let end = script::plus(at, script::argument(with, 4 * i));
-        state = export_sidedefs::meshpigeon_sidedefs_feed(state, script::part(lump, at, end));
+        state = export_sidedefs::meshpigeon_sidedefs_feed(state, script::lent(lump, at, end));
         at = if end == lump.len() { 0 } else { end };
     }
     print::status(export_sidedefs::meshpigeon_sidedefs_verdict(state));
