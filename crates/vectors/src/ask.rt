@@ -72,11 +72,12 @@ fn find(file: &[u8], with: &[u8]) {
     print::number(a.size);
 }
 
-// Asked with the count of sectors, of 64 bits, then each scrap's length. After its end the lump begins again.
+// Asked with the count of sectors, of 64 bits, then each scrap's length; a length that is cut is asked for too. Behind its end the lump
+// begins again.
 fn sidedefs(lump: &[u8], with: &[u8]) {
     let mut state = export_sidedefs::meshpigeon_sidedefs_start(script::long_argument(with));
     let mut at = 0;
-    for i in 2..with.len() / 4 {
+    for i in 2..(with.len() % 196609 + 3) / 4 {
         let end = script::plus(at, script::argument(with, 4 * i));
         state = export_sidedefs::meshpigeon_sidedefs_feed(state, script::lent(lump, at, end));
         at = if end == lump.len() { 0 } else { end };

@@ -5,7 +5,7 @@ use Rattle.vectors.proofs.ask.sidedefs.Statement.{statement}
 use Rattle.vectors.proofs.ask.sidedefs.Tie as tie
 
 abbrev Inv-loop : tie.InvT-loop
-Inv-loop lump with state₀ at₀ i₀ i-end state at i = i-end ≤ 4611686018427387904
+Inv-loop lump with state₀ at₀ i₀ i-end state at i = i-end ≤ 196609
 
 abbrev μ-loop : tie.MeasureT-loop
 μ-loop lump with state₀ at₀ i₀ i-end state at i = i-end - i
@@ -18,6 +18,7 @@ sidedefs-spec =
     μ-loop
     (λ c κs. search needs)
     (λ c κs. search needs)
+    (λ c. search needs)
     (λ c. search needs)
     (λ c. search needs)
     (λ c κs. search needs)
