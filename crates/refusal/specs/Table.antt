@@ -16,6 +16,7 @@ use Rattle.refusal.specs.declared.Refusal.the-variants.{PictureLength, P
 use Rattle.refusal.specs.declared.Refusal.the-variants.{PostBounds, PostRows, PixelBuffer}
 use Rattle.refusal.specs.declared.Refusal.the-variants.{EncodeSize, EncodeCover, EncodeRoom}
 use Rattle.refusal.specs.declared.Refusal.the-variants.{RecordBounds, RecordFields}
+use Rattle.refusal.specs.declared.Refusal.the-variants.{RenumberNodes, RenumberChild, RenumberRoot, RenumberLength, RenumberRoom}
 use Rattle.refusal.specs.declared.Refusal.the-variants.{StreamSectors, StreamLength, ReasonRoom}
 
 -- a row of the table: number, place, record
@@ -64,6 +65,11 @@ rowOf EncodeCover = row 57 0 0
 rowOf EncodeRoom = row 58 0 0
 rowOf RecordBounds = row 60 0 0
 rowOf RecordFields = row 61 0 0
+rowOf RenumberNodes = row 70 0 0
+rowOf RenumberChild = row 71 0 0
+rowOf RenumberRoot = row 72 0 0
+rowOf RenumberLength = row 73 0 0
+rowOf RenumberRoom = row 74 0 0
 rowOf StreamSectors = row 80 0 0
 rowOf StreamLength = row 81 0 0
 rowOf ReasonRoom = row 85 0 0

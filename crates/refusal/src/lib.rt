@@ -82,6 +82,16 @@ pub enum Refusal {
     RecordBounds,
     // 61: a field that the record's game lacks is not 0, or a Hexen special is over 255
     RecordFields,
+    // 70: renumbering, a list that does not hold each reached node once
+    RenumberNodes,
+    // 71: renumbering, a child after its parent
+    RenumberChild,
+    // 72: renumbering, a list that does not end with the root
+    RenumberRoot,
+    // 73: renumbering, a list of another length than the reached nodes
+    RenumberLength,
+    // 74: renumbering, an output buffer under the new nodes
+    RenumberRoom,
     // 80: sidedefs as they arrive, the count of sectors
     StreamSectors,
     // 81: sidedefs as they arrive, more bytes than a file has
@@ -144,6 +154,11 @@ pub fn row_of(r: Refusal) -> Row
         Refusal::EncodeRoom => Row(58, 0, 0),
         Refusal::RecordBounds => Row(60, 0, 0),
         Refusal::RecordFields => Row(61, 0, 0),
+        Refusal::RenumberNodes => Row(70, 0, 0),
+        Refusal::RenumberChild => Row(71, 0, 0),
+        Refusal::RenumberRoot => Row(72, 0, 0),
+        Refusal::RenumberLength => Row(73, 0, 0),
+        Refusal::RenumberRoom => Row(74, 0, 0),
         Refusal::StreamSectors => Row(80, 0, 0),
         Refusal::StreamLength => Row(81, 0, 0),
         Refusal::ReasonRoom => Row(85, 0, 0),
