@@ -20,7 +20,8 @@ use Rattle.picture.specs.declared.PictureVerdict.{PictureVerdict}
 use Rattle.picture.specs.declared.PictureVerdict.the-variants.{Accepted, Refused as NotAccepted}
 use Rattle.picture.proofs.Checks.{Header, header-of}
 use Rattle.canvas.specs.Buffers.{roomCheck, paintCheck}
-use Rattle.canvas.specs.Pixels.{byColour, byCover, planeOf, bufferAfter, Painted}
+use Rattle.layout.specs.Buffers.{bufferAfter}
+use Rattle.canvas.specs.Pixels.{byColour, byCover, planeOf, Painted}
 
 -- ---- two questions for one: the header with the room, then the header with the columns
 

@@ -1,12 +1,11 @@
 -- The pixels of a picture, and the two planes that they are painted into (01, "Pictures", "Painted"). Assumes nothing.
 use Prim.Native.Nat.{ℕ, zero, suc, _+_, _-_, _/_, _%_}
 use mathlib.Core.Bool.{Bool, _&&_, cond}
-use mathlib.Core.List.{List, [], _∷_, _++_}
+use mathlib.Core.List.{List, [], _∷_}
 use mathlib.Core.Path.{_≡_}
 use lib.Dec.{leb, ltb}
-use lib.ListN.{length, getD, drop}
-use Rattle.refusal.specs.declared.Check.{Check}
-use Rattle.refusal.specs.declared.Check.the-variants.{Pass, Refused}
+use lib.ListN.{length, getD}
+use Rattle.layout.specs.Buffers.{bufferAfter}
 use Rattle.picture.specs.declared.PictureVerdict.{PictureVerdict}
 use Rattle.picture.specs.Layout.{widthOf, areaOf, columnOffset, startAt, endAt, endRow, postEnd}
 use Rattle.picture.specs.Judging.{answerOf}
@@ -54,11 +53,6 @@ listOf f from (suc count) = f from ∷ listOf f (suc from) count
 abbrev pub planeOf : (ℕ → ℕ) → List ℕ → List ℕ
 planeOf by lump =
     listOf (λ i. shown by lump (i % widthOf lump) (i / widthOf lump)) 0 (areaOf lump)
-
--- a buffer after the check: its first bytes are the plane, or nothing is changed
-abbrev pub bufferAfter : Check → List ℕ → List ℕ → List ℕ
-bufferAfter Pass plane buffer = plane ++ drop (length plane) buffer
-bufferAfter (Refused r) plane buffer = buffer
 
 -- what painting into `colour` and `cover` answers, and what both hold afterwards
 pub record Painted (lump colour cover : List ℕ) (answer : PictureVerdict) (colour' cover' : List ℕ) : Type 0 where

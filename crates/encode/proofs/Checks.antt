@@ -16,7 +16,7 @@ use Rattle.refusal.specs.declared.Check.the-variants.{Pass, Refused}
 use Rattle.refusal.specs.Checks.{unless}
 use Rattle.refusal.proofs.Checks.{both, refused-then, pass-then}
 use Rattle.picture.specs.declared.Picture.{Picture}
-use Rattle.canvas.specs.Pixels.{bufferAfter}
+use Rattle.layout.specs.Buffers.{bufferAfter}
 use Rattle.encode.specs.declared.Encoding.{Encoding}
 use Rattle.encode.specs.Lump.{headerBytes, writtenOf, writtenLength}
 use Rattle.encode.specs.Encoding.{outputCheck, givenCheck, encodeCheck, encodingOf, Encoded}

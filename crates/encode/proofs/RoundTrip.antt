@@ -24,7 +24,8 @@ use Rattle.picture.specs.declared.PictureVerdict.the-variants.{Accepted}
 use Rattle.picture.specs.Layout.{pictureOf, areaOf, tableEnd, columnOffset}
 use Rattle.picture.specs.Judging.{pictureHeaderCheck, columnsCheck, answerOf as pictureAnswer}
 use Rattle.canvas.specs.Buffers.{roomCheck, paintCheck}
-use Rattle.canvas.specs.Pixels.{bufferAfter, byColour, byCover, listOf, planeOf}
+use Rattle.layout.specs.Buffers.{bufferAfter}
+use Rattle.canvas.specs.Pixels.{byColour, byCover, listOf, planeOf}
 use Rattle.canvas.proofs.Checks.{room-passed}
 use Rattle.canvas.proofs.Planes.{length-listOf, getD-listOf}
 use Rattle.encode.specs.Lump.{pixelsOf, pixelAt, coveredAt, columnOf, columnStart, u32Bytes, headerBytes, writtenOf}

@@ -12,7 +12,7 @@ use Rattle.refusal.specs.declared.Check.the-variants.{Pass, Refused}
 use Rattle.refusal.specs.Checks.{unless, _andThen_}
 use Rattle.picture.specs.declared.Picture.{Picture}
 use Rattle.picture.specs.Judging.{sizeOk}
-use Rattle.canvas.specs.Pixels.{bufferAfter}
+use Rattle.layout.specs.Buffers.{bufferAfter}
 use Rattle.encode.specs.declared.Encoding.{Encoding}
 use Rattle.encode.specs.declared.Encoding.the-variants.{Written, Refused as NotWritten}
 use Rattle.encode.specs.Lump.{pixelsOf, writtenLength, writtenOf}

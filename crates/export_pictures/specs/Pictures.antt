@@ -9,7 +9,8 @@ use Rattle.picture.specs.declared.PictureVerdict.{PictureVerdict}
 use Rattle.picture.specs.declared.PictureVerdict.the-variants.{Accepted, Refused as NotAccepted}
 use Rattle.picture.specs.Judging.{pictureCheck, answerOf}
 use Rattle.canvas.specs.Buffers.{paintCheck}
-use Rattle.canvas.specs.Pixels.{planeOf, byColour, byCover, bufferAfter}
+use Rattle.layout.specs.Buffers.{bufferAfter}
+use Rattle.canvas.specs.Pixels.{planeOf, byColour, byCover}
 use Rattle.encode.specs.declared.Encoding.{Encoding}
 use Rattle.encode.specs.declared.Encoding.the-variants.{Written, Refused as NotWritten}
 use Rattle.encode.specs.Lump.{writtenLength, writtenOf}
