@@ -15,7 +15,7 @@ use Rattle.bsp.specs.declared.Choice.the-variants.{Right, Left}
 use Rattle.bsp.specs.Nodes.{nodesOf, subsectorBit, isNode, childOf, root}
 use Rattle.bsp.specs.Routes.{Follow, Reached}
 use Rattle.bsp.specs.Heights.{stands, wordsFrom, member, repeats}
-use Rattle.bsp.specs.Reach.{HoldsOnce, OneMore}
+use Rattle.bsp.specs.Reach.{kept, HoldsOnce, OneMore}
 use Rattle.bsp.specs.Inner.{NodesInRange}
 use Rattle.bsp.proofs.Heights.{node-or-end, stands-none, stands-child}
 use Rattle.bsp.proofs.Nodes.{root-node}
@@ -23,10 +23,6 @@ use Rattle.bsp.proofs.Repeats.{or-neither, member-head, member-tail, me
 use Rattle.bsp.proofs.Shared.{words-node, words-end, follow-member, member-follow}
 
 -- ---- the members of a list that pass a test
-
-abbrev pub kept : (ℕ → Bool) → List ℕ → List ℕ
-kept test [] = []
-kept test (x ∷ xs) = cond (test x) (x ∷ kept test xs) (kept test xs)
 
 module _ (test : ℕ → Bool) where
   kept-append : (xs ys : List ℕ) → kept test (xs ++ ys) ≡ kept test xs ++ kept test ys

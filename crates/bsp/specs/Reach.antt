@@ -1,12 +1,21 @@
--- How many nodes and subsectors a map reaches (W-202): counted by lists that hold each of them once. Assumes nothing.
+-- Which nodes a map reaches, and how many nodes and subsectors (W-202): counted by lists that hold each of them once. Assumes nothing.
 use Prim.Native.Nat.{ℕ, _+_, _≤_, _<_}
-use mathlib.Core.Bool.{true, false}
-use mathlib.Core.List.{List}
+use mathlib.Core.Bool.{Bool, true, false, cond}
+use mathlib.Core.List.{List, [], _∷_}
 use mathlib.Core.Path.{_≡_}
 use lib.ListN.{length}
-use Rattle.bsp.specs.Nodes.{nodesOf, subsectorBit}
+use Rattle.bsp.specs.Nodes.{nodesOf, subsectorBit, isNode, root}
 use Rattle.bsp.specs.Routes.{Reached}
-use Rattle.bsp.specs.Heights.{member, repeats}
+use Rattle.bsp.specs.Heights.{wordsFrom, member, repeats}
+
+-- the members of a list that pass a test
+abbrev pub kept : (ℕ → Bool) → List ℕ → List ℕ
+kept test [] = []
+kept test (x ∷ xs) = cond (test x) (x ∷ kept test xs) (kept test xs)
+
+-- the nodes that choices from the root lead to, one for each list of choices: where no node is shared, each once
+abbrev pub reachedNodes : List ℕ → List ℕ
+reachedNodes nodes = kept isNode (wordsFrom nodes (nodesOf nodes) (root (nodesOf nodes)))
 
 -- the list holds every number with the property, nothing else, and each once
 pub record HoldsOnce (P : ℕ → Type 0) (xs : List ℕ) : Type 0 where
