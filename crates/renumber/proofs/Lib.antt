@@ -1,1 +1,10 @@
 -- The laws of renumbering. Assumes nothing.
+
+pub mod Lists
+pub mod Marking
+pub mod Placing
+pub mod Filling
+pub mod Checking
+pub mod Rows
+pub mod Outcomes
+pub mod Verdicts

@@ -3,3 +3,4 @@
 pub mod Orders
 pub mod Renumbering
 pub mod Promises
+pub mod Inner
