@@ -1,0 +1,3 @@
+-- Renumbered NODES, as C and Rust are given them. Assumes nothing.
+
+pub mod Renumberings
