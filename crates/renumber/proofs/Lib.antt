@@ -8,3 +8,4 @@ pub mod Checking
 pub mod Rows
 pub mod Outcomes
 pub mod Verdicts
+pub mod Examples

@@ -3,4 +3,5 @@
 pub mod Orders
 pub mod Renumbering
 pub mod Promises
+pub mod Examples
 pub mod Inner
