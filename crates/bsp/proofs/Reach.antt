@@ -141,7 +141,7 @@ module _ (nodes : List ℕ) where
 
   -- ---- a reached node is one of the lump's
 
-  in-range : NodesInRange nodes → (cs : List Choice) (w v : ℕ) → (w < subsectorBit → w < nodesOf nodes) → Follow nodes w cs v
+  pub in-range : NodesInRange nodes → (cs : List Choice) (w v : ℕ) → (w < subsectorBit → w < nodesOf nodes) → Follow nodes w cs v
       → v < subsectorBit → v < nodesOf nodes
   in-range inside [] w v h f n = rw f at (h (rw (sym f) at n))
   in-range inside (c ∷ cs) w v h f n = in-range inside cs (childOf nodes w c) v (inside w (h (f .0)) c) (f .1) n

@@ -1,12 +1,14 @@
 -- Laws of lists in which a number is, or is twice: two lists joined. Assumes nothing.
-use Prim.Native.Nat.{ℕ}
+use Prim.Native.Nat.{ℕ, zero, suc, _<_}
 use mathlib.Core.Bool.{Bool, true, false, _||_}
 use mathlib.Core.List.{List, [], _∷_, _++_}
 use mathlib.Core.Logic.{_⊎_, inl, inr, ⊎-elim}
 use mathlib.Core.Path.{_≡_, refl}
+use native.Mathlib.Nat.{le-of-suc-le-suc}
 use native.Mathlib.Omega.{arith}
 use borrow.Author.Tests.{eqb-true, eq-eqb}
 use lib.Dec.{eqb}
+use lib.ListN.{length, getD}
 use Rattle.bsp.specs.Heights.{member, repeats}
 
 -- ---- one of two tests
@@ -57,6 +59,11 @@ member-append x (y ∷ xs) ys e =
     (λ (h : member x (xs ++ ys) ≡ true).
     ⊎-elim (λ (k : member x xs ≡ true). inl (member-tail x y xs k)) (λ (k : member x ys ≡ true). inr k) (member-append x xs ys h))
     (member-cons x y (xs ++ ys) e)
+
+pub at-member : (xs : List ℕ) (j : ℕ) → j < length xs → member (getD xs j 0) xs ≡ true
+at-member [] j h = absurd (omega arith)
+at-member (x ∷ xs) zero h = member-head x x xs refl
+at-member (x ∷ xs) (suc j) h = member-tail (getD xs j 0) x xs (at-member xs j (le-of-suc-le-suc h))
 
 -- ---- twice in a list
 

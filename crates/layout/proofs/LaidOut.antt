@@ -4,10 +4,11 @@ use mathlib.Core.Bool.{Bool, true, false, cond}
 use mathlib.Core.List.{List, [], _++_}
 use mathlib.Core.Logic.{⊎-elim}
 use mathlib.Core.Path.{_≡_, refl, sym, ap, _∙_}
-use native.Mathlib.Nat.{le-of-suc-le-suc, eq-or-lt-of-le}
+use native.Mathlib.Nat.{le-of-suc-le-suc, eq-or-lt-of-le, mul-suc, mul-le-mul-left}
 use native.Mathlib.Numerals.{add-one}
 use native.Mathlib.Omega.{arith}
-use lib.ListN.{length, length-append}
+use lib.ListN.{length, take, drop, length-append, length-drop}
+use lib.Seq.{take-all, drop-at, take-append-le, drop-append-le}
 use Rattle.layout.specs.Rows.{sumOf, countOf, laidOut}
 
 module _ (f : ℕ → ℕ) where
@@ -71,3 +72,33 @@ module _ (f : ℕ → List ℕ) where
   length-laid-le i n h =
       let e : (n : ℕ) → length (laidOut f n) ≡ sumOf (λ i. length (f i)) n = λ n. length-laid (λ i. length (f i)) n (λ i l. refl) in
       rw (e i, e n) (sum-le (λ i. length (f i)) i n h)
+
+  -- ---- parts of one size
+
+  pub length-parts : (size n : ℕ) → ((i : ℕ) → i < n → length (f i) ≡ size) → length (laidOut f n) ≡ size * n
+  length-parts size zero h = let e = ap length laid-none in omega arith
+  length-parts size (suc n) h =
+      let k = length-parts size n (λ i l. h i (omega arith)) in
+      let one = h n (omega arith) in
+      let sum : size * suc n ≡ size * n + size = mul-suc size n in
+      length-laid-suc n ∙ omega (arith, k, one, sum)
+
+  -- each stands at its own place
+  pub part-at : (size n : ℕ) → ((i : ℕ) → i < n → length (f i) ≡ size) → (i : ℕ) → i < n → take size (drop (size * i) (laidOut f n)) ≡ f i
+  part-at size zero h i l = absurd (omega arith)
+  part-at size (suc n) h i l =
+      let long = length-parts size n (λ i l. h i (omega arith)) in
+      rw (laid-suc n)
+      (⊎-elim
+      (λ (q : i ≡ n).
+      let last : length (f n) ≡ size = h n (omega arith) in
+      rw (q, drop-at (laidOut f n) (f n) (size * n) long) (take-all size (f n) (omega arith)))
+      (λ (q : i < n).
+      let rest : size * i + size ≤ length (laidOut f n) = rw (long, ← mul-suc size i) (mul-le-mul-left size q) in
+      let tail = length-drop (size * i) (laidOut f n) in
+      rw (
+        drop-append-le (size * i) (laidOut f n) (f n) (omega arith),
+        take-append-le size (drop (size * i) (laidOut f n)) (f n) (omega arith),
+      )
+      (part-at size n (λ i l. h i (omega arith)) i q))
+      (eq-or-lt-of-le (le-of-suc-le-suc l)))

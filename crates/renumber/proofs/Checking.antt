@@ -46,7 +46,7 @@ module _ (nodes order : List ℕ) where
   unfolding childrenOk
   children-none = refl
 
-  children-suc : (n : ℕ) → childrenOk nodes order (suc n) ≡ childrenOk nodes order n && childFirst nodes order n Right && childFirst nodes order n Left
+  pub children-suc : (n : ℕ) → childrenOk nodes order (suc n) ≡ childrenOk nodes order n && childFirst nodes order n Right && childFirst nodes order n Left
   unfolding childrenOk
   children-suc n = refl
 

@@ -11,7 +11,7 @@ use borrow.Author.Tests.{eqb-true, eqb-false}
 use lib.Dec.{eqb}
 use lib.ListN.{length, getD}
 use Rattle.bsp.specs.Heights.{member, repeats}
-use Rattle.bsp.proofs.Repeats.{or-neither, member-head, member-tail, member-cons}
+use Rattle.bsp.proofs.Repeats.{or-neither, member-head, member-tail, member-cons, at-member}
 
 -- ---- tests
 
@@ -60,7 +60,7 @@ without-others x v (y ∷ ys) n e = by (eqb x y) refl (without-others x v ys n)
         ⊎-elim (λ (h : v ≡ y). member-head v y (without x ys) h) (λ (h : member v ys ≡ true). member-tail v y (without x ys) (rec h))
         (member-cons v y ys e)
 
-no-more : (xs ys : List ℕ) → repeats xs ≡ false → ((v : ℕ) → member v xs ≡ true → member v ys ≡ true) → length xs ≤ length ys
+pub no-more : (xs ys : List ℕ) → repeats xs ≡ false → ((v : ℕ) → member v xs ≡ true → member v ys ≡ true) → length xs ≤ length ys
 no-more [] ys e h = zero-le
 no-more (x ∷ xs) ys e h =
     let p = or-neither (member x xs) (repeats xs) e in
@@ -76,11 +76,6 @@ as-many xs ys e f same =
     omega arith
 
 -- ---- by places
-
-pub member-place : (xs : List ℕ) (i : ℕ) → i < length xs → member (getD xs i 0) xs ≡ true
-member-place [] i h = absurd (not-suc-le-zero h)
-member-place (x ∷ xs) zero h = member-head x x xs refl
-member-place (x ∷ xs) (suc i) h = member-tail (getD xs i 0) x xs (member-place xs i (le-of-suc-le-suc h))
 
 pub place-member : (v : ℕ) (xs : List ℕ) → member v xs ≡ true → (i : ℕ) × ((i < length xs) × (getD xs i 0 ≡ v))
 place-member v [] e = absurd (not-both false e refl)
@@ -98,7 +93,7 @@ pub once-apart : (xs : List ℕ) → repeats xs ≡ false → Apart xs
 once-apart [] e i j l h = absurd (not-suc-le-zero h)
 once-apart (x ∷ xs) e zero zero l h = absurd (not-suc-le-zero l)
 once-apart (x ∷ xs) e zero (suc j) l h =
-    λ q. not-both (member x xs) (rw (sym q) at (member-place xs j (le-of-suc-le-suc h))) (or-neither (member x xs) (repeats xs) e .0)
+    λ q. not-both (member x xs) (rw (sym q) at (at-member xs j (le-of-suc-le-suc h))) (or-neither (member x xs) (repeats xs) e .0)
 once-apart (x ∷ xs) e (suc i) zero l h = absurd (not-suc-le-zero l)
 once-apart (x ∷ xs) e (suc i) (suc j) l h =
     once-apart xs (or-neither (member x xs) (repeats xs) e .1) i j (le-of-suc-le-suc l) (le-of-suc-le-suc h)
