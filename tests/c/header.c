@@ -490,6 +490,113 @@ static void orders_are_refused(uint16_t child, uint32_t number)
     EXPECT(status_is(o.status, number, 0, 0) && o.count == 0 && words_are(words, 0, 0, 0, 9));
 }
 
+/* ---- NODES numbered anew ---- */
+
+/* Four nodes over four subsectors, with fields that are all different: the root, the last, has node 0, and that has node 2, a child above its
+ * parent. Nothing leads to node 1. Then the three that are reached, children first. */
+#define FOUR(n) W(n), W((n) + 1), W((n) + 2), W((n) + 3)
+#define LINE(n) FOUR(n), FOUR((n) + 4), FOUR((n) + 8)
+enum { TANGLED = 4, REACHED = 3, NEW_SIZE = 28 * REACHED };
+static const uint8_t tangled[28 * TANGLED] = {LINE(0x1110), SUBSECTOR(1), W(2), LINE(0x2220), W(1), W(3),
+                                              LINE(0x3330), SUBSECTOR(0), SUBSECTOR(2), LINE(0x4440), W(0), SUBSECTOR(3)};
+static const uint8_t numbered[NEW_SIZE] = {LINE(0x3330), SUBSECTOR(0), SUBSECTOR(2), LINE(0x1110), SUBSECTOR(1), W(0),
+                                           LINE(0x4440), W(1), SUBSECTOR(3)};
+
+/* An entry's part of the file. */
+static void give_part(size_t entry, size_t offset, size_t size)
+{
+    const uint8_t part[] = {L(offset), L(size)};
+    memcpy(wad + wad_start + 16 * entry, part, sizeof part);
+}
+
+/* The file with these nodes, behind all the rest. */
+static void build_wad_of(const uint8_t *bytes, size_t size)
+{
+    build_wad();
+    give_part(BEFORE + 7, wad_len, size);
+    put(bytes, size);
+}
+
+/* What the library is lent: a byte more than the new lump has, and a word more than the nodes need. */
+static uint8_t renumbered[NEW_SIZE + 1];
+static uint16_t work[4 * TANGLED + 1];
+
+static meshpigeon_length_answer renumber(size_t words_len, const uint16_t *order, size_t order_len, size_t out_len)
+{
+    memset(renumbered, 0xA5, sizeof renumbered);
+    memset(work, 0xA5, sizeof work);
+    return meshpigeon_renumber(wad, wad_len, map_name, 8, work, words_len, order, order_len, renumbered, out_len);
+}
+
+/* The first words zero, as many as are given, and all others as found. */
+static int work_is(size_t zero)
+{
+    return all_are(work, 2 * zero, 0) && all_are(work + zero, sizeof work - 2 * zero, 0xA5);
+}
+
+/* A refusal: nothing is written. */
+static int is_renumber_refused(meshpigeon_length_answer r, uint32_t number, size_t place, size_t record, size_t zero)
+{
+    return status_is(r.status, number, place, record) && r.length == 0 && all_are(renumbered, sizeof renumbered, 0xA5) && work_is(zero);
+}
+
+#define ORDER(...) (const uint16_t[]){__VA_ARGS__}, sizeof((const uint16_t[]){__VA_ARGS__}) / sizeof(uint16_t)
+#define ORDER_IS_REFUSED(number, out_len, ...)                                                                                     \
+    EXPECT(is_renumber_refused(renumber(4 * TANGLED, ORDER(__VA_ARGS__), out_len), number, 0, 0, 4 * TANGLED))
+
+static void renumberings(void)
+{
+    build_wad_of(tangled, sizeof tangled);
+    meshpigeon_length_answer r = renumber(4 * TANGLED + 1, ORDER(2, 0, 3), NEW_SIZE + 1);
+    EXPECT(accepted(r.status) && r.length == NEW_SIZE && work_is(4 * TANGLED));
+    EXPECT(memcmp(renumbered, numbered, NEW_SIZE) == 0 && renumbered[NEW_SIZE] == 0xA5);
+    r = renumber(4 * TANGLED, ORDER(2, 0, 3), NEW_SIZE);
+    EXPECT(accepted(r.status) && r.length == NEW_SIZE && memcmp(renumbered, numbered, NEW_SIZE) == 0);
+    build_wad_of(numbered, sizeof numbered);
+    r = renumber(4 * REACHED, ORDER(0, 1, 2), NEW_SIZE);
+    EXPECT(accepted(r.status) && r.length == NEW_SIZE && memcmp(renumbered, numbered, NEW_SIZE) == 0);
+}
+
+/* Of each number a list that is wrong in this alone, and one that is wrong in all that is tested later too. */
+static void bad_orders(void)
+{
+    static const uint16_t none = 0;
+    build_wad_of(tangled, sizeof tangled);
+    EXPECT(is_renumber_refused(renumber(4 * TANGLED, &none, 0, NEW_SIZE), 73, 0, 0, 4 * TANGLED));
+    ORDER_IS_REFUSED(73, NEW_SIZE, 2, 0);
+    ORDER_IS_REFUSED(73, NEW_SIZE, 2, 0, 3, 3);
+    ORDER_IS_REFUSED(73, 0, 3, 1, 2, 9);
+    ORDER_IS_REFUSED(70, NEW_SIZE, 2, 2, 3);
+    ORDER_IS_REFUSED(70, NEW_SIZE, 2, 1, 3);
+    ORDER_IS_REFUSED(70, NEW_SIZE, 4, 0, 3);
+    ORDER_IS_REFUSED(70, NEW_SIZE, 0x8002, 0, 3);
+    ORDER_IS_REFUSED(70, 0, 3, 0, 0);
+    ORDER_IS_REFUSED(72, NEW_SIZE, 2, 3, 0);
+    ORDER_IS_REFUSED(72, 0, 3, 0, 2);
+    ORDER_IS_REFUSED(71, NEW_SIZE, 0, 2, 3);
+    ORDER_IS_REFUSED(71, 0, 0, 2, 3);
+    ORDER_IS_REFUSED(74, NEW_SIZE - 1, 2, 0, 3);
+    ORDER_IS_REFUSED(74, 0, 2, 0, 3);
+}
+
+/* A map's own refusals come first, whatever the list; and a map without nodes has the empty list alone. */
+static void renumbered_maps(void)
+{
+    static const uint16_t none = 0;
+    build_wad_of(tangled, sizeof tangled);
+    EXPECT(is_renumber_refused(renumber(4 * TANGLED - 1, ORDER(9), 0), 30, 7, 0, 0));
+    wad[lump_offset(BEFORE + 2) + 14] = 2;
+    EXPECT(is_renumber_refused(renumber(4 * TANGLED, ORDER(2, 0, 3), NEW_SIZE), 23, 2, 1, 0));
+    build_wad_of(tangled, sizeof tangled);
+    wad[wad_len - 28 * TANGLED + 26] = 0;
+    EXPECT(is_renumber_refused(renumber(4 * TANGLED, ORDER(2, 0, 3), NEW_SIZE), 31, 7, 0, 4 * TANGLED));
+    build_wad_of(tangled, 0);
+    give_part(BEFORE + 6, lump_offset(BEFORE + 6), 4);
+    meshpigeon_length_answer r = renumber(0, &none, 0, 0);
+    EXPECT(accepted(r.status) && r.length == 0 && all_are(renumbered, sizeof renumbered, 0xA5) && work_is(0));
+    EXPECT(is_renumber_refused(renumber(1, ORDER(0), NEW_SIZE), 73, 0, 0, 0));
+}
+
 /* ---- SIDEDEFS as it arrives ---- */
 
 static int state_is(meshpigeon_sidedefs s, size_t sectors, size_t bytes, size_t bad, uint8_t low, bool found)
@@ -1000,6 +1107,9 @@ int main(void)
     orders();
     orders_are_refused(1, 44);
     orders_are_refused(0, 46);
+    renumberings();
+    bad_orders();
+    renumbered_maps();
     scraps();
     any_states();
     pair_lumps();
