@@ -16,6 +16,7 @@ mod pair;
 mod raw;
 mod record;
 mod refusal;
+mod renumber;
 mod sidedefs;
 mod why;
 
@@ -23,6 +24,7 @@ pub use game::{Linedef, Thing};
 pub use pair::{pair_find, pair_judge_map, pair_judge_map_with, pair_lump, PairEntry, PairFile, PairLump, PairMap, PairRefusal};
 pub use record::{Node, Sector, Seg, Sidedef, Subsector, Vertex};
 pub use refusal::Refusal;
+pub use renumber::{renumber, renumber_with};
 pub use sidedefs::Sidedefs;
 pub use why::{why, why_with, Choice, Explained, Field, Reason};
 
@@ -31,6 +33,9 @@ pub const MOST_WORDS: usize = 4 * 32_767;
 
 /// As many bytes as any reason needs: a choice at each of 32,767 nodes.
 pub const MOST_REASON: usize = 32_767;
+
+/// As many bytes as any renumbered NODES has: those of 32,766 nodes, since an accepted map reaches one subsector more than nodes.
+pub const MOST_RENUMBERED: usize = Node::SIZE * 32_766;
 
 /// As many words as any draw order needs: one more than 32,767 nodes.
 pub const MOST_DRAWN: usize = 32_767 + 1;

@@ -107,6 +107,18 @@ extern "C" {
         words: *mut u16,
         words_len: usize,
     ) -> OrderAnswer;
+    fn meshpigeon_renumber(
+        wad: Bytes,
+        wad_len: usize,
+        name: Bytes,
+        name_len: usize,
+        words: *mut u16,
+        words_len: usize,
+        order: *const u16,
+        order_len: usize,
+        out: BytesMut,
+        out_len: usize,
+    ) -> LengthAnswer;
     fn meshpigeon_sidedefs_start(sectors: usize) -> Sidedefs;
     fn meshpigeon_sidedefs_feed(state: Sidedefs, scrap: Bytes, scrap_len: usize) -> Sidedefs;
     fn meshpigeon_sidedefs_verdict(state: Sidedefs) -> Status;
@@ -186,6 +198,19 @@ pub(crate) fn descend(nodes: &[u8], subsectors: usize, x: i16, y: i16) -> Result
 
 pub(crate) fn draw_order(nodes: &[u8], subsectors: usize, x: i16, y: i16, words: &mut [u16]) -> Result<OrderAnswer, Refusal> {
     unsafe { meshpigeon_draw_order(nodes.as_ptr(), nodes.len(), subsectors, x, y, words.as_mut_ptr(), words.len()) }.checked()
+}
+
+pub(crate) fn renumber(
+    wad: &[u8],
+    name: &[u8],
+    words: &mut [u16],
+    order: &[u16],
+    out: &mut [u8],
+) -> Result<LengthAnswer, Refusal> {
+    let (wad_len, name_len, words_len) = (wad.len(), name.len(), words.len());
+    let (order_len, out_len) = (order.len(), out.len());
+    let (wad, name, words, order, out) = (wad.as_ptr(), name.as_ptr(), words.as_mut_ptr(), order.as_ptr(), out.as_mut_ptr());
+    unsafe { meshpigeon_renumber(wad, wad_len, name, name_len, words, words_len, order, order_len, out, out_len) }.checked()
 }
 
 pub(crate) fn sidedefs_start(sectors: usize) -> Sidedefs {

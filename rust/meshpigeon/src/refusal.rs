@@ -17,7 +17,8 @@ const fn sizes(hexen: bool) -> [usize; 9] {
 /// Why something was refused.
 #[derive(Clone, Copy, Debug, PartialEq, Eq)]
 pub struct Refusal {
-    /// The number in the table of refusals: 1 to 7, 10 to 12, 20 to 28, 30 to 32, 40 to 46, 50 to 58, 60, 61, 80, 81, 85.
+    /// The number in the table of refusals: 1 to 7, 10 to 12, 20 to 28, 30 to 32, 40 to 46, 50 to 58, 60, 61, 70 to 74, 80,
+    /// 81, 85.
     pub number: u32,
     /// The map lump concerned, 0 (the marker) to 10 (BLOCKMAP); 0 where none is.
     pub place: usize,
@@ -56,9 +57,9 @@ impl Refusal {
     }
 
     /// Whether the caller's loan or question is at fault, and not the file: too few words, a short buffer, a number or a name that
-    /// cannot be asked for, a record that cannot be written.
+    /// cannot be asked for, a record that cannot be written, an order that is no good one.
     pub fn is_callers(&self) -> bool {
-        matches!(self.number, 7 | 10 | 30 | 41 | 45 | 55..=58 | 60 | 61 | 80 | 85)
+        matches!(self.number, 7 | 10 | 30 | 41 | 45 | 55..=58 | 60 | 61 | 70..=74 | 80 | 85)
     }
 
     fn say_of_file(&self, out: &mut fmt::Formatter<'_>) -> fmt::Result {
@@ -168,6 +169,19 @@ impl Refusal {
         }
     }
 
+    fn say_of_order(&self, out: &mut fmt::Formatter<'_>) -> fmt::Result {
+        match self.number {
+            70 => write!(
+                out,
+                "the order names a node twice, or a number that is no node which the root reaches: it holds each reached node once"
+            ),
+            71 => write!(out, "the order has a child behind its parent: every child that is a node comes before its parent"),
+            72 => write!(out, "the order does not end with the root: the root, the last of the old nodes, comes last"),
+            73 => write!(out, "the order is too short or too long: it has as many numbers as there are nodes that the root reaches"),
+            _ => write!(out, "the output is too short for the new NODES: they have 28 bytes for each node that the root reaches"),
+        }
+    }
+
     fn say_of_picture(&self, out: &mut fmt::Formatter<'_>) -> fmt::Result {
         let record = self.record;
         match self.number {
@@ -222,6 +236,7 @@ impl fmt::Display for Refusal {
                 "that record holds what its game has no room for: a Doom thing has no id, height, action or arguments, a Doom linedef \
                  no arguments, and a Hexen linedef no tag and no special above 255"
             ),
+            70..=74 => self.say_of_order(out),
             80 => write!(out, "the count of sectors is not one that a map can have: a map has 1 to 65,535"),
             81 => write!(out, "more bytes came than any SIDEDEFS may have: at most 16,777,216 may come"),
             85 => write!(
