@@ -28,6 +28,7 @@ mod picture;
 mod record;
 mod reference;
 mod refusal;
+mod renumber;
 mod sidedefs;
 mod wad;
 mod why;
@@ -42,6 +43,7 @@ pub use pair::{pair_find, pair_judge_map, pair_lump, PairEntry, PairFile, PairMa
 pub use picture::{judge_picture, paint_picture, write_picture, Picture};
 pub use record::{Node, Sector, Seg, Sidedef, Subsector, Vertex};
 pub use refusal::Refusal;
+pub use renumber::renumber;
 pub use sidedefs::{judge_sidedefs, Sidedefs};
 pub use wad::{directory, entry, find_map, is_map_name, is_name, lump, name_of, Directory, Search};
 pub use why::why;

@@ -125,6 +125,12 @@ fn is_hexen(wad: &[u8], directory: Directory, marker: usize) -> bool {
     entries(wad, directory).nth(marker + BEHAVIOR_PLACE).is_some_and(|entry| entry.name == BEHAVIOR)
 }
 
+/// The ten lumps of the map called `name`, and its marker: refusals 1 to 6 and 10 to 12.
+pub(crate) fn lumps_of<'a>(wad: &'a [u8], name: &[u8]) -> Result<(Lumps<'a>, usize), Refusal> {
+    let (directory, marker) = find_marker(wad, name)?;
+    Ok((run_of(wad, directory, marker)?, marker))
+}
+
 /// The ten lumps after the marker: refusal 12.
 pub(crate) fn run_of(wad: &[u8], directory: Directory, marker: usize) -> Result<Lumps<'_>, Refusal> {
     let run: Vec<Entry> = entries(wad, directory).skip(marker).take(11).collect();

@@ -1,7 +1,6 @@
 //! The map check with its reason (W-211): the field that a record's refusal comes from, the way into a loop, the longest route.
 
-use crate::map::{judge_lumps, run_of, Accepted, Lumps};
-use crate::wad::find_marker;
+use crate::map::{judge_lumps, lumps_of, Accepted, Lumps};
 use crate::{why_blockmap, why_graph, Linedef, Node, Refusal, Seg, Sidedef, Subsector};
 use crate::{NO_SIDEDEF, SUBSECTOR_BIT, TWO_SIDED};
 
@@ -32,12 +31,6 @@ pub fn why(wad: &[u8], name: &[u8], words: &mut [u16], out: &mut [u8]) -> (Resul
         None => return (Err(Refusal::plain(85)), 0),
     }
     (verdict, reason.len())
-}
-
-/// The ten lumps of the map called `name`, and its marker.
-fn lumps_of<'a>(wad: &'a [u8], name: &[u8]) -> Result<(Lumps<'a>, usize), Refusal> {
-    let (directory, marker) = find_marker(wad, name)?;
-    Ok((run_of(wad, directory, marker)?, marker))
 }
 
 fn reason_of(lumps: &Lumps, verdict: Result<Accepted, Refusal>) -> Vec<u8> {
