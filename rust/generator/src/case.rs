@@ -52,6 +52,17 @@ pub enum Question {
         /// The output as lent.
         out: Vec<u8>,
     },
+    /// Number a map's nodes anew.
+    Renumber {
+        /// The asked name.
+        name: Vec<u8>,
+        /// The work words as lent.
+        words: Vec<u16>,
+        /// The old numbers in their new places, good or not.
+        order: Vec<u16>,
+        /// The output as lent.
+        out: Vec<u8>,
+    },
     /// A lump of a pair, the bytes being the patch.
     PairFind {
         /// The file below it.

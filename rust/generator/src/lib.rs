@@ -1,4 +1,4 @@
-//! A deterministic generator of WAD files, maps, pictures, records, descents and sidedefs in scraps, good and bad.
+//! A deterministic generator of WAD files, maps, pictures, records, descents, orders of nodes and sidedefs in scraps, good and bad.
 //!
 //! Everything is built from named fields, with what is known of the answer beside it:
 //!
@@ -6,6 +6,7 @@
 //! - [`single_case`] and [`pair_case`] go through [`damages`] and all pairs of them,
 //!   [`all_picture_damages`] does so for pictures;
 //! - [`why_case`] gives maps that are asked for their reason, and [`with_reason`] makes one of any map check's case;
+//! - [`renumber_case`] gives maps whose nodes are to be numbered anew, and [`with_order`] makes one of any map check's case;
 //! - [`limits`] lists both sides of every limit, each case built when asked for;
 //! - [`MapSpec`], [`Plan`], [`BlockmapSpec`], [`PictureSpec`] and [`Canvas`] build inputs by hand;
 //! - [`ordinary_map`], [`hexen_map_of`], [`largest_map`], [`largest_hexen_map_of`], [`directory_of`],
@@ -45,6 +46,7 @@ mod limit_draw;
 mod limit_graph;
 mod limit_lump;
 mod limit_map;
+mod limit_renumber;
 mod limit_run;
 mod limit_scraps;
 mod limit_why;
@@ -53,6 +55,7 @@ mod limit_why_graph;
 mod limit_written;
 mod map;
 mod name;
+mod numbering;
 mod order;
 mod patch;
 mod picture;
@@ -60,6 +63,7 @@ mod picture_damage;
 mod plan;
 mod record;
 mod record_case;
+mod renumber;
 mod rng;
 mod rooms;
 mod sample;
@@ -89,6 +93,7 @@ pub use graph::{Shape, Truth};
 pub use limit::{limits, Build};
 pub use map::{MapSpec, Sizes};
 pub use name::littered;
+pub use numbering::{Numbering, OrderFault};
 pub use order::{apply, damaged_case, directory_case, order_of, pair, pair_case, pair_count, single_case};
 pub use patch::patch_case;
 pub use picture::{picture_case, PictureSpec, Post};
@@ -96,6 +101,7 @@ pub use picture_damage::{all_picture_damages, damaged_picture_case, picture_dama
 pub use plan::{Content, EntryPlan, Plan, BEHAVIOR, LUMP_NAMES, MAP_NAME};
 pub use record::{Encode, Kind, Record};
 pub use record_case::record_case;
+pub use renumber::{renumber_case, with_lump, with_order};
 pub use rng::Rng;
 pub use rooms::{hexen_rooms, rooms};
 pub use sample::{samples, Sample};

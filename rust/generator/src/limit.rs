@@ -5,6 +5,7 @@ use crate::limit_draw::draw_limits;
 use crate::limit_graph::graph_limits;
 use crate::limit_lump::lump_limits;
 use crate::limit_map::map_limits;
+use crate::limit_renumber::renumber_limits;
 use crate::limit_run::run_limits;
 use crate::limit_scraps::scraps_limits;
 use crate::limit_why::why_limits;
@@ -42,6 +43,7 @@ pub fn limits() -> Vec<Build> {
     all.extend(why_limits());
     all.extend(why_blockmap_limits());
     all.extend(why_graph_limits());
+    all.extend(renumber_limits());
     all
 }
 

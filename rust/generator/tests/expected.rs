@@ -4,7 +4,7 @@ mod common;
 
 use common::check;
 use generator::{all_picture_damages, case, damages, pair_case, pair_count, patch_case, single_case};
-use generator::{sidedefs_case, why_case, written_case, Expected, Rng, PICTURE_DAMAGES};
+use generator::{renumber_case, sidedefs_case, why_case, written_case, Expected, Rng, PICTURE_DAMAGES};
 use reader::PairFile;
 use std::collections::{BTreeMap, BTreeSet};
 
@@ -70,7 +70,7 @@ fn cases_of_all_families() {
     }
     println!("{met:?}");
     let wanted = [0, 1, 2, 3, 4, 5, 6, 7, 10, 11, 12, 20, 21, 22, 23, 24, 25, 26, 27, 28, 30, 31, 32];
-    let more = [40, 41, 42, 43, 44, 45, 46, 50, 51, 52, 53, 54, 55, 56, 57, 58, 60, 61, 80, 85];
+    let more = [40, 41, 42, 43, 44, 45, 46, 50, 51, 52, 53, 54, 55, 56, 57, 58, 60, 61, 70, 71, 72, 73, 74, 80, 85];
     assert!(wanted.iter().chain(&more).all(|number| met.contains_key(number)));
 }
 
@@ -119,6 +119,17 @@ fn every_number_of_a_map_with_its_reason_is_met() {
     let met: BTreeSet<u32> = (0..20_000).map(|_| check(&why_case(&mut rng))).collect();
     let of_maps = (0..=6).chain(10..=12).chain(20..=28).chain(30..=32);
     assert_eq!(met, of_maps.chain([85]).collect());
+}
+
+#[test]
+fn every_number_of_a_map_in_order_is_met() {
+    let (mut rng, mut met) = (Rng::new(8), BTreeMap::new());
+    for _ in 0..20_000 {
+        *met.entry(check(&renumber_case(&mut rng))).or_insert(0) += 1;
+    }
+    let of_maps = (0..=6).chain(10..=12).chain(20..=28).chain(30..=32);
+    assert_eq!(met.keys().copied().collect::<Vec<u32>>(), of_maps.chain(70..=74).collect::<Vec<u32>>());
+    assert!([0, 70, 71, 72, 73, 74].iter().all(|number| met[number] > 500), "{met:?}");
 }
 
 #[test]

@@ -1,7 +1,8 @@
 //! Asks the reader a case's question and holds the answer against what is expected.
 
-use generator::{scraps, Case, Encode, Expected, Kind, Question, Record};
+use generator::{scraps, with_lump, Case, Encode, Expected, Kind, Question, Record};
 use reader::*;
+use std::collections::{BTreeSet, HashMap};
 
 /// An answer of the reader, as far as expectations speak of it.
 #[derive(Debug, PartialEq)]
@@ -53,6 +54,7 @@ fn ask(case: &Case) -> Result<Answer, Refusal> {
         Question::MapGame { marker } => map_game(bytes, *marker).map(Answer::Hexen),
         Question::JudgeMap { name, words } => ask_map(bytes, name, words),
         Question::Why { name, words, out } => ask_why(bytes, name, words, out),
+        Question::Renumber { name, words, order, out } => ask_renumber(bytes, name, words, order, out),
         Question::PairFind { base, name } => Ok(Answer::PairEntry(ask_pair(base, bytes, name))),
         Question::PairJudgeMap { base, name, words } => Ok(Answer::PairMap(ask_pair_map(base, bytes, name, words))),
         Question::Descend { subsectors, x, y } => descend(bytes, *subsectors, *x, *y).map(Answer::Found),
@@ -106,6 +108,84 @@ fn ask_why(wad: &[u8], name: &[u8], lent: &[u16], lent_out: &[u8]) -> Result<Ans
     }
     assert_eq!((verdict, length, &out[..length]), (judged, printed, &whole[..printed]));
     Ok(Answer::Explained(verdict, whole[..printed].to_vec()))
+}
+
+/// The words are the map check's, and so is a refusal of the map; any other refusal is the first rule of W-212 that does not hold. With a
+/// refusal nothing is written. New NODES are the listed records with their children renamed, and put into the map they are accepted with the
+/// same depth.
+fn ask_renumber(wad: &[u8], name: &[u8], lent: &[u16], order: &[u16], lent_out: &[u8]) -> Result<Answer, Refusal> {
+    let (mut words, mut out, mut left) = (lent.to_vec(), lent_out.to_vec(), lent.to_vec());
+    let answer = renumber(wad, name, &mut words, order, &mut out);
+    let judged = judge_map(wad, name, &mut left);
+    assert_eq!(words, left);
+    let length = answer.unwrap_or(0);
+    assert_eq!(out[length..], lent_out[length..]);
+    let accepted = match judged {
+        Ok(accepted) => accepted,
+        Err(refusal) => {
+            assert_eq!(answer, Err(refusal));
+            return answer.map(Answer::Count);
+        }
+    };
+    let old = lump(wad, accepted.marker + Node::PLACE);
+    let nodes: Vec<Node> = Node::all(old).collect();
+    let due = first_fault(&nodes, order, out.len()).map_or(Ok(Node::SIZE * order.len()), |number| Err(Refusal::plain(number)));
+    assert_eq!(answer, due);
+    if answer.is_ok() {
+        let new = &out[..length];
+        assert_eq!(new, renamed(&nodes, order));
+        let file = with_lump(wad, accepted.marker + Node::PLACE, new);
+        assert_eq!(judge_map(&file, name, &mut lent.to_vec()), judged);
+        descends_alike(old, new, lump(wad, accepted.marker + Subsector::PLACE).len() / Subsector::SIZE);
+    }
+    answer.map(Answer::Count)
+}
+
+/// The number of W-212's first rule that does not hold of an order, in its own words.
+pub fn first_fault(nodes: &[Node], order: &[u16], room: usize) -> Option<u32> {
+    let is_node = |word: &u16| word & SUBSECTOR_BIT == 0;
+    let root = nodes.len().checked_sub(1).map(|root| root as u16);
+    let (mut reached, mut open) = (BTreeSet::new(), Vec::from_iter(root));
+    while let Some(node) = open.pop() {
+        reached.insert(node);
+        let Node { right, left, .. } = nodes[usize::from(node)];
+        open.extend([right, left].iter().filter(|word| is_node(word)));
+    }
+    let mut sorted = order.to_vec();
+    sorted.sort_unstable();
+    let places: HashMap<u16, usize> = order.iter().copied().zip(0..).collect();
+    let is_behind = |(place, node): (usize, &u16)| {
+        let Node { right, left, .. } = nodes[usize::from(*node)];
+        [right, left].iter().filter(|word| is_node(word)).any(|child| places[child] > place)
+    };
+    if order.len() != reached.len() {
+        Some(73)
+    } else if sorted != Vec::from_iter(reached) {
+        Some(70)
+    } else if !order.is_empty() && order.last() != root.as_ref() {
+        Some(72)
+    } else if order.iter().enumerate().any(is_behind) {
+        Some(71)
+    } else {
+        (room < Node::SIZE * order.len()).then_some(74)
+    }
+}
+
+/// The listed nodes, their children that are nodes by their places in the list.
+fn renamed(nodes: &[Node], order: &[u16]) -> Vec<u8> {
+    let places: HashMap<u16, u16> = order.iter().copied().zip(0..).collect();
+    let new = |word: u16| places.get(&word).copied().unwrap_or(word);
+    let listed = order.iter().map(|&node| nodes[usize::from(node)]);
+    listed.flat_map(|node| Node { right: new(node.right), left: new(node.left), ..node }.encode()).collect()
+}
+
+/// Points on and beside the lines of the nodes, and at the ends of the plane.
+fn descends_alike(old: &[u8], new: &[u8], subsectors: usize) {
+    let beside = |node: Node| [-1, 0, 1].map(|step: i16| (node.x.wrapping_add(step), node.y.wrapping_sub(step)));
+    let ends = [(i16::MIN, i16::MIN), (i16::MAX, i16::MAX), (i16::MIN, i16::MAX), (0, 0)];
+    for (x, y) in Node::all(old).take(20).flat_map(beside).chain(ends) {
+        assert_eq!(descend(new, subsectors, x, y), descend(old, subsectors, x, y));
+    }
 }
 
 /// The file of a pair.
