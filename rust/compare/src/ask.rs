@@ -20,7 +20,7 @@ pub struct Outcome {
     pub part: Vec<u8>,
     /// The work words, or those of a draw order, afterwards.
     pub words: Vec<u16>,
-    /// The colour buffer afterwards, or what was written to: a lump, or the output of a picture or a reason.
+    /// The colour buffer afterwards, or what was written to: a lump, or the output of a picture, a reason or new NODES.
     pub first: Vec<u8>,
     /// The cover buffer afterwards.
     pub second: Vec<u8>,
@@ -34,7 +34,7 @@ impl Outcome {
 }
 
 macro_rules! asker {
-    ($(#[$about:meta])* $name:ident, $side:ident, $judge_map:ident, $why:ident, $draw_order:ident, $pair_judge_map:ident,
+    ($(#[$about:meta])* $name:ident, $side:ident, $judge_map:ident, $why:ident, $renumber:ident, $draw_order:ident, $pair_judge_map:ident,
      $write_picture:ident, $part:expr, $pair_part:expr) => {
         $(#[$about])*
         pub fn $name(case: &Case) -> Outcome {
@@ -76,6 +76,12 @@ macro_rules! asker {
                     let (verdict, printed) = $side::$why(bytes, name, &mut words, &mut out);
                     let numbers = verdict.map(|it| vec![it.depth as i64, it.marker as i64]).map_err(refused);
                     Outcome { printed, words, first: out, ..Outcome::new(numbers) }
+                }
+                Question::Renumber { name, words, order, out } => {
+                    let (mut words, mut out) = (words.clone(), out.clone());
+                    let written = $side::$renumber(bytes, name, &mut words, order, &mut out);
+                    let numbers = written.map(|length| vec![length as i64]).map_err(refused);
+                    Outcome { words, first: out, ..Outcome::new(numbers) }
                 }
                 Question::PairFind { base, name } => {
                     let found = $side::pair_find(base, bytes, name);
@@ -213,14 +219,14 @@ macro_rules! write {
 
 asker! {
     /// Asks the proved library.
-    ask_library, meshpigeon, judge_map_with, why_with, draw_order_with, pair_judge_map_with, write_picture_with,
+    ask_library, meshpigeon, judge_map_with, why_with, renumber_with, draw_order_with, pair_judge_map_with, write_picture_with,
     |bytes, number| meshpigeon::lump(bytes, number).unwrap_or_default().to_vec(),
     |base, patch, name| meshpigeon::pair_lump(base, patch, name).map_or_else(|_| Vec::new(), |lump| lump.bytes.to_vec())
 }
 
 asker! {
     /// Asks the independent reader.
-    ask_reader, reader, judge_map, why, draw_order, pair_judge_map, write_picture,
+    ask_reader, reader, judge_map, why, renumber, draw_order, pair_judge_map, write_picture,
     |bytes, number| reader::lump(bytes, number).to_vec(),
     |base, patch, name| reader::pair_lump(base, patch, name).to_vec()
 }

@@ -6,6 +6,7 @@
 
 mod ask;
 mod reason;
+mod renumber;
 mod stream;
 
 pub use ask::{ask_library, ask_reader, Outcome};
@@ -24,7 +25,8 @@ pub fn fault(case: &Case) -> Option<String> {
     if !comes_back(case, &library) {
         return Some(format!("what was written is not read back: {library:?}"));
     }
-    if let Some(words) = stream::fault(case).or_else(|| reason::fault(case, &library)) {
+    let more = stream::fault(case).or_else(|| reason::fault(case, &library)).or_else(|| renumber::fault(case, &library));
+    if let Some(words) = more {
         return Some(words);
     }
     let known = match case.expected {
