@@ -88,6 +88,17 @@ pub enum Command {
         /// The count of sectors, good or not.
         sectors: usize,
     },
+    /// Number a map's nodes anew.
+    Renumber {
+        /// The file.
+        file: OsString,
+        /// The map's name as given.
+        map: OsString,
+        /// The file of the order, if one is given.
+        list: Option<OsString>,
+        /// Where the new file goes.
+        output: OsString,
+    },
 }
 
 /// Why a command line is not understood.
@@ -112,6 +123,7 @@ struct Parts {
     base: Option<OsString>,
     palette: Option<OsString>,
     offset: Option<OsString>,
+    list: Option<OsString>,
     output: Option<OsString>,
     json: bool,
     quiet: bool,
@@ -120,7 +132,7 @@ struct Parts {
 }
 
 /// What may be asked for.
-const COMMANDS: &str = "judge, list, descend, order, picture, encode or sidedefs";
+const COMMANDS: &str = "judge, list, descend, order, picture, encode, sidedefs or renumber";
 
 /// Takes the arguments after the program's name apart.
 pub fn parse(arguments: Vec<OsString>) -> Result<Request, Misuse> {
@@ -145,6 +157,7 @@ pub fn parse(arguments: Vec<OsString>) -> Result<Request, Misuse> {
         Some("picture") => picture(&parts),
         Some("encode") => encode(&parts),
         Some("sidedefs") => sidedefs(&parts),
+        Some("renumber") => renumber(&parts),
         _ => misuse(format!("'{}' is no command: {COMMANDS}", shown(&name))),
     }?;
     fits(&name, &parts)?;
@@ -176,7 +189,7 @@ fn split(arguments: Vec<OsString>) -> Result<Parts, Misuse> {
 
 /// An option that takes a value, and the value where it is joined to a long one: `--map=MAP01`.
 fn valued(argument: &OsStr) -> Option<(&str, Option<&str>)> {
-    const LONG: [&str; 4] = ["--map", "--base", "--palette", "--offset"];
+    const LONG: [&str; 5] = ["--map", "--base", "--palette", "--offset", "--order"];
     let text = argument.to_str()?;
     let (option, joined) = text.split_once('=').map_or((text, None), |(option, value)| (option, Some(value)));
     (LONG.contains(&option) || text == "-o").then_some((option, joined))
@@ -189,6 +202,7 @@ fn put(option: &str, given: Option<OsString>, parts: &mut Parts) -> Result<(), M
         "--base" => &mut parts.base,
         "--palette" => &mut parts.palette,
         "--offset" => &mut parts.offset,
+        "--order" => &mut parts.list,
         "-o" => &mut parts.output,
         _ => {
             parts.maps.push(given);
@@ -224,9 +238,11 @@ fn fits(command: &OsStr, parts: &Parts) -> Result<(), Misuse> {
         "--palette"
     } else if parts.offset.is_some() && !takes(&["encode"]) {
         "--offset"
-    } else if parts.output.is_some() && !takes(&["order", "picture", "encode"]) {
+    } else if parts.list.is_some() && !takes(&["renumber"]) {
+        "--order"
+    } else if parts.output.is_some() && !takes(&["order", "picture", "encode", "renumber"]) {
         "-o"
-    } else if parts.quiet && !takes(&["judge", "picture", "encode", "sidedefs"]) {
+    } else if parts.quiet && !takes(&["judge", "picture", "encode", "sidedefs", "renumber"]) {
         "--quiet"
     } else {
         return Ok(());
@@ -301,6 +317,17 @@ fn encode(parts: &Parts) -> Result<Command, Misuse> {
 fn sidedefs(parts: &Parts) -> Result<Command, Misuse> {
     let [sectors] = words(parts, "sidedefs needs SECTORS, and the lump on standard input")?;
     Ok(Command::Sidedefs { sectors: count(&sectors)? })
+}
+
+fn renumber(parts: &Parts) -> Result<Command, Misuse> {
+    let needs = "renumber needs FILE MAP -o OUT.wad";
+    let [file, map] = words(parts, needs)?;
+    let list = parts.list.clone();
+    read_once([&file].into_iter().chain(&list))?;
+    match parts.output.clone() {
+        Some(output) => Ok(Command::Renumber { file, map, list, output }),
+        None => misuse(needs),
+    }
 }
 
 fn words<const N: usize>(parts: &Parts, needs: &str) -> Result<[OsString; N], Misuse> {

@@ -2,8 +2,10 @@
 
 use crate::input::{LEAST_BYTES, MOST_BYTES};
 use crate::json::Object;
+use crate::renumber::post_order;
 use crate::wad::Wad;
 use meshpigeon::{Node, Picture, Refusal, Sector, Sidedef, Sidedefs, Subsector};
+use std::collections::HashSet;
 use std::fmt;
 
 /// Places of the lumps that have rules of their own, and of those that the rules speak of.
@@ -34,6 +36,14 @@ pub enum Finding {
     Reject(usize, usize),
     /// 51 and 56: the picture's width and height.
     Picture(usize, usize),
+    /// 70: a number of an order that no reached node has, or that stands there twice.
+    Stranger(u16),
+    /// 71: a child, and its parent, which stands before it.
+    Behind(u16, u16),
+    /// 72: the last number of an order, and the root.
+    Last(u16, u16),
+    /// 73: how many numbers an order has, and how many it must have.
+    Order(usize, usize),
     /// 80: the count of sectors that was given.
     Sectors(usize),
 }
@@ -84,6 +94,18 @@ impl Finding {
         }
     }
 
+    /// What is wrong with an order of an accepted map's nodes: 70 to 73.
+    pub fn in_order(refusal: Refusal, order: &[u16], nodes: &[u8]) -> Option<Self> {
+        let good = post_order(nodes);
+        match refusal.number {
+            70 => stranger(order, &good).map(Self::Stranger),
+            71 => behind(order, nodes).map(|(child, parent)| Self::Behind(child, parent)),
+            72 => Some(Self::Last(*order.last()?, *good.last()?)),
+            73 => Some(Self::Order(order.len(), good.len())),
+            _ => None,
+        }
+    }
+
     /// What is wrong with a SIDEDEFS lump by what has come of it: 20, 21 and 80.
     pub fn in_sidedefs(refusal: Refusal, sidedefs: &Sidedefs) -> Option<Self> {
         match refusal.number {
@@ -106,9 +128,29 @@ impl Finding {
             Self::Nodes(nodes, subsectors) => object.count("count", nodes).count("subsectors", subsectors),
             Self::Reject(length, needed) => object.count("length", length).count("needed", needed),
             Self::Picture(width, height) => object.count("width", width).count("height", height),
+            Self::Stranger(number) => object.number("number", i64::from(number)),
+            Self::Behind(child, parent) => object.number("child", i64::from(child)).number("parent", i64::from(parent)),
+            Self::Last(number, root) => object.number("number", i64::from(number)).number("root", i64::from(root)),
+            Self::Order(count, needed) => object.count("count", count).count("needed", needed),
             Self::Sectors(count) => object.count("sectors", count),
         }
     }
+}
+
+/// The first number of an order that no node of a good one has, or that comes a second time.
+fn stranger(order: &[u16], good: &[u16]) -> Option<u16> {
+    let mut left: HashSet<u16> = good.iter().copied().collect();
+    order.iter().copied().find(|number| !left.remove(number))
+}
+
+/// The first child of an order that stands behind its parent, and the parent; every number must be a node's.
+fn behind(order: &[u16], nodes: &[u8]) -> Option<(u16, u16)> {
+    let mut left: HashSet<u16> = order.iter().copied().collect();
+    order.iter().find_map(|parent| {
+        left.remove(parent);
+        let Node { right, left: other, .. } = Node::read(nodes, usize::from(*parent)).ok()?;
+        [right, other].into_iter().find(|child| left.contains(child)).map(|child| (child, *parent))
+    })
 }
 
 /// Some bytes from `at` on, if they are there.
@@ -141,6 +183,12 @@ impl fmt::Display for Finding {
             }
             Self::Picture(width, height) => {
                 write!(out, "this one is {} across and {} down", grouped(width as i128), grouped(height as i128))
+            }
+            Self::Stranger(number) => write!(out, "here {number} is such a number"),
+            Self::Behind(child, parent) => write!(out, "here node {child} stands behind its parent, node {parent}"),
+            Self::Last(number, root) => write!(out, "here it ends with {number}, and the root is {root}"),
+            Self::Order(count, needed) => {
+                write!(out, "here that is {}, and it has {}", grouped(needed as i128), grouped(count as i128))
             }
             Self::Sectors(count) => write!(out, "the count given is {}", grouped(count as i128)),
         }

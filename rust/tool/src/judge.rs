@@ -40,14 +40,18 @@ fn judge_file(file: &OsStr, opened: &Opened, asked: &[Vec<u8>], lent: &mut Lent,
         report.verdict(&Verdict::plain(file.to_string(), subject, Source::File, outcome));
     }
     for map in maps {
-        let Judged { source, verdict, reason } = opened.judge(&map, lent);
-        let wad = opened.wad(source);
-        let why = Why::of(reason, verdict.err(), wad, &map);
-        let outcome = outcome_of(wad, &map, verdict);
-        let game = if outcome.has_lumps() { wad.game(&map) } else { None };
-        let subject = Subject::Map(name::text(&map));
-        report.verdict(&Verdict { file: file.to_string(), subject, source, game, outcome, why });
+        report.verdict(&verdict(&file, opened, &map, lent));
     }
+}
+
+/// The verdict on a map of a file, with its reason.
+pub fn verdict(file: &str, opened: &Opened, map: &[u8], lent: &mut Lent) -> Verdict {
+    let Judged { source, verdict, reason } = opened.judge(map, lent);
+    let wad = opened.wad(source);
+    let why = Why::of(reason, verdict.err(), wad, map);
+    let outcome = outcome_of(wad, map, verdict);
+    let game = if outcome.has_lumps() { wad.game(map) } else { None };
+    Verdict { file: file.to_string(), subject: Subject::Map(name::text(map)), source, game, outcome, why }
 }
 
 fn outcome_of(wad: &Wad, map: &[u8], judged: Result<Accepted, Refusal>) -> Outcome {

@@ -17,12 +17,14 @@ mod judge;
 mod list;
 mod name;
 mod netpbm;
+mod numbers;
 mod order;
 mod output;
 mod pair;
 mod palette;
 mod picture;
 mod png;
+mod renumber;
 mod report;
 mod sidedefs;
 mod svg;
@@ -63,5 +65,6 @@ fn run(request: &Request, report: &mut Report) {
         }
         Command::Encode { image, palette, offset, output } => encode::run(image, palette.as_deref(), *offset, output, report),
         Command::Sidedefs { sectors } => sidedefs::run(*sectors, report),
+        Command::Renumber { file, map, list, output } => renumber::run(file, map, list.as_deref(), output, report),
     }
 }

@@ -6,6 +6,7 @@ use crate::name;
 use crate::verdict::{Game, LUMPS_ARE_THERE};
 use meshpigeon::{Directory, Node, Refusal, Subsector};
 use std::ffi::OsStr;
+use std::ops::Range;
 
 /// The smallest good file: a header, and no entry.
 const EMPTY: &[u8; 12] = b"PWAD\0\0\0\0\x0C\0\0\0";
@@ -82,6 +83,50 @@ impl Wad {
         meshpigeon::lump(&self.bytes, number).unwrap_or_default()
     }
 
+    /// The file with another lump for an entry, no longer than its own; every other entry, and every byte of the other lumps, stays. The lump takes the
+    /// place of the old one, and bytes that it leaves there become zero. Where another lump or the directory has some of these bytes too, it comes
+    /// behind the end of the file.
+    pub fn with_lump(&self, number: usize, lump: &[u8]) -> Result<Vec<u8>, &'static str> {
+        let mut bytes = self.bytes.clone();
+        if lump == self.lump(number) {
+            return Ok(bytes);
+        }
+        let entry = self.directory.start + ENTRY * number;
+        if self.is_shared(number, entry..entry + NAME) {
+            return Err("a lump has bytes of the directory that must change with NODES");
+        }
+        let old = self.part(number);
+        let offset =
+            if self.is_shared(number, old.clone()) || overlap(&old, &self.directory_part()) { bytes.len() } else { old.start };
+        bytes.resize(bytes.len().max(offset + lump.len()), 0);
+        if bytes.len() as u64 > input::MOST_BYTES {
+            return Err("NODES shares bytes with another lump, and at the end of the file there is no room: it has at most 16,777,216 bytes");
+        }
+        if offset == old.start {
+            bytes[old].fill(0);
+        }
+        bytes[offset..offset + lump.len()].copy_from_slice(lump);
+        bytes[entry + OFFSET..][..4].copy_from_slice(&(offset as u32).to_le_bytes());
+        bytes[entry + SIZE..][..4].copy_from_slice(&(lump.len() as u32).to_le_bytes());
+        Ok(bytes)
+    }
+
+    /// Where an entry's lump lies.
+    fn part(&self, number: usize) -> Range<usize> {
+        self.entries().nth(number).map_or(0..0, |entry| entry.offset..entry.offset + entry.size)
+    }
+
+    /// Where the directory lies.
+    fn directory_part(&self) -> Range<usize> {
+        self.directory.start..self.directory.start + ENTRY * self.directory.count
+    }
+
+    /// Whether another entry's lump has one of these bytes.
+    fn is_shared(&self, number: usize, part: Range<usize>) -> bool {
+        let others = self.entries().enumerate().filter(|(other, _)| *other != number);
+        others.into_iter().any(|(_, entry)| overlap(&part, &(entry.offset..entry.offset + entry.size)))
+    }
+
     /// The NODES of the map of a name, and its count of subsectors. The map's ten lumps must be there (1 to 12), and nothing else of
     /// it need be good.
     pub fn nodes_of(&self, map: &[u8]) -> Result<(&[u8], usize), Refusal> {
@@ -115,6 +160,11 @@ impl Wad {
         }
         maps
     }
+}
+
+/// Whether two parts of a file have a byte in common.
+fn overlap(one: &Range<usize>, other: &Range<usize>) -> bool {
+    one.start.max(other.start) < one.end.min(other.end)
 }
 
 /// Whether a map can have this name. The library says so: asked of a file without entries, it refuses a map's name with 11 (no

@@ -14,6 +14,7 @@ mod order;
 mod pair;
 mod picture;
 mod png_reader;
+mod renumber;
 mod samples;
 mod sidedefs;
 mod support;

@@ -25,6 +25,8 @@ fn commands_and_options_must_be_known() {
     misused(&["encode", "a.pam", "-o", "b", "--offset"], "--offset needs a value");
     misused(&["encode", "a.pam", "-o", "b", "--palette=c", "--palette=d"], "--palette is given twice");
     misused(&["encode", "a.pam", "-o", "b", "--offset", "1,2", "--offset=1,2"], "--offset is given twice");
+    misused(&["renumber", "a.wad", "MAP01", "-o", "b", "--order"], "--order needs a value");
+    misused(&["renumber", "a.wad", "MAP01", "-o", "b", "--order=c", "--order", "d"], "--order is given twice");
     misused(&["judge", "a.wad", "--json=yes"], "'--json=yes' is no option");
     misused(&["picture", "a.wad", "P", "-o=b"], "'-o=b' is no option");
 }
@@ -54,6 +56,10 @@ fn each_command_has_its_words() {
     misused(&["encode", "-", "--palette=-", "-o", "b"], "standard input can be judged once only");
     misused(&["sidedefs"], "sidedefs needs SECTORS, and the lump on standard input");
     misused(&["sidedefs", "5", "a.lmp"], "sidedefs needs SECTORS, and the lump on standard input");
+    misused(&["renumber", "a.wad", "MAP01"], "renumber needs FILE MAP -o OUT.wad");
+    misused(&["renumber", "a.wad", "-o", "b"], "renumber needs FILE MAP -o OUT.wad");
+    misused(&["renumber", "a.wad", "MAP01", "0", "-o", "b"], "renumber needs FILE MAP -o OUT.wad");
+    misused(&["renumber", "-", "MAP01", "-o", "b", "--order", "-"], "standard input can be judged once only");
 }
 
 #[test]
@@ -74,6 +80,9 @@ fn each_command_has_its_options() {
     misused(&["sidedefs", "5", "-o", "b"], "sidedefs does not take -o");
     misused(&["sidedefs", "5", "--map", "MAP01"], "sidedefs does not take --map");
     misused(&["sidedefs", "5", "--base", "a.wad"], "sidedefs does not take --base");
+    misused(&["renumber", "a.wad", "MAP01", "-o", "b", "--map", "MAP01"], "renumber does not take --map");
+    misused(&["renumber", "a.wad", "MAP01", "-o", "b", "--base", "a.wad"], "renumber does not take --base");
+    misused(&["order", "a.wad", "MAP01", "0", "0", "--order", "b"], "order does not take --order");
 }
 
 #[test]
