@@ -3,9 +3,10 @@
 //! refused for their reason.
 
 use crate::blockmap::LIST_END;
+use crate::graph::behind_unreached;
 use crate::map::encode;
 use crate::{facing, joined, littered, named_entries, BlockmapSpec, MAP_NAME};
-use crate::{Canvas, Content, EntryPlan, Layout, MapSpec, PictureSpec, Plan, Post, Rng, Run, Shape, Sizes};
+use crate::{Canvas, Content, EntryPlan, Layout, MapSpec, Numbering, PictureSpec, Plan, Post, Rng, Run, Shape, Sizes};
 use reader::{Node, SUBSECTOR_BIT};
 
 /// The largest file there may be.
@@ -206,6 +207,58 @@ pub fn loop_behind_tree(nodes: usize) -> Vec<u8> {
         map.nodes.push(Node { right, left, ..Node::default() });
     }
     Plan::wad_of(map)
+}
+
+/// An order of nodes and a file, as one: how many numbers there are, in four bytes, the numbers, and the file.
+fn listed(order: &[u16], map: MapSpec) -> Vec<u8> {
+    let count = (order.len() as u32).to_le_bytes();
+    let numbers = order.iter().flat_map(|number| number.to_le_bytes());
+    count.into_iter().chain(numbers).chain(Plan::wad_of(map)).collect()
+}
+
+/// The order and the file of a benchmark's input.
+pub fn order_and_file(input: &[u8]) -> (Vec<u16>, &[u8]) {
+    let (count, rest) = input.split_at(4);
+    let count = count.iter().rev().fold(0, |count, &byte| count << 8 | usize::from(byte));
+    let (numbers, file) = rest.split_at(2 * count);
+    (numbers.chunks_exact(2).map(|pair| u16::from_le_bytes([pair[0], pair[1]])).collect(), file)
+}
+
+/// A map like [`map_of`]'s, with its nodes in post-order: see [`order_and_file`].
+pub fn map_in_order(scale: usize) -> Vec<u8> {
+    let map = ordinary_spec(false, scale);
+    listed(&Numbering::RightFirst.order(&map.nodes, &mut Rng::new(11)), map)
+}
+
+/// A map of `nodes` nodes, up to 32,767, of which the first is unreached and the others are a chain whose numbers rise from the root's child on; with
+/// its post-order, edited. See [`order_and_file`].
+pub fn chain_in_order(nodes: usize, edit: fn(&mut Vec<u16>)) -> Vec<u8> {
+    let mut map = small_map(Shape::Rising, nodes - 1);
+    let children: Vec<[u16; 2]> = map.nodes.iter().map(|node| [node.right, node.left]).collect();
+    map.nodes.push(map.nodes[0]);
+    for (node, [right, left]) in map.nodes.iter_mut().zip(behind_unreached(&children)) {
+        (node.right, node.left) = (right, left);
+    }
+    let mut order = Numbering::RightFirst.order(&map.nodes, &mut Rng::new(12));
+    edit(&mut order);
+    listed(&order, map)
+}
+
+/// Edits an order so that its last number, the root, is its first a second time: 70.
+pub fn repeat_at_the_end(order: &mut Vec<u16>) {
+    let last = order.len() - 1;
+    order[last] = order[0];
+}
+
+/// Edits a chain's order so that the root's child stands before its own child, and these are the last before the root: 71.
+pub fn child_at_the_end(order: &mut Vec<u16>) {
+    let last = order.len() - 1;
+    order.swap(last - 2, last - 1);
+}
+
+/// Edits an order of all nodes but one so that it has two numbers more than twice as many as there are nodes: 73. Of 32,767 nodes these are 65,536.
+pub fn twice_as_long(order: &mut Vec<u16>) {
+    order.resize(2 * (order.len() + 2), 0);
 }
 
 /// A map with these nodes, as many subsectors as their tree needs, if a map may have so many, and no more than it must of the rest.

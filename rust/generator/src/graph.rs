@@ -286,6 +286,13 @@ impl Grower<'_> {
     }
 }
 
+/// The same nodes behind one that no route reaches, and whose children are the root and itself.
+pub(crate) fn behind_unreached(children: &[[u16; 2]]) -> Vec<[u16; 2]> {
+    let raised = |word: u16| if word & SUBSECTOR_BIT == 0 { word + 1 } else { word };
+    let raised = children.iter().map(|both| both.map(raised));
+    [[children.len() as u16, 0]].into_iter().chain(raised).collect()
+}
+
 /// The nodes from `first` up to `end`, the last one first.
 fn falling(first: usize, end: usize) -> Vec<usize> {
     (first..end).rev().collect()

@@ -13,7 +13,8 @@
 //!   [`littered_directory_of`], [`search_to_the_first`], [`search_in_vain`], [`pair_of`], [`pair_in_vain`], [`chain`], [`balanced`],
 //!   [`doublings`], [`shared_subsector`], [`hostile_blockmap`], [`hostile_picture`], [`picture`], [`pixels`], [`checkered`],
 //!   [`halving_nodes`], [`mixed_nodes`], [`deep_chain`], [`double_nodes`], [`deep_doublings`], [`sidedefs_of`],
-//!   [`bad_sidedef_of`], [`bad_seg_of`], [`bad_blockmap_of`], [`long_loop`] and [`loop_behind_tree`] are the inputs of a benchmark;
+//!   [`bad_sidedef_of`], [`bad_seg_of`], [`bad_blockmap_of`], [`long_loop`], [`loop_behind_tree`], [`map_in_order`] and
+//!   [`chain_in_order`] are the inputs of a benchmark;
 //! - [`shrink`] makes a failing case smaller.
 //!
 //! ```
@@ -77,10 +78,11 @@ mod why_fields;
 mod written;
 
 pub use bench::{
-    bad_blockmap_of, bad_seg_of, bad_sidedef_of, balanced, chain, checkered, deep_chain, deep_doublings, directory_of,
-    double_nodes, doublings, halving_nodes, hexen_map_of, hostile_blockmap, hostile_blockmap_of, hostile_picture,
-    hostile_picture_of, largest_hexen_map_of, largest_map, largest_map_of, littered_directory_of, long_loop, loop_behind_tree,
-    map_of, mixed_nodes, ordinary_map, pair_of, picture, pixels, shared_subsector, sidedefs_of, FACED, MOST_BYTES,
+    bad_blockmap_of, bad_seg_of, bad_sidedef_of, balanced, chain, chain_in_order, checkered, child_at_the_end, deep_chain,
+    deep_doublings, directory_of, double_nodes, doublings, halving_nodes, hexen_map_of, hostile_blockmap, hostile_blockmap_of,
+    hostile_picture, hostile_picture_of, largest_hexen_map_of, largest_map, largest_map_of, littered_directory_of, long_loop,
+    loop_behind_tree, map_in_order, map_of, mixed_nodes, order_and_file, ordinary_map, pair_of, picture, pixels,
+    repeat_at_the_end, shared_subsector, sidedefs_of, twice_as_long, FACED, MOST_BYTES,
 };
 pub use blockmap::{BlockmapSpec, Layout};
 pub use case::{Case, Expected, Question};

@@ -1,5 +1,6 @@
 //! Both sides of each rule on an order of nodes (W-212): its length, each reached node once, the root last, children first, and the output.
 
+use crate::graph::behind_unreached;
 use crate::limit::Build;
 use crate::renumber::{ordered_case, with_faults};
 use crate::{map_case, Case, Expected, Layout, MapSpec, Numbering, OrderFault, Plan, Rng, Shape, Sizes, MAP_NAME};
@@ -282,10 +283,8 @@ const AT_THE_END: &[(OrderFault, fn(&mut Vec<u16>))] = &[
 
 fn large_nodes(shape: Shape, is_one_unreached: bool) -> Vec<Node> {
     let (children, _) = shape.children(32_766, 32_767, &mut Rng::new(6));
-    let shifted = |word: u16| if word & SUBSECTOR_BIT == 0 { word + u16::from(is_one_unreached) } else { word };
-    let first = is_one_unreached.then_some([32_766, 0]);
-    let children = first.into_iter().chain(children.iter().map(|both| both.map(shifted)));
-    children.map(|[right, left]| Node { dx: 5, dy: -3, right, left, ..Node::default() }).collect()
+    let children = if is_one_unreached { behind_unreached(&children) } else { children };
+    children.iter().map(|&[right, left]| Node { dx: 5, dy: -3, right, left, ..Node::default() }).collect()
 }
 
 fn large_case(shape: Shape, is_one_unreached: bool) -> Case {

@@ -5,7 +5,7 @@ mod common;
 use common::check;
 use generator::*;
 use reader::{descend, directory, draw_order, find_map, judge_map, judge_picture, map_game, Accepted, Found, Refusal, Search};
-use reader::{judge_sidedefs, pair_find, pair_judge_map, why, write_picture, PairFile, Picture};
+use reader::{judge_sidedefs, pair_find, pair_judge_map, renumber, why, write_picture, PairFile, Picture};
 
 #[test]
 fn both_sides_of_every_limit() {
@@ -126,6 +126,26 @@ fn refused_inputs_have_their_reasons() {
     let size = reader::lump(&wad, 10).len() as u32;
     assert_eq!(reason_of(&wad), (28, 31_999, field([size - 2, 1, 0, 0])));
     assert_eq!(reason_of(&chain(32_766)).2.len(), 32_766);
+}
+
+/// How many numbers an order has, and the new lump's bytes, or the refusal's number.
+fn renumbered(input: &[u8]) -> (usize, Result<usize, u32>) {
+    let (order, wad) = order_and_file(input);
+    let mut out = vec![0; 28 * 32_766];
+    let length = renumber(wad, &MAP_NAME, &mut vec![1; 4 * 32_767], &order, &mut out);
+    (order.len(), length.map_err(|refusal| refusal.number))
+}
+
+#[test]
+fn inputs_in_order_are_good_or_refused_at_their_end() {
+    assert_eq!(renumbered(&map_in_order(1)), (238, Ok(28 * 238)));
+    for nodes in [8_191, 32_767] {
+        let reached = nodes - 1;
+        assert_eq!(renumbered(&chain_in_order(nodes, |_| ())), (reached, Ok(28 * reached)));
+        assert_eq!(renumbered(&chain_in_order(nodes, repeat_at_the_end)), (reached, Err(70)));
+        assert_eq!(renumbered(&chain_in_order(nodes, child_at_the_end)), (reached, Err(71)));
+        assert_eq!(renumbered(&chain_in_order(nodes, twice_as_long)), (2 * nodes + 2, Err(73)));
+    }
 }
 
 #[test]

@@ -173,6 +173,21 @@ fn reader_why(wad: &[u8]) -> usize {
     reader::why(wad, &given::MAP_NAME, &mut words, &mut out).1
 }
 
+/// The length of a map's new NODES, or the refusal's number.
+fn library_renumbered(input: &[u8]) -> usize {
+    let (order, wad) = given::order_and_file(input);
+    let (mut words, mut out) = (vec![0; meshpigeon::MOST_WORDS], vec![0; meshpigeon::MOST_RENUMBERED]);
+    let length = meshpigeon::renumber_with(wad, &given::MAP_NAME, &mut words, &order, &mut out);
+    length.unwrap_or_else(|refusal| refusal.number as usize)
+}
+
+fn reader_renumbered(input: &[u8]) -> usize {
+    let (order, wad) = given::order_and_file(input);
+    let (mut words, mut out) = (vec![0; meshpigeon::MOST_WORDS], vec![0; meshpigeon::MOST_RENUMBERED]);
+    let length = reader::renumber(wad, &given::MAP_NAME, &mut words, &order, &mut out);
+    length.unwrap_or_else(|refusal| refusal.number as usize)
+}
+
 /// The rows of one lump: in a map with little else, whose check is mostly this lump's; in one piece; and in scraps.
 const IN_A_MAP: &str = "65,535 sidedefs in a map";
 const IN_ONE_PIECE: &str = "65,535 sidedefs in one piece";
@@ -392,6 +407,36 @@ fn inputs() -> Vec<Input> {
             sized: |n| given::bad_blockmap_of(given::MOST_BYTES * n / 4),
             library: library_why,
             reader: reader_why,
+        },
+        Input {
+            name: "renumber: ordinary map",
+            sized: |n| given::map_in_order(n),
+            library: library_renumbered,
+            reader: reader_renumbered,
+        },
+        Input {
+            name: "renumber: 32,767 nodes",
+            sized: |n| given::chain_in_order(32_767 * n / 4, |_| ()),
+            library: library_renumbered,
+            reader: reader_renumbered,
+        },
+        Input {
+            name: "renumber: list of 65,536 (73)",
+            sized: |n| given::chain_in_order(32_767 * n / 4, given::twice_as_long),
+            library: library_renumbered,
+            reader: reader_renumbered,
+        },
+        Input {
+            name: "renumber: repeat at the end (70)",
+            sized: |n| given::chain_in_order(32_767 * n / 4, given::repeat_at_the_end),
+            library: library_renumbered,
+            reader: reader_renumbered,
+        },
+        Input {
+            name: "renumber: child at the end (71)",
+            sized: |n| given::chain_in_order(32_767 * n / 4, given::child_at_the_end),
+            library: library_renumbered,
+            reader: reader_renumbered,
         },
         Input {
             name: "hostile BLOCKMAP of 16 MiB",
