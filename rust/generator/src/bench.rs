@@ -232,33 +232,35 @@ pub fn map_in_order(scale: usize) -> Vec<u8> {
 
 /// A map of `nodes` nodes, up to 32,767, of which the first is unreached and the others are a chain whose numbers rise from the root's child on; with
 /// its post-order, edited. See [`order_and_file`].
-pub fn chain_in_order(nodes: usize, edit: fn(&mut Vec<u16>)) -> Vec<u8> {
+pub fn chain_in_order(nodes: usize, edit: fn(Vec<u16>) -> Vec<u16>) -> Vec<u8> {
     let mut map = small_map(Shape::Rising, nodes - 1);
     let children: Vec<[u16; 2]> = map.nodes.iter().map(|node| [node.right, node.left]).collect();
     map.nodes.push(map.nodes[0]);
     for (node, [right, left]) in map.nodes.iter_mut().zip(behind_unreached(&children)) {
         (node.right, node.left) = (right, left);
     }
-    let mut order = Numbering::RightFirst.order(&map.nodes, &mut Rng::new(12));
-    edit(&mut order);
+    let order = edit(Numbering::RightFirst.order(&map.nodes, &mut Rng::new(12)));
     listed(&order, map)
 }
 
-/// Edits an order so that its last number, the root, is its first a second time: 70.
-pub fn repeat_at_the_end(order: &mut Vec<u16>) {
+/// An order whose last number, the root, is its first a second time: 70.
+pub fn repeat_at_the_end(mut order: Vec<u16>) -> Vec<u16> {
     let last = order.len() - 1;
     order[last] = order[0];
+    order
 }
 
-/// Edits a chain's order so that the root's child stands before its own child, and these are the last before the root: 71.
-pub fn child_at_the_end(order: &mut Vec<u16>) {
+/// A chain's order in which the root's child stands before its own child, and these are the last before the root: 71.
+pub fn child_at_the_end(mut order: Vec<u16>) -> Vec<u16> {
     let last = order.len() - 1;
     order.swap(last - 2, last - 1);
+    order
 }
 
-/// Edits an order of all nodes but one so that it has two numbers more than twice as many as there are nodes: 73. Of 32,767 nodes these are 65,536.
-pub fn twice_as_long(order: &mut Vec<u16>) {
+/// An order of all nodes but one with two numbers more than twice as many as there are nodes: 73. Of 32,767 nodes these are 65,536.
+pub fn twice_as_long(mut order: Vec<u16>) -> Vec<u16> {
     order.resize(2 * (order.len() + 2), 0);
+    order
 }
 
 /// A map with these nodes, as many subsectors as their tree needs, if a map may have so many, and no more than it must of the rest.

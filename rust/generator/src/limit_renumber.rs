@@ -204,10 +204,13 @@ fn several_faults() -> Vec<Build> {
     all
 }
 
+/// Makes a map bad.
+type PlanEdit = fn(&mut Plan);
+
 /// Too few work words, a loop, a shared child and a child that is not there come before whatever the order is, good or not.
 fn refused_maps() -> Vec<Build> {
     let mut all: Vec<Build> = Vec::new();
-    let edits: [(u32, usize, fn(&mut Plan)); 4] = [
+    let edits: [(u32, usize, PlanEdit); 4] = [
         (30, 0, |plan| plan.spare_words = -1),
         (31, 0, |plan| plan.map.nodes[2].left = 2),
         (32, 0, |plan| plan.map.nodes[2].left = s(1)),
@@ -258,8 +261,11 @@ fn largest() -> Vec<Build> {
     all
 }
 
+/// Makes an order bad.
+type OrderEdit = fn(&mut Vec<u16>);
+
 /// Edits of the last places of a long post-order, in which the root's child stands before it, and a child of that before both.
-const AT_THE_END: &[(OrderFault, fn(&mut Vec<u16>))] = &[
+const AT_THE_END: &[(OrderFault, OrderEdit)] = &[
     (Length, |order| order.push(0)),
     (Length, |order| order.truncate(order.len() - 1)),
     (Length, |order| order.resize(65_536, 0)),

@@ -141,7 +141,7 @@ fn inputs_in_order_are_good_or_refused_at_their_end() {
     assert_eq!(renumbered(&map_in_order(1)), (238, Ok(28 * 238)));
     for nodes in [8_191, 32_767] {
         let reached = nodes - 1;
-        assert_eq!(renumbered(&chain_in_order(nodes, |_| ())), (reached, Ok(28 * reached)));
+        assert_eq!(renumbered(&chain_in_order(nodes, |order| order)), (reached, Ok(28 * reached)));
         assert_eq!(renumbered(&chain_in_order(nodes, repeat_at_the_end)), (reached, Err(70)));
         assert_eq!(renumbered(&chain_in_order(nodes, child_at_the_end)), (reached, Err(71)));
         assert_eq!(renumbered(&chain_in_order(nodes, twice_as_long)), (2 * nodes + 2, Err(73)));

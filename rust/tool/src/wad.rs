@@ -83,9 +83,9 @@ impl Wad {
         meshpigeon::lump(&self.bytes, number).unwrap_or_default()
     }
 
-    /// The file with another lump for an entry, no longer than its own; every other entry, and every byte of the other lumps, stays. The lump takes the
-    /// place of the old one, and bytes that it leaves there become zero. Where another lump or the directory has some of these bytes too, it comes
-    /// behind the end of the file.
+    /// The file with another lump for an entry, no longer than its own; every other entry, and every byte of the other lumps, stays. The
+    /// lump takes the place of the old one, and bytes that it leaves there become zero. Where another lump or the directory has some of
+    /// these bytes too, it comes behind the end of the file.
     pub fn with_lump(&self, number: usize, lump: &[u8]) -> Result<Vec<u8>, &'static str> {
         let mut bytes = self.bytes.clone();
         if lump == self.lump(number) {
@@ -96,13 +96,15 @@ impl Wad {
             return Err("a lump has bytes of the directory that must change with NODES");
         }
         let old = self.part(number);
-        let offset =
-            if self.is_shared(number, old.clone()) || overlap(&old, &self.directory_part()) { bytes.len() } else { old.start };
+        let is_alone = !self.is_shared(number, old.clone()) && !overlap(&old, &self.directory_part());
+        let offset = if is_alone { old.start } else { bytes.len() };
         bytes.resize(bytes.len().max(offset + lump.len()), 0);
         if bytes.len() as u64 > input::MOST_BYTES {
-            return Err("NODES shares bytes with another lump, and at the end of the file there is no room: it has at most 16,777,216 bytes");
+            return Err(
+                "NODES shares bytes with another lump, and the file has no room at its end: it has at most 16,777,216 bytes",
+            );
         }
-        if offset == old.start {
+        if is_alone {
             bytes[old].fill(0);
         }
         bytes[offset..offset + lump.len()].copy_from_slice(lump);

@@ -416,7 +416,7 @@ fn inputs() -> Vec<Input> {
         },
         Input {
             name: "renumber: 32,767 nodes",
-            sized: |n| given::chain_in_order(32_767 * n / 4, |_| ()),
+            sized: |n| given::chain_in_order(32_767 * n / 4, |order| order),
             library: library_renumbered,
             reader: reader_renumbered,
         },

@@ -194,16 +194,19 @@ fn refused(list: &str, arguments: &[&str]) -> Said {
 
 #[test]
 fn bad_orders_are_refused_with_what_was_found() {
+    let length = "73: the order is too short or too long: it must have as many numbers as there are nodes that the root reaches";
+    let once = "70: the order names a node twice, or a number that is no node which the root reaches: it must hold each reached node once";
+    let root = "72: the order does not end with the root: the root, the last of the old nodes, must come last";
     let lines = [
-        ("", "73: the order is too short or too long: it must have as many numbers as there are nodes that the root reaches; here that is 3, and it has 0"),
-        ("0 2 4 4", "73: the order is too short or too long: it must have as many numbers as there are nodes that the root reaches; here that is 3, and it has 4"),
-        ("0 0 4", "70: the order names a node twice, or a number that is no node which the root reaches: it must hold each reached node once; here 0 is such a number"),
-        ("4 3 2", "70: the order names a node twice, or a number that is no node which the root reaches: it must hold each reached node once; here 3 is such a number"),
-        ("0 2 65535", "70: the order names a node twice, or a number that is no node which the root reaches: it must hold each reached node once; here 65535 is such a number"),
-        ("0 4 2", "72: the order does not end with the root: the root, the last of the old nodes, must come last; here it ends with 2, and the root is 4"),
+        ("", length, "that is 3, and it has 0"),
+        ("0 2 4 4", length, "that is 3, and it has 4"),
+        ("0 0 4", once, "0 is such a number"),
+        ("4 3 2", once, "3 is such a number"),
+        ("0 2 65535", once, "65535 is such a number"),
+        ("0 4 2", root, "it ends with 2, and the root is 4"),
     ];
-    for (list, words) in lines {
-        refused(list, &[]).is(1, &[&format!("in.wad:MAP01: refused {words}")]);
+    for (list, words, found) in lines {
+        refused(list, &[]).is(1, &[&format!("in.wad:MAP01: refused {words}; here {found}")]);
     }
     for (list, number, found) in
         [("4", 73, r#"{"count":1,"needed":3}"#), ("0 1 4", 70, r#"{"number":1}"#), ("4 2 0", 72, r#"{"number":0,"root":4}"#)]
