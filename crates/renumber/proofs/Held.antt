@@ -14,7 +14,7 @@ use Rattle.refusal.proofs.Checks.{both}
 use Rattle.bsp.specs.Heights.{member, repeats}
 use Rattle.bsp.specs.Reach.{HoldsOnce}
 use Rattle.bsp.proofs.Repeats.{or-neither, member-head, member-tail, member-cons, at-member}
-use Rattle.renumber.specs.Orders.{placeOf, allIn, lastOk}
+use Rattle.renumber.specs.Orders.{indexIn, allAmong, lastOk}
 use Rattle.renumber.proofs.Lists.{not-both, no-more}
 
 -- ---- in the list or not
@@ -32,7 +32,7 @@ clash {b} = not-both b
 
 -- ---- where a number stands
 
-pub place-in : (xs : List ℕ) (v : ℕ) → member v xs ≡ true → placeOf xs v < length xs
+pub place-in : (xs : List ℕ) (v : ℕ) → member v xs ≡ true → indexIn xs v < length xs
 place-in [] v m = absurd (clash m refl)
 place-in (x ∷ xs) v m =
     ⊎-elim
@@ -40,31 +40,31 @@ place-in (x ∷ xs) v m =
     (λ (h : member v xs ≡ true). by (eqb x v) (place-in xs v h))
     (member-cons v x xs m)
   where
-    by : (b : Bool) → placeOf xs v < length xs → cond b 0 (suc (placeOf xs v)) < suc (length xs)
+    by : (b : Bool) → indexIn xs v < length xs → cond b 0 (suc (indexIn xs v)) < suc (length xs)
     by true h = omega arith
     by false h = suc-le-suc h
 
-pub at-place : (xs : List ℕ) (v : ℕ) → placeOf xs v < length xs → getD xs (placeOf xs v) 0 ≡ v
+pub at-place : (xs : List ℕ) (v : ℕ) → indexIn xs v < length xs → getD xs (indexIn xs v) 0 ≡ v
 at-place [] v h = absurd (omega arith)
 at-place (x ∷ xs) v h = by (eqb x v) refl h (at-place xs v)
   where
-    by : (b : Bool) → eqb x v ≡ b → cond b 0 (suc (placeOf xs v)) < suc (length xs)
-        → (placeOf xs v < length xs → getD xs (placeOf xs v) 0 ≡ v) → getD (x ∷ xs) (cond b 0 (suc (placeOf xs v))) 0 ≡ v
+    by : (b : Bool) → eqb x v ≡ b → cond b 0 (suc (indexIn xs v)) < suc (length xs)
+        → (indexIn xs v < length xs → getD xs (indexIn xs v) 0 ≡ v) → getD (x ∷ xs) (cond b 0 (suc (indexIn xs v))) 0 ≡ v
     by true e l rest = eqb-true x v e
     by false e l rest = rest (le-of-suc-le-suc l)
 
 -- it stands nowhere before its place
-pub place-least : (xs : List ℕ) (j : ℕ) → j < length xs → placeOf xs (getD xs j 0) ≤ j
+pub place-least : (xs : List ℕ) (j : ℕ) → j < length xs → indexIn xs (getD xs j 0) ≤ j
 place-least [] j h = absurd (omega arith)
 place-least (x ∷ xs) zero h = rw (eq-eqb x x refl) zero-le
 place-least (x ∷ xs) (suc j) h = by (eqb x (getD xs j 0)) (place-least xs j (le-of-suc-le-suc h))
   where
-    by : (b : Bool) → placeOf xs (getD xs j 0) ≤ j → cond b 0 (suc (placeOf xs (getD xs j 0))) ≤ suc j
+    by : (b : Bool) → indexIn xs (getD xs j 0) ≤ j → cond b 0 (suc (indexIn xs (getD xs j 0))) ≤ suc j
     by true l = zero-le
     by false l = suc-le-suc l
 
 -- and where no number is twice, at no other place
-pub place-at : (xs : List ℕ) → repeats xs ≡ false → (j : ℕ) → j < length xs → placeOf xs (getD xs j 0) ≡ j
+pub place-at : (xs : List ℕ) → repeats xs ≡ false → (j : ℕ) → j < length xs → indexIn xs (getD xs j 0) ≡ j
 place-at [] once j h = absurd (omega arith)
 place-at (x ∷ xs) once zero h = rw (eq-eqb x x refl)
 place-at (x ∷ xs) once (suc j) h =
@@ -95,13 +95,13 @@ holds-all xs ys once all long v m =
 
 -- ---- all of one list in another
 
-pub all-member : (xs ys : List ℕ) → allIn xs ys ≡ true → (v : ℕ) → member v xs ≡ true → member v ys ≡ true
+pub all-member : (xs ys : List ℕ) → allAmong xs ys ≡ true → (v : ℕ) → member v xs ≡ true → member v ys ≡ true
 all-member [] ys e v m = absurd (clash m refl)
 all-member (x ∷ xs) ys e v m =
-    let p = both (member x ys) (allIn xs ys) e in
+    let p = both (member x ys) (allAmong xs ys) e in
     ⊎-elim (λ (h : v ≡ x). ap (λ (w : ℕ). member w ys) h ∙ p .0) (all-member xs ys (p .1) v) (member-cons v x xs m)
 
-pub member-all : (xs ys : List ℕ) → ((v : ℕ) → member v xs ≡ true → member v ys ≡ true) → allIn xs ys ≡ true
+pub member-all : (xs ys : List ℕ) → ((v : ℕ) → member v xs ≡ true → member v ys ≡ true) → allAmong xs ys ≡ true
 member-all [] ys all = refl
 member-all (x ∷ xs) ys all =
     rw (all x (member-head x x xs refl), member-all xs ys (λ v m. all v (member-tail v x xs m)))

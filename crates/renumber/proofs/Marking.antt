@@ -20,7 +20,7 @@ use Rattle.bsp.proofs.Reach.{nodes-held}
 use Rattle.bsp.proofs.Verdict.{depth-verdict}
 use Rattle.graph.specs.Inner.Looks.{markOf}
 use Rattle.graph.specs.Inner.Searching.{Searchable, Explored}
-use Rattle.renumber.specs.Orders.{allIn}
+use Rattle.renumber.specs.Orders.{allAmong}
 use Rattle.renumber.specs.Inner.{markedOk, markedBelow, Marks, allMarked}
 use Rattle.renumber.proofs.Lists.{not-both, same-test, not-held, as-many}
 
@@ -117,7 +117,7 @@ module _ (nodes : List ℕ) (count : ℕ) (words : List ℕ) where
       as-many (markedBelow words count) (reachedNodes nodes) (below-once words count) (m .once)
       (λ v. below-says words count v ∙ sym (m .says v))
 
-  pub all-marked : Marks nodes count words → (order : List ℕ) → allIn order (reachedNodes nodes) ≡ allMarked words count order
+  pub all-marked : Marks nodes count words → (order : List ℕ) → allAmong order (reachedNodes nodes) ≡ allMarked words count order
   all-marked m [] = refl
   all-marked m (x ∷ xs) = λ i. m .says x i && all-marked m xs i
 

@@ -22,7 +22,7 @@ use Rattle.bsp.specs.declared.Choice.{Choice}
 use Rattle.bsp.specs.declared.Choice.the-variants.{Right, Left}
 use Rattle.bsp.specs.Nodes.{nodesOf, subsectorBit, isNode, childOf}
 use Rattle.bsp.specs.Side.{side, sideAt, chosen}
-use Rattle.renumber.specs.Orders.{placeOf, oldAt}
+use Rattle.renumber.specs.Orders.{indexIn, oldAt}
 use Rattle.renumber.specs.Renumbering.{renamed, newNode, renumbered}
 
 -- ---- two bytes of a part
@@ -42,7 +42,7 @@ u16-take n xs k h = rw (getD-take n xs k 0 (omega arith), getD-take n xs (k + 1)
 -- ---- a node's word, renamed
 
 module _ (order : List ℕ) where
-  pub renamed-node : (w : ℕ) → w < subsectorBit → renamed order w ≡ placeOf order w
+  pub renamed-node : (w : ℕ) → w < subsectorBit → renamed order w ≡ indexIn order w
   renamed-node w h = rw (lt-ltb w subsectorBit h)
 
   pub renamed-end : (w : ℕ) → subsectorBit ≤ w → renamed order w ≡ w

@@ -21,7 +21,7 @@ use Rattle.bsp.specs.Nodes.{nodesOf, subsectorBit, isNode, childOf, root}
 use Rattle.bsp.specs.Heights.{member, repeats}
 use Rattle.bsp.specs.Reach.{reachedNodes, HoldsOnce}
 use Rattle.bsp.proofs.Heights.{node-or-end}
-use Rattle.renumber.specs.Orders.{placeOf, lengthOk, onceOk, rootOk, oldAt, childFirst, childrenOk, orderCheck}
+use Rattle.renumber.specs.Orders.{indexIn, lengthOk, onceOk, rootOk, oldAt, childFirst, childrenOk, orderCheck}
 use Rattle.renumber.specs.Promises.{ReachedNode, GoodOrder}
 use Rattle.renumber.proofs.Checking.{children-none, children-suc, children-each}
 use Rattle.renumber.proofs.Held.{at-place, place-least, same-length, holds-all, all-member, member-all, last-ends, ends-last}
@@ -39,17 +39,17 @@ module _ (nodes order : List ℕ) where
 
   -- a child node stands before its parent
   child-before : (i : ℕ) (c : Choice) → childFirst nodes order i c ≡ true → childOf nodes (oldAt order i) c < subsectorBit
-      → placeOf order (childOf nodes (oldAt order i) c) < i
+      → indexIn order (childOf nodes (oldAt order i) c) < i
   child-before i c e h =
       let w = childOf nodes (oldAt order i) c in
-      ltb-true (placeOf order w) i (rw (lt-ltb w subsectorBit h) at e)
+      ltb-true (indexIn order w) i (rw (lt-ltb w subsectorBit h) at e)
 
-  before-child : (i : ℕ) (c : Choice) → (childOf nodes (oldAt order i) c < subsectorBit → placeOf order (childOf nodes (oldAt order i) c) < i)
+  before-child : (i : ℕ) (c : Choice) → (childOf nodes (oldAt order i) c < subsectorBit → indexIn order (childOf nodes (oldAt order i) c) < i)
       → childFirst nodes order i c ≡ true
   before-child i c f =
       let w = childOf nodes (oldAt order i) c in
       ⊎-elim
-      (λ (h : w < subsectorBit). rw (lt-ltb w subsectorBit h, lt-ltb (placeOf order w) i (f h)))
+      (λ (h : w < subsectorBit). rw (lt-ltb w subsectorBit h, lt-ltb (indexIn order w) i (f h)))
       (λ (h : subsectorBit ≤ w). rw (le-ltb w subsectorBit h))
       (node-or-end w)
 
@@ -74,7 +74,7 @@ module _ (nodes order : List ℕ) where
           first = λ i h c n.
               let before = child-before i c (children-each nodes order (length order) children i h c) n in
               let w = childOf nodes (oldAt order i) c in
-              (placeOf order w, (before, at-place order w (omega arith)));
+              (indexIn order w, (before, at-place order w (omega arith)));
         }
 
     length-good : GoodOrder nodes order → lengthOk nodes order ≡ true
@@ -99,7 +99,7 @@ module _ (nodes order : List ℕ) where
         (λ n.
         let p = g .first i h c n in
         let least = place-least order (p .0) (omega (arith, p .1 .0)) in
-        let here : placeOf order (childOf nodes (oldAt order i) c) ≤ p .0 = rw (p .1 .1) at least in
+        let here : indexIn order (childOf nodes (oldAt order i) c) ≤ p .0 = rw (p .1 .1) at least in
         omega (arith, p .1 .0, here)))
 
     pub exactly-good : (room : ℕ) → orderCheck nodes order room ≡ Pass ↔ (GoodOrder nodes order × (nodeSize * length order ≤ room))

@@ -24,7 +24,7 @@ use Rattle.bsp.specs.declared.Choice.the-variants.{Right, Left}
 use Rattle.bsp.specs.Nodes.{subsectorBit, isNode, childOf}
 use Rattle.bsp.proofs.Heights.{node-or-end}
 use Rattle.bsp.proofs.Repeats.{or-either}
-use Rattle.renumber.specs.Orders.{placeOf, oldAt}
+use Rattle.renumber.specs.Orders.{indexIn, oldAt}
 use Rattle.renumber.specs.Renumbering.{renamed, newNode, renumbered}
 use Rattle.renumber.specs.Inner.{renamedBy, nodeBy, Writable}
 use Rattle.renumber.proofs.Lists.{not-both}
@@ -73,11 +73,11 @@ module _ (nodes : List ℕ) (count : ℕ) (words order : List ℕ) (room : ℕ) 
         ⊎-elim
         (λ (h : v < subsectorBit).
         let first = children-each nodes order (length order) (w .first) i l c in
-        let before : placeOf order v < i =
+        let before : indexIn order v < i =
         ⊎-elim
         (λ (t : not (isNode v) ≡ true). absurd (not-both (not (isNode v)) t (ap not (lt-ltb v subsectorBit h))))
-        (λ (t : ltb (placeOf order v) i ≡ true). ltb-true (placeOf order v) i t)
-        (or-either (not (isNode v)) (ltb (placeOf order v) i) first) in
+        (λ (t : ltb (indexIn order v) i ≡ true). ltb-true (indexIn order v) i t)
+        (or-either (not (isNode v)) (ltb (indexIn order v) i) first) in
         ap (λ (k : ℕ). cond (isNode v) k v)
         (child-word nodes count words order (w .ordered) i l c h ∙ own-place order v (w .ordered .once) .there (omega arith)))
         (λ (h : subsectorBit ≤ v). rw (le-ltb v subsectorBit h))

@@ -30,7 +30,7 @@ use Rattle.bsp.proofs.Repeats.{at-member}
 use Rattle.bsp.proofs.Shared.{shared-repeats}
 use Rattle.bsp.proofs.Verdict.{depth-verdict, verdict-holds}
 use Rattle.bsp.proofs.Descends.{Passed, descent-holds}
-use Rattle.renumber.specs.Orders.{placeOf, oldAt}
+use Rattle.renumber.specs.Orders.{indexIn, oldAt}
 use Rattle.renumber.specs.Renumbering.{renamed, renumbered}
 use Rattle.renumber.specs.Promises.{GoodOrder, SameNodes}
 use Rattle.renumber.proofs.Held.{clash, place-in, at-place, place-least, place-at}
@@ -68,10 +68,10 @@ module _ (nodes order : List ℕ) (subsectors : ℕ) (passed : Passed nodes subs
 
   -- a reached node has a place, which is its name
   module _ (w : ℕ) (r : Reached nodes w) (h : w < subsectorBit) where
-    place-low : placeOf order w < length order
+    place-low : indexIn order w < length order
     place-low = place-in order w (good .holds .every w (r, h))
 
-    old-name : oldAt order (placeOf order w) ≡ w
+    old-name : oldAt order (indexIn order w) ≡ w
     old-name = at-place order w place-low
 
     name-low : name w < subsectorBit
@@ -80,12 +80,12 @@ module _ (nodes order : List ℕ) (subsectors : ℕ) (passed : Passed nodes subs
     name-child : (c : Choice) → childOf new (name w) c ≡ name (childOf nodes w c)
     name-child c =
         ap (λ (i : ℕ). childOf new i c) (renamed-node order w h)
-        ∙ new-child nodes order inside (placeOf order w) place-low c ∙ ap (λ (v : ℕ). name (childOf nodes v c)) old-name
+        ∙ new-child nodes order inside (indexIn order w) place-low c ∙ ap (λ (v : ℕ). name (childOf nodes v c)) old-name
 
     name-chosen : (x y : ℤ) → chosen new x y (name w) ≡ name (chosen nodes x y w)
     name-chosen x y =
         ap (chosen new x y) (renamed-node order w h)
-        ∙ new-chosen nodes order inside (placeOf order w) place-low x y ∙ ap (λ (v : ℕ). name (chosen nodes x y v)) old-name
+        ∙ new-chosen nodes order inside (indexIn order w) place-low x y ∙ ap (λ (v : ℕ). name (chosen nodes x y v)) old-name
 
   -- a word whose name is a node is one
   name-node : (w : ℕ) → name w < subsectorBit → w < subsectorBit
@@ -101,7 +101,7 @@ module _ (nodes order : List ℕ) (subsectors : ℕ) (passed : Passed nodes subs
       ⊎-elim
       (λ (h : v < subsectorBit).
       let k = name-node w (rw e at (name-low v p h)) in
-      let same : placeOf order v ≡ placeOf order w = sym (renamed-node order v h) ∙ e ∙ renamed-node order w k in
+      let same : indexIn order v ≡ indexIn order w = sym (renamed-node order v h) ∙ e ∙ renamed-node order w k in
       sym (old-name v p h) ∙ ap (oldAt order) same ∙ old-name w q k)
       (λ (h : subsectorBit ≤ v).
       let k = name-end w q (rw (sym (renamed-end order v h) ∙ e) at h) in
@@ -140,8 +140,8 @@ module _ (nodes order : List ℕ) (subsectors : ℕ) (passed : Passed nodes subs
       let here : oldAt order last ≡ root (nodesOf nodes) =
       ap (λ (xs : List ℕ). getD xs last 0) (e .1) ∙ getD-append-seam (e .0) (root (nodesOf nodes)) [] 0 in
       let low : root (nodesOf nodes) < subsectorBit = rw here at (old-reached last (omega arith) .1) in
-      let place : placeOf order (root (nodesOf nodes)) ≡ last =
-      ap (placeOf order) (sym here) ∙ place-at order (good .holds .once) last (omega arith) in
+      let place : indexIn order (root (nodesOf nodes)) ≡ last =
+      ap (indexIn order) (sym here) ∙ place-at order (good .holds .once) last (omega arith) in
       let count = new-count nodes order inside in
       let is : root (nodesOf new) ≡ nodesOf new - 1 = root-last (nodesOf new) (omega arith) in
       let named = renamed-node order (root (nodesOf nodes)) low in
@@ -156,7 +156,7 @@ module _ (nodes order : List ℕ) (subsectors : ℕ) (passed : Passed nodes subs
       let is : childOf new i c ≡ name w = new-child nodes order inside i h c in
       let low = name-node w (rw is at l) in
       let (j, (before, there)) = good .first i h c low in
-      let least : placeOf order w ≤ j = rw there at (place-least order j (omega arith)) in
+      let least : indexIn order w ≤ j = rw there at (place-least order j (omega arith)) in
       let named = renamed-node order w low in
       omega arith
 

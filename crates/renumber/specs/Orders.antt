@@ -16,21 +16,21 @@ use Rattle.bsp.specs.Heights.{member, repeats}
 use Rattle.bsp.specs.Reach.{reachedNodes}
 
 -- how many numbers of the list stand before the first `v`; all where it is not there
-abbrev pub placeOf : List ℕ → ℕ → ℕ
-placeOf [] v = 0
-placeOf (x ∷ xs) v = cond (eqb x v) 0 (suc (placeOf xs v))
+abbrev pub indexIn : List ℕ → ℕ → ℕ
+indexIn [] v = 0
+indexIn (x ∷ xs) v = cond (eqb x v) 0 (suc (indexIn xs v))
 
 -- 73: as many as are reached
 abbrev pub lengthOk : List ℕ → List ℕ → Bool
 lengthOk nodes order = eqb (length order) (length (reachedNodes nodes))
 
 -- 70: each of them once
-abbrev pub allIn : List ℕ → List ℕ → Bool
-allIn [] ys = true
-allIn (x ∷ xs) ys = member x ys && allIn xs ys
+abbrev pub allAmong : List ℕ → List ℕ → Bool
+allAmong [] ys = true
+allAmong (x ∷ xs) ys = member x ys && allAmong xs ys
 
 abbrev pub onceOk : List ℕ → List ℕ → Bool
-onceOk nodes order = allIn order (reachedNodes nodes) && not (repeats order)
+onceOk nodes order = allAmong order (reachedNodes nodes) && not (repeats order)
 
 -- 72: the root at the end, if there is one
 abbrev pub lastOk : ℕ → List ℕ → Bool
@@ -47,7 +47,7 @@ oldAt order i = getD order i 0
 
 -- 71: a child of the node at place `i` is a subsector, or stands before it
 abbrev pub childFirst : List ℕ → List ℕ → ℕ → Choice → Bool
-childFirst nodes order i c = not (isNode (childOf nodes (oldAt order i) c)) || ltb (placeOf order (childOf nodes (oldAt order i) c)) i
+childFirst nodes order i c = not (isNode (childOf nodes (oldAt order i) c)) || ltb (indexIn order (childOf nodes (oldAt order i) c)) i
 
 -- both children of each of the first `n` nodes
 unfoldable pub childrenOk : List ℕ → List ℕ → ℕ → Bool

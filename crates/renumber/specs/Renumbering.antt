@@ -18,11 +18,11 @@ use Rattle.level.specs.declared.Verdict.the-variants.{Accepted, Refused as NotA
 use Rattle.level.specs.Verdict.{nodesAt, verdict, wordsAfter}
 use Rattle.renumber.specs.declared.Renumbering.{Renumbering}
 use Rattle.renumber.specs.declared.Renumbering.the-variants.{Written, Refused as NotWritten}
-use Rattle.renumber.specs.Orders.{placeOf, oldAt, orderCheck}
+use Rattle.renumber.specs.Orders.{indexIn, oldAt, orderCheck}
 
 -- a node by its place in the list; a subsector as it is
 abbrev pub renamed : List ℕ → ℕ → ℕ
-renamed order w = cond (isNode w) (placeOf order w) w
+renamed order w = cond (isNode w) (indexIn order w) w
 
 -- node `i` of the new lump: the bytes of the old one, up to its children, and these renamed
 abbrev pub newNode : List ℕ → List ℕ → ℕ → List ℕ
