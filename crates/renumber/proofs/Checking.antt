@@ -19,7 +19,7 @@ use Rattle.bsp.proofs.Heights.{node-or-end}
 use Rattle.bsp.proofs.Nodes.{nodesOf-whole}
 use Rattle.renumber.specs.Orders.{lastOk, oldAt, childFirst, childrenOk}
 use Rattle.renumber.specs.Inner.{placed, placeWord, Ordered, ChildrenPlaced, beforeOk, bothBefore}
-use Rattle.renumber.proofs.Lists.{not-both, not-held, held-both}
+use Rattle.renumber.proofs.Members.{not-both, not-held, held-both}
 use Rattle.renumber.proofs.Placing.{before-same}
 
 -- ---- 72

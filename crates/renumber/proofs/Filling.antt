@@ -15,7 +15,7 @@ use Rattle.bsp.specs.Heights.{repeats}
 use Rattle.graph.specs.Inner.Looks.{markOf}
 use Rattle.renumber.specs.Orders.{oldAt}
 use Rattle.renumber.specs.Inner.{markedOk, allMarked, noPlace, placed, placeWord, PlacesHeld, freeOk, Filled}
-use Rattle.renumber.proofs.Lists.{not-both, not-held, held-both, once-apart, apart-once}
+use Rattle.renumber.proofs.Members.{not-both, not-held, held-both, once-apart, apart-once}
 use Rattle.renumber.proofs.Marking.{marked-is, is-marked}
 use Rattle.renumber.proofs.Placing.{placed-here, placed-there, placed-absent, absent-placed, free-is, is-free, all-places, places-all}
 

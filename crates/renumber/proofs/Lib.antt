@@ -1,6 +1,6 @@
 -- The laws of renumbering. Assumes nothing.
 
-pub mod Lists
+pub mod Members
 pub mod Marking
 pub mod Placing
 pub mod Filling

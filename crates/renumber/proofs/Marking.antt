@@ -22,7 +22,7 @@ use Rattle.graph.specs.Inner.Looks.{markOf}
 use Rattle.graph.specs.Inner.Searching.{Searchable, Explored}
 use Rattle.renumber.specs.Orders.{allAmong}
 use Rattle.renumber.specs.Inner.{markedOk, markedBelow, Marks, allMarked}
-use Rattle.renumber.proofs.Lists.{not-both, same-test, not-held, as-many}
+use Rattle.renumber.proofs.Members.{not-both, same-test, not-held, as-many}
 
 module _ (words : List ℕ) where
   -- ---- one node's mark

@@ -28,7 +28,7 @@ use Rattle.renumber.specs.declared.Renumbering.{Renumbering}
 use Rattle.renumber.specs.Orders.{lengthOk, onceOk, rootOk, childrenOk, orderCheck}
 use Rattle.renumber.specs.Renumbering.{renumbered, newNode, renumberingOf}
 use Rattle.renumber.specs.Inner.{markedOk, markedBelow, Marks, allMarked, PlacesHeld, Emptied, Filled, Ordered, lateCheck, OrderJudged, GraphJudged, graphCheck, nodesCheck, NodesRenumbered, Writable}
-use Rattle.renumber.proofs.Lists.{same-test}
+use Rattle.renumber.proofs.Members.{same-test}
 use Rattle.renumber.proofs.Marking.{marked-is, is-marked, below-few, marks-many, all-marked}
 use Rattle.renumber.proofs.Placing.{placed-none, all-places}
 use Rattle.renumber.proofs.Checking.{children-none}

@@ -14,7 +14,7 @@ use Rattle.refusal.proofs.Checks.{both}
 use Rattle.bsp.specs.Heights.{repeats}
 use Rattle.renumber.specs.Orders.{indexIn, oldAt}
 use Rattle.renumber.specs.Inner.{markedOk, allMarked, noPlace, placed, placeWord, freeOk}
-use Rattle.renumber.proofs.Lists.{held-both, once-apart}
+use Rattle.renumber.proofs.Members.{held-both, once-apart}
 
 -- ---- the places of the first numbers
 

@@ -27,7 +27,7 @@ use Rattle.bsp.proofs.Repeats.{or-either}
 use Rattle.renumber.specs.Orders.{indexIn, oldAt}
 use Rattle.renumber.specs.Renumbering.{renamed, newNode, renumbered}
 use Rattle.renumber.specs.Inner.{renamedBy, nodeBy, Writable}
-use Rattle.renumber.proofs.Lists.{not-both}
+use Rattle.renumber.proofs.Members.{not-both}
 use Rattle.renumber.proofs.Placing.{own-place}
 use Rattle.renumber.proofs.Checking.{children-each, order-inside, child-word}
 

@@ -109,5 +109,6 @@ fn renumber_some(
         return Renumbering::Refused(r);
     }
     writing::write_nodes(nodes, count, words, order, out);
-    Renumbering::Written(Node::SIZE * order.len())
+    let length = Node::SIZE * order.len();
+    Renumbering::Written(length)
 }

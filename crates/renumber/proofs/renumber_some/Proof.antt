@@ -31,8 +31,8 @@ ready c =
 write-nodes-requires : tie.Need-write-nodes-requires
 write-nodes-requires c κs = ready (c .before .before)
 
-mul-t16 : tie.Need-mul-t16
-mul-t16 c = let few = ready (c .before .before .before .before .before) .ordered .few in omega arith
+mul-length : tie.Need-mul-length
+mul-length c = let few = ready (c .before .before .before .before .before) .ordered .few in omega arith
 
 returns-2 : tie.Need-returns-2
 returns-2 c =
@@ -46,5 +46,5 @@ returns-2 c =
 pub renumber-some-spec : {M : Type 1} → statement M
 renumber-some-spec =
     tie.close
-    (tie.spec (λ c κs. search needs) (λ c. search needs) (λ c. search needs) returns (λ c. search needs) write-nodes-requires mul-t16
+    (tie.spec (λ c κs. search needs) (λ c. search needs) (λ c. search needs) returns (λ c. search needs) write-nodes-requires mul-length
     (λ c. search needs) (λ c. search needs) returns-2)

@@ -1,11 +1,12 @@
 -- `renumber::judging::free_ok` meets its contract, by the test that led to each answer. Assumes nothing.
+use native.Mathlib.Omega.{arith}
 use borrow.Author.Needs.{needs}
 use borrow.Author.Tests.{lt-ltb, le-ltb}
 use Rattle.renumber.proofs.judging.free_ok.Statement.{statement}
 use Rattle.renumber.proofs.judging.free_ok.Tie as tie
 
 returns : tie.Need-returns
-returns c = rw (le-ltb _ _ (c .if1 .taken))
+returns c = let a = c .before .args in rw (le-ltb (a .node) (a .count) (omega (arith, c .if1 .taken)))
 
 returns-2 : tie.Need-returns-2
 returns-2 c = rw (lt-ltb _ _ (c .before .before .if1 .left))

@@ -1,11 +1,13 @@
 -- `renumber::writing::renamed` meets its contract, by the test that led to each answer. Assumes nothing.
+use native.Mathlib.Omega.{arith}
 use borrow.Author.Needs.{needs}
 use borrow.Author.Tests.{lt-ltb, le-ltb}
+use Rattle.bsp.specs.Nodes.{subsectorBit}
 use Rattle.renumber.proofs.writing.renamed.Statement.{statement}
 use Rattle.renumber.proofs.writing.renamed.Tie as tie
 
 returns : tie.Need-returns
-returns c = rw (le-ltb _ _ (c .if1 .taken))
+returns c = rw (le-ltb (c .before .args .child) subsectorBit (omega (arith, c .if1 .taken)))
 
 add-result : tie.Need-add-result
 add-result c = let h = c .before .pre .1 (c .if1 .left) in search needs
