@@ -8,9 +8,4 @@ pub mod Checking
 pub mod Rows
 pub mod Outcomes
 pub mod Verdicts
-pub mod Held
-pub mod Orders
-pub mod NewNodes
-pub mod Same
-pub mod Holds
 pub mod Examples

@@ -21,10 +21,10 @@ use Rattle.bsp.specs.Nodes.{nodesOf, subsectorBit, isNode, childOf, root}
 use Rattle.bsp.specs.Heights.{member, repeats}
 use Rattle.bsp.specs.Reach.{reachedNodes, HoldsOnce}
 use Rattle.bsp.proofs.Heights.{node-or-end}
 use Rattle.renumber.specs.Orders.{indexIn, lengthOk, onceOk, rootOk, oldAt, childFirst, childrenOk, orderCheck}
-use Rattle.renumber.specs.Promises.{ReachedNode, GoodOrder}
+use Rattle.same_tree.specs.Promises.{ReachedNode, GoodOrder}
 use Rattle.renumber.proofs.Checking.{children-none, children-suc, children-each}
-use Rattle.renumber.proofs.Held.{at-place, place-least, same-length, holds-all, all-member, member-all, last-ends, ends-last}
+use Rattle.same_tree.proofs.Held.{at-place, place-least, same-length, holds-all, all-member, member-all, last-ends, ends-last}
 
 module _ (nodes order : List ℕ) where
   -- ---- both children of each node

@@ -30,11 +30,11 @@ use Rattle.bsp.proofs.Repeats.{at-member}
 use Rattle.bsp.proofs.Shared.{shared-repeats}
 use Rattle.bsp.proofs.Verdict.{depth-verdict, verdict-holds}
 use Rattle.bsp.proofs.Descends.{Passed, descent-holds}
 use Rattle.renumber.specs.Orders.{indexIn, oldAt}
 use Rattle.renumber.specs.Renumbering.{renamed, renumbered}
-use Rattle.renumber.specs.Promises.{GoodOrder, SameNodes}
-use Rattle.renumber.proofs.Held.{clash, place-in, at-place, place-least, place-at}
-use Rattle.renumber.proofs.NewNodes.{renamed-node, renamed-end, new-length, new-count, new-child, new-chosen}
+use Rattle.same_tree.specs.Promises.{GoodOrder, SameNodes}
+use Rattle.same_tree.proofs.Held.{clash, place-in, at-place, place-least, place-at}
+use Rattle.same_tree.proofs.NewNodes.{renamed-node, renamed-end, new-length, new-count, new-child, new-chosen}
 
 -- where choices end on a node they begin on one
 follow-start : (nodes : List ℕ) (cs : List Choice) (w v : ℕ) → Follow nodes w cs v → v < subsectorBit → w < subsectorBit

@@ -9,9 +9,9 @@ use Rattle.bsp.proofs.Verdict.{depth-verdict}
 use Rattle.level.specs.declared.Verdict.the-variants.{Accepted}
 use Rattle.level.specs.Verdict.{nodesAt, subsectorsAt, verdict}
 use Rattle.level.proofs.Demands.{known, known-passed}
-use Rattle.renumber.specs.Promises.{ReachedNode, RenumberHolds}
-use Rattle.renumber.proofs.Orders.{exactly-good}
-use Rattle.renumber.proofs.Same.{same-nodes}
+use Rattle.same_tree.specs.Promises.{ReachedNode, RenumberHolds}
+use Rattle.same_tree.proofs.Orders.{exactly-good}
+use Rattle.same_tree.proofs.Same.{same-nodes}
 
 module _ (wad name words : List ℕ) where
   -- the reached nodes of an accepted map, each once

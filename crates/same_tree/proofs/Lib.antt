@@ -1,0 +1,7 @@
+-- The laws of renumbered NODES. Assumes nothing.
+
+pub mod Held
+pub mod Orders
+pub mod NewNodes
+pub mod Same
+pub mod Holds

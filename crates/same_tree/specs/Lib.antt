@@ -1,0 +1,3 @@
+-- What holds of renumbered NODES. Assumes nothing.
+
+pub mod Promises
