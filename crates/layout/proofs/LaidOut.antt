@@ -73,6 +73,12 @@ module _ (f : ℕ → List ℕ) where
       let e : (n : ℕ) → length (laidOut f n) ≡ sumOf (λ i. length (f i)) n = λ n. length-laid (λ i. length (f i)) n (λ i l. refl) in
       rw (e i, e n) (sum-le (λ i. length (f i)) i n h)
 
+  -- the same parts
+  pub laid-same : (g : ℕ → List ℕ) (n : ℕ) → ((i : ℕ) → i < n → f i ≡ g i) → laidOut f n ≡ laidOut g n
+  unfolding laidOut
+  laid-same g zero h = refl
+  laid-same g (suc n) h = let rest = laid-same g n (λ i l. h i (omega arith)) in let last = h n (omega arith) in λ i. rest i ++ last i
+
   -- ---- parts of one size
 
   pub length-parts : (size n : ℕ) → ((i : ℕ) → i < n → length (f i) ≡ size) → length (laidOut f n) ≡ size * n

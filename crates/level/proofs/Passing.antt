@@ -67,7 +67,7 @@ module _ (hexen : Bool) (lumps : List (List ℕ)) (e : eachPlace (sizeCheck hexe
       pub count-most : recordCount lumps place size ≤ mostCount place
       count-most = subst (λ (n : ℕ). recordCount lumps place n ≤ mostCount place) same (leb-true count (mostCount place) (limits .1))
 
-      count-whole : length (mapLump lumps place) % size ≡ 0
+      pub count-whole : length (mapLump lumps place) % size ≡ 0
       count-whole =
           subst (λ (n : ℕ). length (mapLump lumps place) % n ≡ 0) same
           (eqb-true (length (mapLump lumps place) % recordSize hexen place) 0 (sized .0))
@@ -94,7 +94,7 @@ module _ (hexen : Bool) (lumps : List (List ℕ)) (words : ℕ) (e : lumpsCheck 
   sizes : sizesCheck hexen lumps ≡ Pass
   sizes = andThen-pass (sizesCheck hexen lumps) _ e .0
 
-  counts : eachPlace (sizeCheck hexen lumps) 8 ≡ Pass
+  pub counts : eachPlace (sizeCheck hexen lumps) 8 ≡ Pass
   counts = andThen-pass (eachPlace (sizeCheck hexen lumps) 8) (rejectCheck lumps) sizes .0
 
   rest : (referencesCheck hexen lumps andThen (blockmapCheck (mapLump lumps BLOCKMAP) (recordCount lumps LINEDEFS (linedefSize hexen)) andThen workCheck lumps words)) ≡ Pass

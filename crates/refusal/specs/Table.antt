@@ -17,7 +17,7 @@ use Rattle.refusal.specs.declared.Refusal.the-variants.{PostBounds, Post
 use Rattle.refusal.specs.declared.Refusal.the-variants.{EncodeSize, EncodeCover, EncodeRoom}
 use Rattle.refusal.specs.declared.Refusal.the-variants.{RecordBounds, RecordFields}
 use Rattle.refusal.specs.declared.Refusal.the-variants.{RenumberNodes, RenumberChild, RenumberRoot, RenumberLength, RenumberRoom}
-use Rattle.refusal.specs.declared.Refusal.the-variants.{StreamSectors, StreamLength, ReasonRoom}
+use Rattle.refusal.specs.declared.Refusal.the-variants.{DifferenceRoom, DifferenceGames, StreamSectors, StreamLength, ReasonRoom}
 
 -- a row of the table: number, place, record
 abbrev pub row : ℕ → ℕ → ℕ → Row
@@ -70,6 +70,8 @@ rowOf RenumberChild = row 71 0 0
 rowOf RenumberRoot = row 72 0 0
 rowOf RenumberLength = row 73 0 0
 rowOf RenumberRoom = row 74 0 0
+rowOf DifferenceRoom = row 75 0 0
+rowOf DifferenceGames = row 76 0 0
 rowOf StreamSectors = row 80 0 0
 rowOf StreamLength = row 81 0 0
 rowOf ReasonRoom = row 85 0 0

@@ -92,6 +92,10 @@ pub enum Refusal {
     RenumberLength,
     // 74: renumbering, an output buffer under the new nodes
     RenumberRoom,
+    // 75: differences, a list buffer under the numbers of changed records
+    DifferenceRoom,
+    // 76: differences, maps of two games
+    DifferenceGames,
     // 80: sidedefs as they arrive, the count of sectors
     StreamSectors,
     // 81: sidedefs as they arrive, more bytes than a file has
@@ -159,6 +163,8 @@ pub fn row_of(r: Refusal) -> Row
         Refusal::RenumberRoot => Row(72, 0, 0),
         Refusal::RenumberLength => Row(73, 0, 0),
         Refusal::RenumberRoom => Row(74, 0, 0),
+        Refusal::DifferenceRoom => Row(75, 0, 0),
+        Refusal::DifferenceGames => Row(76, 0, 0),
         Refusal::StreamSectors => Row(80, 0, 0),
         Refusal::StreamLength => Row(81, 0, 0),
         Refusal::ReasonRoom => Row(85, 0, 0),

@@ -1,0 +1,4 @@
+-- The laws of differences. Assumes nothing.
+
+pub mod Copies
+pub mod Holds

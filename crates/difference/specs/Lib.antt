@@ -1,0 +1,5 @@
+-- What changed between two maps, and what holds of it. Assumes nothing.
+
+pub mod Records
+pub mod Differences
+pub mod Promises

@@ -1,0 +1,33 @@
+-- Which records of a lump are others than those of an older one, over the size of a record (02, W-213). Assumes nothing.
+use Prim.Native.Nat.{ℕ, _/_}
+use mathlib.Core.Bool.{Bool, true, false, _&&_, _||_, not, cond}
+use mathlib.Core.List.{List, [], _∷_}
+use lib.Dec.{leb, eqb}
+use lib.ListN.{length}
+use Rattle.layout.specs.Rows.{laidOut}
+use Rattle.field.specs.Records.{recordBytes}
+use Rattle.bsp.specs.Heights.{member}
+
+-- the same bytes
+abbrev pub same : List ℕ → List ℕ → Bool
+same [] [] = true
+same [] (y ∷ ys) = false
+same (x ∷ xs) [] = false
+same (x ∷ xs) (y ∷ ys) = eqb x y && same xs ys
+
+-- how many whole records a lump has
+abbrev pub countIn : ℕ → List ℕ → ℕ
+countIn size lump = length lump / size
+
+-- record `i` of the new lump: the old one does not have it, or has another there
+abbrev pub changed : ℕ → List ℕ → List ℕ → ℕ → Bool
+changed size old new i = leb (countIn size old) i || not (same (recordBytes old size i) (recordBytes new size i))
+
+-- the numbers of all such records, ascending
+abbrev pub changes : ℕ → List ℕ → List ℕ → List ℕ
+changes size old new = laidOut (λ i. cond (changed size old new i) (i ∷ []) []) (countIn size new)
+
+-- the old lump with the records of a list copied from the new one, and of the new one's length
+abbrev pub copied : ℕ → List ℕ → List ℕ → List ℕ → List ℕ
+copied size old new list =
+    laidOut (λ i. cond (member i list) (recordBytes new size i) (recordBytes old size i)) (countIn size new)
