@@ -1,22 +1,22 @@
 -- The listed records are those that have to be copied, for every size of a record. Assumes nothing.
-use Prim.Native.Nat.{ℕ, zero, suc, _+_, _*_, _/_, _≤_, _<_}
-use mathlib.Core.Bool.{Bool, true, false, _&&_, _||_, not, cond}
+use Prim.Native.Nat.{ℕ, zero, suc, _*_, _≤_, _<_}
+use mathlib.Core.Bool.{Bool, true, false, not, cond}
 use mathlib.Core.List.{List, [], _∷_, _++_}
-use mathlib.Core.Logic.{_⊎_, inl, inr, ⊎-elim}
+use mathlib.Core.Logic.{inl, inr, ⊎-elim}
 use mathlib.Core.Path.{_≡_, refl, sym, ap, _∙_}
 use native.Mathlib.Nat.{le-of-suc-le-suc, eq-or-lt-of-le, mul-suc}
 use native.Mathlib.Omega.{arith}
 use borrow.Author.Tests.{leb-true, eqb-true, eq-eqb, not-true, not-false}
 use lib.Dec.{leb, eqb}
-use lib.ListN.{length, getD, take, drop, length-append, List·getD-append}
+use lib.ListN.{length, getD, take, length-append, List·getD-append}
 use lib.Seq.{take-add, take-all, getD-append-add}
 use Rattle.layout.specs.Rows.{laidOut}
-use Rattle.layout.proofs.LaidOut.{laid-none, laid-suc, laid-same, length-laid-suc}
+use Rattle.layout.proofs.LaidOut.{laid-none, laid-suc, laid-same}
 use Rattle.refusal.proofs.Checks.{both}
 use Rattle.field.specs.Records.{recordBytes}
 use Rattle.bsp.specs.Heights.{member}
-use Rattle.bsp.proofs.Repeats.{or-right, or-either, or-neither, member-left, member-right, member-append, member-head, member-cons, at-member}
-use Rattle.difference.specs.Records.{same, countIn, changed, changes, copied}
+use Rattle.bsp.proofs.Repeats.{or-either, or-neither, member-left, member-right, member-append, member-head, member-cons, at-member}
+use Rattle.difference.specs.Records.{same, countIn, changed, changes}
 use Rattle.difference.specs.Promises.{Copies}
 
 -- ---- the same bytes

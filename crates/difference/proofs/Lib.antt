@@ -2,3 +2,7 @@
 
 pub mod Copies
 pub mod Holds
+pub mod Comparing
+pub mod Lumps
+pub mod Accepting
+pub mod Answering

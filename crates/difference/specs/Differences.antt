@@ -1,7 +1,7 @@
 -- What is answered of two maps, and what the list and the words hold afterwards (02, W-213). Assumes nothing.
-use Prim.Native.Nat.{ℕ, suc}
+use Prim.Native.Nat.{ℕ, _+_}
 use mathlib.Core.Bool.{Bool, true, false, not}
-use mathlib.Core.List.{List, [], _∷_, _++_}
+use mathlib.Core.List.{List, [], _∷_}
 use mathlib.Core.Path.{_≡_}
 use lib.Dec.{leb}
 use lib.ListN.{length, replicate}
@@ -30,11 +30,11 @@ changesAt hexen old new place = changes (recordSize hexen place) (mapLump old pl
 
 -- those of the eight lumps of records, one after the other
 abbrev pub listed : Bool → List (List ℕ) → List (List ℕ) → List ℕ
-listed hexen old new = laidOut (λ i. changesAt hexen old new (suc i)) 8
+listed hexen old new = laidOut (λ i. changesAt hexen old new (i + 1)) 8
 
 -- how many there are of each
 abbrev pub counted : Bool → List (List ℕ) → List (List ℕ) → List ℕ
-counted hexen old new = laidOut (λ i. length (changesAt hexen old new (suc i)) ∷ []) 8
+counted hexen old new = laidOut (λ i. length (changesAt hexen old new (i + 1)) ∷ []) 8
 
 -- ---- two files
 

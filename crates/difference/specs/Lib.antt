@@ -2,4 +2,5 @@
 
 pub mod Records
 pub mod Differences
+pub mod Inner
 pub mod Promises

@@ -1,6 +1,6 @@
 -- What holds of the numbers that are listed (02, W-213): said once, over the size of a record, and of the eight lumps of any two accepted
 -- maps of one game. Assumes nothing.
-use Prim.Native.Nat.{ℕ, _*_, _≤_, _<_}
+use Prim.Native.Nat.{ℕ, _≤_, _<_}
 use mathlib.Core.Bool.{true}
 use mathlib.Core.List.{List}
 use mathlib.Core.Logic.{_⊎_}

@@ -23,9 +23,13 @@ countIn size lump = length lump / size
 abbrev pub changed : ℕ → List ℕ → List ℕ → ℕ → Bool
 changed size old new i = leb (countIn size old) i || not (same (recordBytes old size i) (recordBytes new size i))
 
--- the numbers of all such records, ascending
+-- the numbers of such records below `n`, ascending
+abbrev pub changesBelow : ℕ → List ℕ → List ℕ → ℕ → List ℕ
+changesBelow size old new n = laidOut (λ i. cond (changed size old new i) (i ∷ []) []) n
+
+-- those of all records of the new lump
 abbrev pub changes : ℕ → List ℕ → List ℕ → List ℕ
-changes size old new = laidOut (λ i. cond (changed size old new i) (i ∷ []) []) (countIn size new)
+changes size old new = changesBelow size old new (countIn size new)
 
 -- the old lump with the records of a list copied from the new one, and of the new one's length
 abbrev pub copied : ℕ → List ℕ → List ℕ → List ℕ → List ℕ
