@@ -6,3 +6,4 @@ pub mod Comparing
 pub mod Lumps
 pub mod Accepting
 pub mod Answering
+pub mod Examples

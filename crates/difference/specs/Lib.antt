@@ -4,3 +4,4 @@ pub mod Records
 pub mod Differences
 pub mod Inner
 pub mod Promises
+pub mod Examples
