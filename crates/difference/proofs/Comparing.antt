@@ -1,17 +1,19 @@
--- Bytes compared one after the other, and changed records counted and listed one after the other. Assumes nothing.
+-- Bytes, records and blocks of records compared. Assumes nothing.
 use Prim.Native.Nat.{ℕ, zero, suc, _+_, _-_, _*_, _≤_, _<_}
-use mathlib.Core.Bool.{Bool, true, false, _&&_, cond}
+use mathlib.Core.Bool.{Bool, true, false, _&&_, _||_, not, cond}
 use mathlib.Core.List.{List, [], _∷_}
-use mathlib.Core.Path.{_≡_, refl, sym, ap, _∙_}
-use native.Mathlib.Nat.{le-trans, div-add-mod, mul-le-mul-left, mul-suc}
+use mathlib.Core.Path.{_≡_, refl, ap}
+use native.Mathlib.Nat.{le-trans, div-add-mod, mul-le-mul-left, mul-suc, mul-add}
 use native.Mathlib.Numerals.{add-one}
 use native.Mathlib.Omega.{arith}
+use borrow.Author.Tests.{eq-eqb, lt-leb}
 use lib.Dec.{eqb}
-use lib.ListN.{length, getD, take, drop, length-append}
-use lib.Seq.{sets, drop-cons}
-use Rattle.layout.proofs.LaidOut.{laid-none, laid-more, length-laid-suc, length-laid-le}
-use Rattle.layout.proofs.Stores.{sets-append}
+use lib.ListN.{length, getD, take, drop}
+use lib.Seq.{drop-cons}
+use Rattle.layout.proofs.LaidOut.{length-laid-le}
 use Rattle.difference.specs.Records.{same, countIn, changed, changesBelow, changes}
+use Rattle.difference.specs.Inner.{SameAt, NoneChanged, changesFrom}
+use Rattle.difference.proofs.Laying.{laid-empty}
 
 -- ---- the bytes of a record
 
@@ -30,45 +32,62 @@ record-inside size lump i h =
     let most : size * countIn size lump ≤ length lump = omega (arith, div-add-mod (length lump) size) in
     rw (← mul-suc size i) (le-trans all most)
 
+-- and so do the records from `i` on
+pub block-inside : (size : ℕ) (lump : List ℕ) (i n : ℕ) → i + n ≤ countIn size lump → size * i + size * n ≤ length lump
+block-inside size lump i n h =
+    let all : size * (i + n) ≤ size * countIn size lump = mul-le-mul-left size h in
+    let most : size * countIn size lump ≤ length lump = omega (arith, div-add-mod (length lump) size) in
+    rw (← mul-add size i n) (le-trans all most)
+
+-- ---- a run of bytes
+
+same-bytes : (old new : List ℕ) (n at : ℕ) → at + n ≤ length old → at + n ≤ length new → SameAt old new at n
+    → same (take n (drop at old)) (take n (drop at new)) ≡ true
+same-bytes old new zero at h k s = refl
+same-bytes old new (suc n) at h k s =
+    let here : at + 0 ≡ at = omega arith in
+    let byte : getD old at 0 ≡ getD new at 0 = rw here at (s 0 (omega arith)) in
+    let rest = same-bytes old new n (suc at) (omega arith) (omega arith)
+    (λ (j : ℕ) (l : j < n). let next : at + suc j ≡ suc at + j = omega arith in rw next at (s (suc j) (omega arith))) in
+    rw (drop-cons old at 0 (omega arith), drop-cons new at 0 (omega arith), eq-eqb (getD old at 0) (getD new at 0) byte) rest
+
+-- the records of a run are not changed
+pub run-same : (size : ℕ) (old new : List ℕ) (i n : ℕ) → i + n ≤ countIn size old → i + n ≤ countIn size new
+    → SameAt old new (size * i) (size * n) → NoneChanged size old new i n
+run-same size old new i n h k s j l =
+    let there : i + j < countIn size old = omega arith in
+    let sum : size * (i + j) ≡ size * i + size * j = mul-add size i j in
+    let last : size * suc j ≤ size * n = mul-le-mul-left size l in
+    let one : size * suc j ≡ size * j + size = mul-suc size j in
+    let alike : SameAt old new (size * (i + j)) size =
+    λ (m : ℕ) (low : m < size).
+    let at : size * (i + j) + m ≡ size * i + (size * j + m) = omega (arith, sum) in
+    rw at (s (size * j + m) (omega (arith, last, one, low))) in
+    let bytes = same-bytes old new size (size * (i + j)) (record-inside size old (i + j) there) (record-inside size new (i + j) (omega arith)) alike in
+    λ t. lt-leb (countIn size old) (i + j) there t || not (bytes t)
+
 -- ---- the numbers of the changed records
 
-length-one : (b : Bool) (n : ℕ) → length (cond b (n ∷ []) []) ≡ cond b 1 0
+one-most : (b : Bool) (n : ℕ) → length (cond b (n ∷ []) []) ≤ 1
+one-most true n = omega arith
+one-most false n = omega arith
+
+pub length-one : (b : Bool) (n : ℕ) → length (cond b (n ∷ []) []) ≡ cond b 1 0
 length-one true n = refl
 length-one false n = refl
-
-one-most : (b : Bool) → cond b 1 0 ≤ 1
-one-most true = omega arith
-one-most false = omega arith
 
 module _ (size : ℕ) (old new : List ℕ) where
   -- what one record adds
   abbrev pub numberOf : ℕ → List ℕ
   numberOf i = cond (changed size old new i) (i ∷ []) []
 
-  -- one record more
-  pub below-number : (n : ℕ) → length (changesBelow size old new (n + 1)) ≡ length (changesBelow size old new n) + length (numberOf n)
-  below-number n = ap length (laid-more numberOf n) ∙ length-append (changesBelow size old new n) (numberOf n)
-
-  pub below-more : (n : ℕ) → length (changesBelow size old new (n + 1)) ≡ length (changesBelow size old new n) + cond (changed size old new n) 1 0
-  below-more n =
-      below-number n
-      ∙ ap (λ (k : ℕ). length (changesBelow size old new n) + k) (length-one (changed size old new n) n)
-
-  pub below-le : (n : ℕ) → length (changesBelow size old new n) ≤ n
-  below-le zero = omega (arith, ap length (laid-none numberOf))
-  below-le (suc n) =
-      let k = below-le n in
-      let one = length-one (changed size old new n) n in
-      omega (arith, length-laid-suc numberOf n, one, one-most (changed size old new n))
+  pub number-few : (i : ℕ) → length (numberOf i) ≤ 1
+  number-few i = one-most (changed size old new i) i
 
   -- those of some records are no more than those of all
   pub below-all : (i : ℕ) → i ≤ countIn size new → length (changesBelow size old new i) ≤ length (changes size old new)
   below-all i h = length-laid-le numberOf i (countIn size new) h
 
-  pub sets-none : (list : List ℕ) (at : ℕ) → list ≡ sets list at (changesBelow size old new 0)
-  sets-none list at = ap (sets list at) (sym (laid-none numberOf))
-
-  pub sets-more : (list : List ℕ) (at to n : ℕ) → to ≡ at + length (changesBelow size old new n)
-      → sets (sets list at (changesBelow size old new n)) to (numberOf n) ≡ sets list at (changesBelow size old new (n + 1))
-  sets-more list at to n e =
-      rw e (sets-append list at (changesBelow size old new n) (numberOf n) ∙ ap (sets list at) (sym (laid-more numberOf n)))
+  -- nothing of a block without a change
+  pub from-none : (i n : ℕ) → NoneChanged size old new i n → changesFrom size old new i n ≡ []
+  from-none i n h = laid-empty (λ j. numberOf (i + j)) n (λ j l. ap (λ (b : Bool). cond b ((i + j) ∷ []) []) (h j l))

@@ -2,6 +2,7 @@
 
 pub mod Copies
 pub mod Holds
+pub mod Laying
 pub mod Comparing
 pub mod Lumps
 pub mod Accepting

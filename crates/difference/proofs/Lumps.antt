@@ -3,11 +3,11 @@ use Prim.Native.Nat.{ℕ, _+_}
 use mathlib.Core.List.{List, [], _∷_}
 use mathlib.Core.Path.{_≡_, refl, sym, ap, _∙_}
 use native.Mathlib.Omega.{arith}
-use lib.ListN.{length, getD, set, replicate, length-append}
+use lib.ListN.{length, getD, set, replicate}
 use lib.Seq.{sets}
 use Rattle.layout.specs.Rows.{sumOf, laidOut}
-use Rattle.layout.proofs.LaidOut.{laid-none, laid-more, length-laid, length-parts}
-use Rattle.layout.proofs.Stores.{sets-append, sets-push}
+use Rattle.layout.proofs.LaidOut.{laid-more, length-laid, length-parts}
+use Rattle.layout.proofs.Stores.{sets-push}
 
 -- ---- a number for each
 
@@ -32,17 +32,6 @@ module _ (g : ℕ → ℕ) where
 -- ---- a list for each
 
 module _ (f : ℕ → List ℕ) where
-  pub lists-none : (l : List ℕ) → l ≡ sets l 0 (laidOut f 0)
-  lists-none l = ap (sets l 0) (sym (laid-none f))
-
-  pub length-more : (n : ℕ) → length (laidOut f (n + 1)) ≡ length (laidOut f n) + length (f n)
-  length-more n = ap length (laid-more f n) ∙ length-append (laidOut f n) (f n)
-
-  pub lists-more : (l : List ℕ) (to n : ℕ) → to ≡ length (laidOut f n) → sets (sets l 0 (laidOut f n)) to (f n) ≡ sets l 0 (laidOut f (n + 1))
-  lists-more l to n e =
-      let first : to ≡ 0 + length (laidOut f n) = omega arith in
-      rw first (sets-append l 0 (laidOut f n) (f n) ∙ ap (sets l 0) (sym (laid-more f n)))
-
   -- the list is as long as the counts' sum
   pub length-eight : length (laidOut f 8) ≡ sumOf (λ i. length (f i)) 8
   length-eight = length-laid f (λ i. length (f i)) 8 (λ i h. refl)

@@ -1,5 +1,6 @@
 // What changed between two maps (W-213): the numbers of the records that the new one has otherwise, lump by lump. The definitions are in
 // specs/.
+mod blocks;
 mod places;
 mod records;
 

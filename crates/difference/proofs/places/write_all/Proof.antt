@@ -10,7 +10,7 @@ use lib.Seq.{sets, length-sets}
 use Rattle.layout.specs.Rows.{laidOut}
 use Rattle.layout.proofs.LaidOut.{laid-none, length-laid-le}
 use Rattle.difference.specs.Differences.{lumpsIn, changesAt}
-use Rattle.difference.proofs.Lumps.{lists-none, length-more, lists-more}
+use Rattle.difference.proofs.Laying.{stores-none, length-more, stores-more}
 use Rattle.difference.proofs.places.write_all.Statement.{statement}
 use Rattle.difference.proofs.places.write_all.Tie as tie
 
@@ -27,7 +27,7 @@ loop-holds : tie.Need-loop-holds Inv-loop μ-loop
 loop-holds c =
     let a = c .before .before .before .args in
     let f : ℕ → List ℕ = λ i. changesAt (a .hexen) (lumpsIn (now (a .old-wad)) (a .old)) (lumpsIn (now (a .new-wad)) (a .new)) (i + 1) in
-    (search needs, sym (ap length (laid-none f)), lists-none f (now (a .list)))
+    (search needs, sym (ap length (laid-none f)), stores-none f (now (a .list)) 0)
 
 write-place-requires : tie.Need-write-place-requires Inv-loop μ-loop
 write-place-requires c κs =
@@ -52,7 +52,7 @@ loop-again c =
     let wrote = w .write-place .ensures in (
       search needs,
       omega (arith, wrote .0, l .inv .1, length-more f (l .i)),
-      wrote .1 ∙ ap (λ (xs : List ℕ). sets xs (l .to) (f (l .i))) (l .inv .2) ∙ lists-more f (now (a .list)) (l .to) (l .i) (l .inv .1),
+      wrote .1 ∙ ap (λ (xs : List ℕ). sets xs (l .to) (f (l .i))) (l .inv .2) ∙ stores-more f (now (a .list)) 0 (l .to) (l .i) (omega (arith, l .inv .1)),
     )
 
 same-length : tie.Need-same-length Inv-loop μ-loop
