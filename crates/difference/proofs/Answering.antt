@@ -19,7 +19,7 @@ use Rattle.level.specs.declared.Verdict.{Verdict}
 use Rattle.level.specs.declared.Verdict.the-variants.{Accepted, Refused as NotAccepted}
 use Rattle.level.specs.Verdict.{verdict, wordsAfter}
 use Rattle.difference.specs.declared.Differences.{Differences}
-use Rattle.difference.specs.Differences.{changesAt, listed, counted, gameIn, lumpsIn, sameGame, listOf, pairCheck, neither, oldFile, newFile, refusedIn, pairAnswer, answerBy, listBy, wordsThenBy, Differ}
+use Rattle.difference.specs.Differences.{changesAt, changesIn, changeCounts, gameIn, lumpsIn, sameGame, changeList, pairCheck, neither, oldFile, newFile, refusedIn, pairAnswer, differencesBy, listBy, wordsThenBy, Differ}
 use Rattle.difference.specs.Inner.{Compared, Then}
 use Rattle.difference.proofs.Lumps.{sum-eight, length-eight}
 
@@ -28,7 +28,7 @@ same-game true b e = sym e
 same-game false b e = sym (not-true b e)
 
 -- the counts' sum is the list's length
-pub counted-sum : (hexen : Bool) (old new : List (List ℕ)) → sumOf (λ i. getD (counted hexen old new) i 0) 8 ≡ length (listed hexen old new)
+pub counted-sum : (hexen : Bool) (old new : List (List ℕ)) → sumOf (λ i. getD (changeCounts hexen old new) i 0) 8 ≡ length (changesIn hexen old new)
 counted-sum hexen old new =
     sum-eight (λ i. length (changesAt hexen old new (i + 1))) ∙ sym (length-eight (λ i. changesAt hexen old new (i + 1)))
 
@@ -37,12 +37,12 @@ module _ (oldWad : List ℕ) (old : ℕ) (newWad : List ℕ) (new : ℕ) (list :
   games = sameGame (gameIn oldWad old) (gameIn newWad new)
 
   abbrev pub written : List ℕ
-  written = listOf oldWad old newWad new
+  written = changeList oldWad old newWad new
 
   refused : {answer : Differences} {r : Refusal} → pairCheck oldWad old newWad new (length list) ≡ Refused r → answer ≡ refusedIn neither (Refused r)
       → Compared oldWad old newWad new list answer list
   refused e a =
-      let counts = counted (gameIn oldWad old) (lumpsIn oldWad old) (lumpsIn newWad new) in
+      let counts = changeCounts (gameIn oldWad old) (lumpsIn oldWad old) (lumpsIn newWad new) in
       record {
         answers = a ∙ ap (λ (c : Check). pairAnswer c counts) (sym e);
         lists = ap (λ (c : Check). bufferAfter c written list) (sym e);
@@ -57,10 +57,10 @@ module _ (oldWad : List ℕ) (old : ℕ) (newWad : List ℕ) (new : ℕ) (list :
   no-room e q a = refused (λ i. unless (e i) DifferenceGames andThen unless (q i) DifferenceRoom) a
 
   pub all-listed : {answer : Differences} {listThen : List ℕ} → games ≡ true → leb (length written) (length list) ≡ true → length written ≤ length list
-      → answer ≡ record { check = Pass; file = neither; counts = counted (gameIn oldWad old) (lumpsIn oldWad old) (lumpsIn newWad new) }
+      → answer ≡ record { check = Pass; file = neither; counts = changeCounts (gameIn oldWad old) (lumpsIn oldWad old) (lumpsIn newWad new) }
       → listThen ≡ sets list 0 written → Compared oldWad old newWad new list answer listThen
   all-listed e q room a l =
-      let counts = counted (gameIn oldWad old) (lumpsIn oldWad old) (lumpsIn newWad new) in
+      let counts = changeCounts (gameIn oldWad old) (lumpsIn oldWad old) (lumpsIn newWad new) in
       let check : pairCheck oldWad old newWad new (length list) ≡ Pass = λ i. unless (e i) DifferenceGames andThen unless (q i) DifferenceRoom in
       let first : 0 + length written ≡ length written = omega arith in
       record {
@@ -77,7 +77,7 @@ module _ (oldWad : List ℕ) (depth old : ℕ) (newWad newName words list : List
       → answer ≡ refusedIn newFile (Refused r) → Then oldWad depth old newWad newName words list answer wordsThen list
   then-refused e w a =
       record {
-        answers = a ∙ ap (λ (v : Verdict). answerBy (Accepted depth old) v oldWad newWad (length list)) (sym e);
+        answers = a ∙ ap (λ (v : Verdict). differencesBy (Accepted depth old) v oldWad newWad (length list)) (sym e);
         leaves = w;
         lists = ap (λ (v : Verdict). listBy (Accepted depth old) v oldWad newWad list) (sym e);
       }
@@ -86,7 +86,7 @@ module _ (oldWad : List ℕ) (depth old : ℕ) (newWad newName words list : List
       → Compared oldWad old newWad new list answer listThen → Then oldWad depth old newWad newName words list answer wordsThen listThen
   then-compared e w c =
       record {
-        answers = c .answers ∙ ap (λ (v : Verdict). answerBy (Accepted depth old) v oldWad newWad (length list)) (sym e);
+        answers = c .answers ∙ ap (λ (v : Verdict). differencesBy (Accepted depth old) v oldWad newWad (length list)) (sym e);
         leaves = w;
         lists = c .lists ∙ ap (λ (v : Verdict). listBy (Accepted depth old) v oldWad newWad list) (sym e);
       }
@@ -99,7 +99,7 @@ module _ (oldWad oldName newWad newName words list : List ℕ) where
       → answer ≡ refusedIn oldFile (Refused r) → Differ oldWad oldName newWad newName words list answer wordsThen list
   old-refused e w a =
       record {
-        answers = a ∙ ap (λ (v : Verdict). answerBy v newVerdict oldWad newWad (length list)) (sym e);
+        answers = a ∙ ap (λ (v : Verdict). differencesBy v newVerdict oldWad newWad (length list)) (sym e);
         leaves = w ∙ ap (λ (v : Verdict). wordsThenBy v newWad newName (wordsAfter oldWad oldName words)) (sym e);
         lists = ap (λ (v : Verdict). listBy v newVerdict oldWad newWad list) (sym e);
       }
@@ -110,8 +110,8 @@ module _ (oldWad oldName newWad newName words list : List ℕ) where
   old-accepted depth old middle e w t =
       record {
         answers =
-            t .answers ∙ ap (λ (ws : List ℕ). answerBy (Accepted depth old) (verdict newWad newName ws) oldWad newWad (length list)) w
-            ∙ ap (λ (v : Verdict). answerBy v newVerdict oldWad newWad (length list)) (sym e);
+            t .answers ∙ ap (λ (ws : List ℕ). differencesBy (Accepted depth old) (verdict newWad newName ws) oldWad newWad (length list)) w
+            ∙ ap (λ (v : Verdict). differencesBy v newVerdict oldWad newWad (length list)) (sym e);
         leaves =
             t .leaves ∙ ap (wordsAfter newWad newName) w
             ∙ ap (λ (v : Verdict). wordsThenBy v newWad newName (wordsAfter oldWad oldName words)) (sym e);

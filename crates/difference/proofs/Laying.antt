@@ -26,8 +26,8 @@ module _ (f : ℕ → List ℕ) where
 
   pub laid-split : (i k : ℕ) → laidOut f (i + k) ≡ laidOut f i ++ laidOut (λ j. f (i + j)) k
   laid-split i zero =
-      let same : i + 0 ≡ i = omega arith in
-      ap (laidOut f) same ∙ sym (append-nil (laidOut f i)) ∙ ap (λ (xs : List ℕ). laidOut f i ++ xs) (sym (laid-none (λ j. f (i + j))))
+      let none : i + 0 ≡ i = omega arith in
+      ap (laidOut f) none ∙ sym (append-nil (laidOut f i)) ∙ ap (λ (xs : List ℕ). laidOut f i ++ xs) (sym (laid-none (λ j. f (i + j))))
   laid-split i (suc k) =
       let next : i + suc k ≡ suc (i + k) = omega arith in
       ap (laidOut f) next

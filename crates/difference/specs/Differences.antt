@@ -29,12 +29,12 @@ abbrev pub changesAt : Bool → List (List ℕ) → List (List ℕ) → ℕ → 
 changesAt hexen old new place = changes (recordSize hexen place) (mapLump old place) (mapLump new place)
 
 -- those of the eight lumps of records, one after the other
-abbrev pub listed : Bool → List (List ℕ) → List (List ℕ) → List ℕ
-listed hexen old new = laidOut (λ i. changesAt hexen old new (i + 1)) 8
+abbrev pub changesIn : Bool → List (List ℕ) → List (List ℕ) → List ℕ
+changesIn hexen old new = laidOut (λ i. changesAt hexen old new (i + 1)) 8
 
 -- how many there are of each
-abbrev pub counted : Bool → List (List ℕ) → List (List ℕ) → List ℕ
-counted hexen old new = laidOut (λ i. length (changesAt hexen old new (i + 1)) ∷ []) 8
+abbrev pub changeCounts : Bool → List (List ℕ) → List (List ℕ) → List ℕ
+changeCounts hexen old new = laidOut (λ i. length (changesAt hexen old new (i + 1)) ∷ []) 8
 
 -- ---- two files
 
@@ -50,14 +50,14 @@ sameGame true hexen = hexen
 sameGame false hexen = not hexen
 
 -- the list of two maps by their markers
-abbrev pub listOf : List ℕ → ℕ → List ℕ → ℕ → List ℕ
-listOf oldWad old newWad new = listed (gameIn oldWad old) (lumpsIn oldWad old) (lumpsIn newWad new)
+abbrev pub changeList : List ℕ → ℕ → List ℕ → ℕ → List ℕ
+changeList oldWad old newWad new = changesIn (gameIn oldWad old) (lumpsIn oldWad old) (lumpsIn newWad new)
 
 -- 76, then 75, by the room in the list
 abbrev pub pairCheck : List ℕ → ℕ → List ℕ → ℕ → ℕ → Check
 pairCheck oldWad old newWad new room =
     unless (sameGame (gameIn oldWad old) (gameIn newWad new)) DifferenceGames
-    andThen unless (leb (length (listOf oldWad old newWad new)) room) DifferenceRoom
+    andThen unless (leb (length (changeList oldWad old newWad new)) room) DifferenceRoom
 
 -- the files by number; 0 is neither
 abbrev pub neither : ℕ
@@ -77,17 +77,17 @@ pairAnswer Pass counts = record { check = Pass; file = neither; counts = counts 
 pairAnswer (Refused r) counts = refusedIn neither (Refused r)
 
 -- the old map's refusal, then the new one's, then those of both
-abbrev pub answerBy : Verdict → Verdict → List ℕ → List ℕ → ℕ → Differences
-answerBy (NotAccepted r) v oldWad newWad room = refusedIn oldFile (Refused r)
-answerBy (Accepted d old) (NotAccepted r) oldWad newWad room = refusedIn newFile (Refused r)
-answerBy (Accepted d old) (Accepted e new) oldWad newWad room =
-    pairAnswer (pairCheck oldWad old newWad new room) (counted (gameIn oldWad old) (lumpsIn oldWad old) (lumpsIn newWad new))
+abbrev pub differencesBy : Verdict → Verdict → List ℕ → List ℕ → ℕ → Differences
+differencesBy (NotAccepted r) v oldWad newWad room = refusedIn oldFile (Refused r)
+differencesBy (Accepted d old) (NotAccepted r) oldWad newWad room = refusedIn newFile (Refused r)
+differencesBy (Accepted d old) (Accepted e new) oldWad newWad room =
+    pairAnswer (pairCheck oldWad old newWad new room) (changeCounts (gameIn oldWad old) (lumpsIn oldWad old) (lumpsIn newWad new))
 
 abbrev pub listBy : Verdict → Verdict → List ℕ → List ℕ → List ℕ → List ℕ
 listBy (NotAccepted r) v oldWad newWad list = list
 listBy (Accepted d old) (NotAccepted r) oldWad newWad list = list
 listBy (Accepted d old) (Accepted e new) oldWad newWad list =
-    bufferAfter (pairCheck oldWad old newWad new (length list)) (listOf oldWad old newWad new) list
+    bufferAfter (pairCheck oldWad old newWad new (length list)) (changeList oldWad old newWad new) list
 
 -- the new map is looked at where the old one is accepted
 abbrev pub wordsThenBy : Verdict → List ℕ → List ℕ → List ℕ → List ℕ
@@ -97,7 +97,7 @@ wordsThenBy (Accepted d old) newWad newName words = wordsAfter newWad newName wo
 -- what is promised: the answer, the words as the two checks leave them, one after the other, and the list
 pub record Differ (oldWad oldName newWad newName words list : List ℕ) (answer : Differences) (wordsThen listThen : List ℕ) : Type 0 where
   pub answers : answer
-      ≡ answerBy (verdict oldWad oldName words) (verdict newWad newName (wordsAfter oldWad oldName words)) oldWad newWad (length list)
+      ≡ differencesBy (verdict oldWad oldName words) (verdict newWad newName (wordsAfter oldWad oldName words)) oldWad newWad (length list)
   pub leaves : wordsThen ≡ wordsThenBy (verdict oldWad oldName words) newWad newName (wordsAfter oldWad oldName words)
   pub lists : listThen
       ≡ listBy (verdict oldWad oldName words) (verdict newWad newName (wordsAfter oldWad oldName words)) oldWad newWad list

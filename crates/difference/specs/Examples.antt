@@ -5,7 +5,7 @@ use mathlib.Core.List.{List, [], _∷_, _++_}
 use mathlib.Core.Path.{_≡_}
 use lib.ListN.{replicate}
 use Rattle.difference.specs.Records.{changes, copied}
-use Rattle.difference.specs.Differences.{listed, counted}
+use Rattle.difference.specs.Differences.{changesIn, changeCounts}
 
 -- two records of four bytes, as VERTEXES has them
 abbrev pub first : List ℕ
@@ -45,7 +45,7 @@ pub record Examples : Type 0 where
   pub copies : copied 4 (first ++ second) (second ++ moved ++ first) (0 ∷ 1 ∷ 2 ∷ []) ≡ second ++ moved ++ first
   pub leftOut : copied 4 (first ++ second) (second ++ moved) (0 ∷ []) ≡ second ++ second
   -- the lumps one after the other, by the sizes of the game: two things of Doom are one of Hexen
-  pub listOfMap : listed false old new ≡ 1 ∷ 1 ∷ []
-  pub countsOfMap : counted false old new ≡ 0 ∷ 0 ∷ 0 ∷ 1 ∷ 0 ∷ 0 ∷ 0 ∷ 1 ∷ []
-  pub doomThings : counted false old (lumpsOf (replicate 20 2) [] []) ≡ 2 ∷ 0 ∷ 0 ∷ 0 ∷ 0 ∷ 0 ∷ 0 ∷ 0 ∷ []
-  pub hexenThings : counted true old (lumpsOf (replicate 20 2) [] []) ≡ 1 ∷ 0 ∷ 0 ∷ 0 ∷ 0 ∷ 0 ∷ 0 ∷ 0 ∷ []
+  pub listOfMap : changesIn false old new ≡ 1 ∷ 1 ∷ []
+  pub countsOfMap : changeCounts false old new ≡ 0 ∷ 0 ∷ 0 ∷ 1 ∷ 0 ∷ 0 ∷ 0 ∷ 1 ∷ []
+  pub doomThings : changeCounts false old (lumpsOf (replicate 20 2) [] []) ≡ 2 ∷ 0 ∷ 0 ∷ 0 ∷ 0 ∷ 0 ∷ 0 ∷ 0 ∷ []
+  pub hexenThings : changeCounts true old (lumpsOf (replicate 20 2) [] []) ≡ 1 ∷ 0 ∷ 0 ∷ 0 ∷ 0 ∷ 0 ∷ 0 ∷ 0 ∷ []

@@ -15,7 +15,7 @@ use Rattle.level.specs.declared.Verdict.the-variants.{Accepted}
 use Rattle.level.specs.Verdict.{verdict, wordsAfter}
 use Rattle.difference.specs.declared.Differences.{Differences}
 use Rattle.difference.specs.Records.{countIn, changed}
-use Rattle.difference.specs.Differences.{gameIn, lumpsIn, listOf, counted, pairCheck, pairAnswer, answerBy, listBy}
+use Rattle.difference.specs.Differences.{gameIn, lumpsIn, changeList, changeCounts, pairCheck, pairAnswer, differencesBy, listBy}
 
 -- the same `n` bytes from `from` on
 abbrev pub SameAt : List ℕ → List ℕ → ℕ → ℕ → Type 0
@@ -41,11 +41,11 @@ Numbered hexen lumps = (place : ℕ) → 1 ≤ place → place ≤ 8 → countIn
 -- what is answered of two accepted maps by their markers
 pub record Compared (oldWad : List ℕ) (old : ℕ) (newWad : List ℕ) (new : ℕ) (list : List ℕ) (answer : Differences) (listThen : List ℕ) : Type 0 where
   pub answers : answer
-      ≡ pairAnswer (pairCheck oldWad old newWad new (length list)) (counted (gameIn oldWad old) (lumpsIn oldWad old) (lumpsIn newWad new))
-  pub lists : listThen ≡ bufferAfter (pairCheck oldWad old newWad new (length list)) (listOf oldWad old newWad new) list
+      ≡ pairAnswer (pairCheck oldWad old newWad new (length list)) (changeCounts (gameIn oldWad old) (lumpsIn oldWad old) (lumpsIn newWad new))
+  pub lists : listThen ≡ bufferAfter (pairCheck oldWad old newWad new (length list)) (changeList oldWad old newWad new) list
 
 -- what is answered where the old map is accepted
 pub record Then (oldWad : List ℕ) (depth old : ℕ) (newWad newName words list : List ℕ) (answer : Differences) (wordsThen listThen : List ℕ) : Type 0 where
-  pub answers : answer ≡ answerBy (Accepted depth old) (verdict newWad newName words) oldWad newWad (length list)
+  pub answers : answer ≡ differencesBy (Accepted depth old) (verdict newWad newName words) oldWad newWad (length list)
   pub leaves : wordsThen ≡ wordsAfter newWad newName words
   pub lists : listThen ≡ listBy (Accepted depth old) (verdict newWad newName words) oldWad newWad list

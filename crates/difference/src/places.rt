@@ -6,7 +6,7 @@ ghost use lib.ListN.{length, getD};
 ghost use lib.Seq.{sets};
 ghost use Rattle.layout.specs.Rows.{sumOf};
 ghost use Rattle.lump.specs.Lumps.{mapLump};
-ghost use Rattle.difference.specs.Differences.{lumpsIn, changesAt, listed, counted};
+ghost use Rattle.difference.specs.Differences.{lumpsIn, changesAt, changesIn, changeCounts};
 ghost use Rattle.difference.specs.Inner.{MapIn, Numbered};
 use crate::blocks::count_changes;
 use crate::blocks::write_changes;
@@ -41,7 +41,7 @@ fn count_place(
 // How many records of each are listed.
 pub fn count_all(hexen: bool, old_wad: &[u8], old: usize, new_wad: &[u8], new: usize) -> [usize; 8]
     requires { ⌜ MapIn (now «old_wad») old × MapIn (now «new_wad») new ⌝ }
-    ensures { λ r. ⌜ r ≡ counted hexen (lumpsIn (now («old_wad» .entry)) old) (lumpsIn (now («new_wad» .entry)) new) ⌝ }
+    ensures { λ r. ⌜ r ≡ changeCounts hexen (lumpsIn (now («old_wad» .entry)) old) (lumpsIn (now («new_wad» .entry)) new) ⌝ }
 {
     let mut counts = [0; 8];
     for i in 0..8 {
@@ -99,8 +99,8 @@ pub fn write_all(
     list: &mut [u16],
 )
     requires { ⌜ MapIn (now «old_wad») old × MapIn (now «new_wad») new × Numbered hexen (lumpsIn (now «new_wad») new) ⌝ }
-    requires { ⌜ length (listed hexen (lumpsIn (now «old_wad») old) (lumpsIn (now «new_wad») new)) ≤ length (now list) ⌝ }
-    ensures { λ _. ⌜ now (list .exit) ≡ sets (now (list .entry)) 0 (listed hexen (lumpsIn (now («old_wad» .entry)) old) (lumpsIn (now («new_wad» .entry)) new)) ⌝ }
+    requires { ⌜ length (changesIn hexen (lumpsIn (now «old_wad») old) (lumpsIn (now «new_wad») new)) ≤ length (now list) ⌝ }
+    ensures { λ _. ⌜ now (list .exit) ≡ sets (now (list .entry)) 0 (changesIn hexen (lumpsIn (now («old_wad» .entry)) old) (lumpsIn (now («new_wad» .entry)) new)) ⌝ }
 {
     let mut to: usize = 0;
     for i in 0..8 {

@@ -6,7 +6,7 @@ use mathlib.Core.Path.{_≡_}
 use lib.ListN.{length}
 use Rattle.level.specs.Verdict.{verdict, wordsAfter}
 use Rattle.difference.specs.declared.Differences.{Differences}
-use Rattle.difference.specs.Differences.{answerBy, wordsThenBy, listBy}
+use Rattle.difference.specs.Differences.{differencesBy, wordsThenBy, listBy}
 use Rattle.export_differences.specs.declared.DifferencesAnswer.{DifferencesAnswer}
 use Rattle.status.specs.Status.{statusOf}
 
@@ -17,7 +17,7 @@ differencesOut found = record { status = statusOf (found .check); file = found .
 -- the answer, the words and the list afterwards
 pub record DifferencesGiven (oldWad oldName newWad newName words list : List ℕ) (answer : DifferencesAnswer) (wordsThen listThen : List ℕ) : Type 0 where
   pub answers : answer
-      ≡ differencesOut (answerBy (verdict oldWad oldName words) (verdict newWad newName (wordsAfter oldWad oldName words)) oldWad newWad (length list))
+      ≡ differencesOut (differencesBy (verdict oldWad oldName words) (verdict newWad newName (wordsAfter oldWad oldName words)) oldWad newWad (length list))
   pub leaves : wordsThen ≡ wordsThenBy (verdict oldWad oldName words) newWad newName (wordsAfter oldWad oldName words)
   pub lists : listThen
       ≡ listBy (verdict oldWad oldName words) (verdict newWad newName (wordsAfter oldWad oldName words)) oldWad newWad list

@@ -25,7 +25,7 @@ use Rattle.bsp.proofs.Shared.{words-end}
 use Rattle.bsp.proofs.Verdict.{verdict-none}
 use Rattle.graph.specs.Inner.Searching.{Searchable}
 use Rattle.renumber.specs.declared.Renumbering.{Renumbering}
-use Rattle.renumber.specs.Orders.{lengthOk, onceOk, rootOk, childrenOk, orderCheck}
+use Rattle.renumber.specs.Orders.{manyOk, onceOk, rootOk, childrenOk, renumberCheck}
 use Rattle.renumber.specs.Renumbering.{renumbered, newNode, renumberingOf}
 use Rattle.renumber.specs.Inner.{markedOk, markedBelow, Marks, allMarked, PlacesHeld, Emptied, Filled, Ordered, lateCheck, OrderJudged, GraphJudged, graphCheck, nodesCheck, NodesRenumbered, Writable}
 use Rattle.renumber.proofs.Members.{same-test}
@@ -58,7 +58,7 @@ module _ (nodes : List ℕ) (count : ℕ) (words order : List ℕ) (room : ℕ) 
     pub held-none : PlacesHeld order 0 empty count
     held-none v l = e .places v l ∙ sym (placed-none order v)
 
-    length-passes : unless (lengthOk nodes order) RenumberLength ≡ Pass
+    length-passes : unless (manyOk nodes order) RenumberLength ≡ Pass
     length-passes =
         ap (λ (b : Bool). unless b RenumberLength)
         (eq-eqb (length order) (length (reachedNodes nodes)) (long ∙ marks-many nodes count words m))
@@ -126,7 +126,7 @@ module _ (nodes : List ℕ) (count : ℕ) (order : List ℕ) (room : ℕ) where
       → OrderJudged nodes count order room last a → GraphJudged nodes count order room last a
   judged-order e j = record { tells = j .tells ∙ by-graph e; ordered = j .ordered }
 
-  graph-passes : (graph : Graph) → graphCheck graph nodes order room ≡ Pass → orderCheck nodes order room ≡ Pass
+  graph-passes : (graph : Graph) → graphCheck graph nodes order room ≡ Pass → renumberCheck nodes order room ≡ Pass
   graph-passes HasLoop e = refused-passes e
   graph-passes HasShared e = refused-passes e
   graph-passes (HasDepth depth) e = e
@@ -135,7 +135,7 @@ module _ (nodes : List ℕ) (count : ℕ) (order : List ℕ) (room : ℕ) where
   pub writable : {words : List ℕ} {a : Check} → GraphJudged nodes count order room words a → a ≡ Pass → Writable nodes count words order room
   writable j e =
       let all = graph-passes (graphVerdict nodes) (sym (j .tells) ∙ e) in
-      let p = andThen-pass (unless (lengthOk nodes order) RenumberLength) _ all in
+      let p = andThen-pass (unless (manyOk nodes order) RenumberLength) _ all in
       let q = andThen-pass (unless (onceOk nodes order) RenumberNodes) _ (p .1) in
       let r = andThen-pass (unless (rootOk nodes order) RenumberRoot) _ (q .1) in
       let s = andThen-pass (unless (childrenOk nodes order (length order)) RenumberChild) (unless (leb (nodeSize * length order) room) RenumberRoom) (r .1) in
@@ -168,7 +168,7 @@ renumbered-none nodes [] out none q =
     ap (λ (graph : Graph). graphCheck graph nodes [] (length out)) (verdict-none nodes none) ∙ pass-all empty in
     renumbered-by nodes [] out Pass passes q (sym (ap (λ (x : List ℕ). bufferAfter Pass x out) (laid-none (newNode nodes []))))
   where
-    pass-all : reachedNodes nodes ≡ [] → orderCheck nodes [] (length out) ≡ Pass
+    pass-all : reachedNodes nodes ≡ [] → renumberCheck nodes [] (length out) ≡ Pass
     pass-all empty =
         sym
         (pass-then (ap (λ (n : ℕ). unless (eqb 0 n) RenumberLength) (ap length empty))

@@ -26,7 +26,7 @@ use Rattle.graph.specs.Inner.Looks.{markOf}
 use Rattle.wad.specs.declared.map.Marker.the-variants.{Entry}
 use Rattle.level.specs.Verdict.{verdictBy, wordsAfterBy}
 use Rattle.renumber.specs.declared.Renumbering.{Renumbering}
-use Rattle.renumber.specs.Orders.{oldAt, rootOk, childrenOk, orderCheck}
+use Rattle.renumber.specs.Orders.{oldAt, rootOk, childrenOk, renumberCheck}
 use Rattle.renumber.specs.Renumbering.{checkBy, lumpBy, renumbered, renumberingOf}
 
 -- ---- from a marker on, and from the nodes on
@@ -41,7 +41,7 @@ pub record RenumbersAt (wad : List ℕ) (marker : ℕ) (words order out : List �
 abbrev pub graphCheck : Graph → List ℕ → List ℕ → ℕ → Check
 graphCheck HasLoop nodes order room = Refused NodeLoop
 graphCheck HasShared nodes order room = Refused NodeShared
-graphCheck (HasDepth depth) nodes order room = orderCheck nodes order room
+graphCheck (HasDepth depth) nodes order room = renumberCheck nodes order room
 
 abbrev pub nodesCheck : List ℕ → List ℕ → ℕ → Check
 nodesCheck nodes order room = graphCheck (graphVerdict nodes) nodes order room
@@ -125,7 +125,7 @@ lateCheck nodes order room =
 
 -- what is answered of the list, and known where it passes
 pub record OrderJudged (nodes : List ℕ) (count : ℕ) (order : List ℕ) (room : ℕ) (words : List ℕ) (answer : Check) : Type 0 where
-  pub tells : answer ≡ orderCheck nodes order room
+  pub tells : answer ≡ renumberCheck nodes order room
   pub ordered : answer ≡ Pass → Ordered nodes count words order
 
 -- and of the graph and the list

@@ -21,8 +21,8 @@ indexIn [] v = 0
 indexIn (x ∷ xs) v = cond (eqb x v) 0 (suc (indexIn xs v))
 
 -- 73: as many as are reached
-abbrev pub lengthOk : List ℕ → List ℕ → Bool
-lengthOk nodes order = eqb (length order) (length (reachedNodes nodes))
+abbrev pub manyOk : List ℕ → List ℕ → Bool
+manyOk nodes order = eqb (length order) (length (reachedNodes nodes))
 
 -- 70: each of them once
 abbrev pub allAmong : List ℕ → List ℕ → Bool
@@ -55,9 +55,9 @@ childrenOk nodes order zero = true
 childrenOk nodes order (suc n) = childrenOk nodes order n && childFirst nodes order n Right && childFirst nodes order n Left
 
 -- the list, and then the room for the nodes
-abbrev pub orderCheck : List ℕ → List ℕ → ℕ → Check
-orderCheck nodes order room =
-    unless (lengthOk nodes order) RenumberLength
+abbrev pub renumberCheck : List ℕ → List ℕ → ℕ → Check
+renumberCheck nodes order room =
+    unless (manyOk nodes order) RenumberLength
     andThen unless (onceOk nodes order) RenumberNodes
     andThen unless (rootOk nodes order) RenumberRoot
     andThen unless (childrenOk nodes order (length order)) RenumberChild

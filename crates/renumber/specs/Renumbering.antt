@@ -18,7 +18,7 @@ use Rattle.level.specs.declared.Verdict.the-variants.{Accepted, Refused as NotA
 use Rattle.level.specs.Verdict.{nodesAt, verdict, wordsAfter}
 use Rattle.renumber.specs.declared.Renumbering.{Renumbering}
 use Rattle.renumber.specs.declared.Renumbering.the-variants.{Written, Refused as NotWritten}
-use Rattle.renumber.specs.Orders.{indexIn, oldAt, orderCheck}
+use Rattle.renumber.specs.Orders.{indexIn, oldAt, renumberCheck}
 
 -- a node by its place in the list; a subsector as it is
 abbrev pub renamed : List ℕ → ℕ → ℕ
@@ -37,7 +37,7 @@ renumbered nodes order = laidOut (newNode nodes order) (length order)
 
 -- the list is looked at where the map is accepted
 abbrev pub checkBy : Verdict → List ℕ → List ℕ → ℕ → Check
-checkBy (Accepted depth marker) wad order room = orderCheck (nodesAt wad marker) order room
+checkBy (Accepted depth marker) wad order room = renumberCheck (nodesAt wad marker) order room
 checkBy (NotAccepted r) wad order room = Refused r
 
 -- the new lump of an accepted map

@@ -21,7 +21,7 @@ use Rattle.bsp.specs.Nodes.{nodesOf, subsectorBit, isNode, childOf, root}
 use Rattle.bsp.specs.Heights.{member, repeats}
 use Rattle.bsp.specs.Reach.{reachedNodes, HoldsOnce}
 use Rattle.bsp.proofs.Heights.{node-or-end}
-use Rattle.renumber.specs.Orders.{indexIn, lengthOk, onceOk, rootOk, oldAt, childFirst, childrenOk, orderCheck}
+use Rattle.renumber.specs.Orders.{indexIn, manyOk, onceOk, rootOk, oldAt, childFirst, childrenOk, renumberCheck}
 use Rattle.same_tree.specs.Promises.{ReachedNode, GoodOrder}
 use Rattle.renumber.proofs.Checking.{children-none, children-suc, children-each}
 use Rattle.same_tree.proofs.Held.{at-place, place-least, same-length, holds-all, all-member, member-all, last-ends, ends-last}
@@ -56,7 +56,7 @@ module _ (nodes order : List ℕ) where
   -- ---- the list
 
   module _ (held : HoldsOnce (ReachedNode nodes) (reachedNodes nodes)) where
-    good : lengthOk nodes order ≡ true → onceOk nodes order ≡ true → rootOk nodes order ≡ true
+    good : manyOk nodes order ≡ true → onceOk nodes order ≡ true → rootOk nodes order ≡ true
         → childrenOk nodes order (length order) ≡ true → GoodOrder nodes order
     good long each ends children =
         let p = both _ (not (repeats order)) each in
@@ -77,7 +77,7 @@ module _ (nodes order : List ℕ) where
               (indexIn order w, (before, at-place order w (omega arith)));
         }
 
-    length-good : GoodOrder nodes order → lengthOk nodes order ≡ true
+    length-good : GoodOrder nodes order → manyOk nodes order ≡ true
     length-good g =
         eq-eqb (length order) (length (reachedNodes nodes)) (same-length (ReachedNode nodes) order (reachedNodes nodes) (g .holds) held)
 
@@ -102,10 +102,10 @@ module _ (nodes order : List ℕ) where
         let here : indexIn order (childOf nodes (oldAt order i) c) ≤ p .0 = rw (p .1 .1) at least in
         omega (arith, p .1 .0, here)))
 
-    pub exactly-good : (room : ℕ) → orderCheck nodes order room ≡ Pass ↔ (GoodOrder nodes order × (nodeSize * length order ≤ room))
+    pub exactly-good : (room : ℕ) → renumberCheck nodes order room ≡ Pass ↔ (GoodOrder nodes order × (nodeSize * length order ≤ room))
     exactly-good room = (
-      λ (e : orderCheck nodes order room ≡ Pass).
-          let a = andThen-pass (unless (lengthOk nodes order) RenumberLength) _ e in
+      λ (e : renumberCheck nodes order room ≡ Pass).
+          let a = andThen-pass (unless (manyOk nodes order) RenumberLength) _ e in
           let b = andThen-pass (unless (onceOk nodes order) RenumberNodes) _ (a .1) in
           let c = andThen-pass (unless (rootOk nodes order) RenumberRoot) _ (b .1) in
           let d = andThen-pass (unless (childrenOk nodes order (length order)) RenumberChild) _ (c .1) in (

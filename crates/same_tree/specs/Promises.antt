@@ -17,7 +17,7 @@ use Rattle.bsp.specs.Reach.{HoldsOnce}
 use Rattle.bsp.specs.Walks.{Walk, descent}
 use Rattle.level.specs.declared.Verdict.the-variants.{Accepted}
 use Rattle.level.specs.Verdict.{nodesAt, subsectorsAt, verdict}
-use Rattle.renumber.specs.Orders.{oldAt, orderCheck}
+use Rattle.renumber.specs.Orders.{oldAt, renumberCheck}
 use Rattle.renumber.specs.Renumbering.{renumbered}
 
 -- a node that some list of choices leads to
@@ -52,7 +52,7 @@ pub record SameNodes (nodes order : List ℕ) (subsectors depth : ℕ) : Type 0 
 pub record RenumberHolds (wad name words order : List ℕ) : Type 0 where
   -- a list is accepted exactly if it is as asked and there is room
   pub exactly : (depth marker room : ℕ) → verdict wad name words ≡ Accepted depth marker
-      → orderCheck (nodesAt wad marker) order room ≡ Pass ↔ (GoodOrder (nodesAt wad marker) order × (nodeSize * length order ≤ room))
+      → renumberCheck (nodesAt wad marker) order room ≡ Pass ↔ (GoodOrder (nodesAt wad marker) order × (nodeSize * length order ≤ room))
   -- and what is then written is the same tree
   pub same : (depth marker : ℕ) → verdict wad name words ≡ Accepted depth marker → GoodOrder (nodesAt wad marker) order
       → SameNodes (nodesAt wad marker) order (subsectorsAt wad marker) depth

@@ -11,7 +11,7 @@ use lib.ListN.{length, getD}
 use lib.Seq.{sets}
 use Rattle.refusal.specs.declared.Check.the-variants.{Pass}
 use Rattle.layout.specs.Rows.{sumOf}
-use Rattle.difference.specs.Differences.{listed, counted, gameIn, lumpsIn, sameGame, listOf, neither}
+use Rattle.difference.specs.Differences.{changesIn, changeCounts, gameIn, lumpsIn, sameGame, changeList, neither}
 use Rattle.difference.specs.Inner.{Numbered}
 use Rattle.difference.proofs.Answering.{same-game, counted-sum, other-games, no-room, all-listed}
 use Rattle.difference.proofs.compare_accepted.Statement.{statement}
@@ -31,16 +31,16 @@ one-game c = sym (games (c .before)) ∙ not-false _ (c .if1 .left)
 -- the counts are those of the old map's game
 counts : (c : tie.After-count-all)
     → (let a = c .before .before .before .before .before .before .before .before .args in
-    c .count-all .result ≡ counted (gameIn (now (a .old-wad)) (a .old)) (lumpsIn (now (a .old-wad)) (a .old)) (lumpsIn (now (a .new-wad)) (a .new)))
+    c .count-all .result ≡ changeCounts (gameIn (now (a .old-wad)) (a .old)) (lumpsIn (now (a .old-wad)) (a .old)) (lumpsIn (now (a .new-wad)) (a .new)))
 counts c =
     let g = c .before .before .before .before in
     let a = g .before .before .before .before .args in
-    c .count-all .ensures ∙ ap (λ (h : Bool). counted h (lumpsIn (now (a .old-wad)) (a .old)) (lumpsIn (now (a .new-wad)) (a .new))) (g .game-in .ensures)
+    c .count-all .ensures ∙ ap (λ (h : Bool). changeCounts h (lumpsIn (now (a .old-wad)) (a .old)) (lumpsIn (now (a .new-wad)) (a .new))) (g .game-in .ensures)
 
 -- the test of the room
 room : (c : tie.After-fits2)
     → (let a = c .before .before .before .before .before .before .before .before .before .args in
-    c .fits2 .result ≡ leb (length (listOf (now (a .old-wad)) (a .old) (now (a .new-wad)) (a .new))) (length (now (a .list))))
+    c .fits2 .result ≡ leb (length (changeList (now (a .old-wad)) (a .old) (now (a .new-wad)) (a .new))) (length (now (a .list))))
 room c =
     let a = c .before .before .before .before .before .before .before .before .before .args in
     c .fits2 .ensures
@@ -64,7 +64,7 @@ returns-2 c =
 -- there is room
 enough : (c : tie.Else2)
     → (let a = c .before .before .before .before .before .before .before .before .before .before .args in
-    leb (length (listOf (now (a .old-wad)) (a .old) (now (a .new-wad)) (a .new))) (length (now (a .list))) ≡ true)
+    leb (length (changeList (now (a .old-wad)) (a .old) (now (a .new-wad)) (a .new))) (length (now (a .list))) ≡ true)
 enough c = sym (room (c .before)) ∙ not-false _ (c .if2 .left)
 
 write-all-requires : tie.Need-write-all-requires
@@ -78,7 +78,7 @@ write-all-requires c κs =
     let numbered = subst (λ (h : Bool). Numbered h (lumpsIn (now (a .new-wad)) (a .new))) (sym (game ∙ same-game _ _ (one-game e))) (s .pre .2) in
     let fit = leb-true _ _ (enough t) in (
       (s .pre .0, s .pre .1, numbered),
-      subst (λ (h : Bool). length (listed h (lumpsIn (now (a .old-wad)) (a .old)) (lumpsIn (now (a .new-wad)) (a .new))) ≤ length (now (a .list))) (sym game) fit,
+      subst (λ (h : Bool). length (changesIn h (lumpsIn (now (a .old-wad)) (a .old)) (lumpsIn (now (a .new-wad)) (a .new))) ≤ length (now (a .list))) (sym game) fit,
     )
 
 returns-3 : tie.Need-returns-3
@@ -92,7 +92,7 @@ returns-3 c =
     all-listed (now (a .old-wad)) (a .old) (now (a .new-wad)) (a .new) (now (a .list)) (one-game e) (enough t) (leb-true _ _ (enough t))
     (λ i. record { check = Pass; file = neither; counts = counts n i })
     (w .write-all .ensures
-    ∙ ap (λ (h : Bool). sets (now (a .list)) 0 (listed h (lumpsIn (now (a .old-wad)) (a .old)) (lumpsIn (now (a .new-wad)) (a .new)))) (g .game-in .ensures))
+    ∙ ap (λ (h : Bool). sets (now (a .list)) 0 (changesIn h (lumpsIn (now (a .old-wad)) (a .old)) (lumpsIn (now (a .new-wad)) (a .new)))) (g .game-in .ensures))
 
 pub compare-accepted-spec : {M : Type 1} → statement M
 compare-accepted-spec =

@@ -25,9 +25,9 @@ write-changes-requires c κs =
     let s = r .before .before .before .before .before .before in
     let size = r .before .before .record-size .ensures in
     let few = s .pre .0 .2 (s .args .place) (s .pre .0 .3) (s .pre .0 .4) in
-    let counted : countIn (r .before .before .record-size .result) (now (r .lump-in2 .result)) ≡ _ = λ i. countIn (size i) (r .lump-in2 .ensures i) in (
+    let changeCounts : countIn (r .before .before .record-size .result) (now (r .lump-in2 .result)) ≡ _ = λ i. countIn (size i) (r .lump-in2 .ensures i) in (
       subst (λ (n : ℕ). 0 < n) (sym size) (recordSize-positive (s .args .hexen) (s .args .place) (s .pre .0 .3) (s .pre .0 .4)),
-      subst (λ (n : ℕ). n ≤ 65535) (sym counted) few,
+      subst (λ (n : ℕ). n ≤ 65535) (sym changeCounts) few,
       subst (λ (xs : List ℕ). s .args .at + length xs ≤ length (now (s .args .list))) (sym (lists r)) (s .pre .1),
     )
 
