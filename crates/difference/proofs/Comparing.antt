@@ -1,6 +1,6 @@
 -- Bytes, records and blocks of records compared. Assumes nothing.
 use Prim.Native.Nat.{ℕ, zero, suc, _+_, _-_, _*_, _≤_, _<_}
-use mathlib.Core.Bool.{Bool, true, false, _&&_, _||_, not, cond}
+use mathlib.Core.Bool.{Bool, true, false, _&&_, cond}
 use mathlib.Core.List.{List, [], _∷_}
 use mathlib.Core.Path.{_≡_, refl, ap}
 use native.Mathlib.Nat.{le-trans, div-add-mod, mul-le-mul-left, mul-suc, mul-add}
@@ -64,7 +64,7 @@ run-same size old new i n h k s j l =
     let at : size * (i + j) + m ≡ size * i + (size * j + m) = omega (arith, sum) in
     rw at (s (size * j + m) (omega (arith, last, one, low))) in
     let bytes = same-bytes old new size (size * (i + j)) (record-inside size old (i + j) there) (record-inside size new (i + j) (omega arith)) alike in
-    λ t. lt-leb (countIn size old) (i + j) there t || not (bytes t)
+    rw (lt-leb (countIn size old) (i + j) there, bytes)
 
 -- ---- the numbers of the changed records
 
