@@ -64,7 +64,7 @@ run-same size old new i n h k s j l =
     let at : size * (i + j) + m ≡ size * i + (size * j + m) = omega (arith, sum) in
     rw at (s (size * j + m) (omega (arith, last, one, low))) in
     let bytes = same-bytes old new size (size * (i + j)) (record-inside size old (i + j) there) (record-inside size new (i + j) (omega arith)) alike in
-    rw (lt-leb (countIn size old) (i + j) there, bytes)
+    simp (lt-leb (countIn size old) (i + j) there, bytes)
 
 -- ---- the numbers of the changed records
 
