@@ -13,7 +13,7 @@ use Rattle.lump.specs.Lumps.{mapLump}
 use Rattle.level.specs.declared.Verdict.the-variants.{Accepted}
 use Rattle.level.specs.Verdict.{verdict}
 use Rattle.difference.specs.Records.{countIn, changes, copied}
-use Rattle.difference.specs.Differences.{gameIn, lumpsIn}
+use Rattle.difference.specs.Differences.{gameIn, lumpsIn, sameGame}
 
 pub record Copies (size : ℕ) (old new : List ℕ) : Type 0 where
   -- copying the listed records, and taking the new length, turns the old lump into the new one
@@ -25,9 +25,9 @@ pub record Copies (size : ℕ) (old new : List ℕ) : Type 0 where
   pub ascending : (i j : ℕ) → i < j → j < length (changes size old new)
       → getD (changes size old new) i 0 < getD (changes size old new) j 0
 
--- so it is of the eight lumps of records of two accepted maps, in the game of the new one
+-- so it is of the eight lumps of records, by the sizes that the list goes by, of a new map that is accepted and an old one of its game
 abbrev pub DifferencesHold : Type 0
 DifferencesHold =
     (oldWad newWad newName words : List ℕ) (depth old new : ℕ) → verdict newWad newName words ≡ Accepted depth new
-    → (place : ℕ) → 1 ≤ place → place ≤ 8
-    → Copies (recordSize (gameIn newWad new) place) (mapLump (lumpsIn oldWad old) place) (mapLump (lumpsIn newWad new) place)
+    → sameGame (gameIn oldWad old) (gameIn newWad new) ≡ true → (place : ℕ) → 1 ≤ place → place ≤ 8
+    → Copies (recordSize (gameIn oldWad old) place) (mapLump (lumpsIn oldWad old) place) (mapLump (lumpsIn newWad new) place)
