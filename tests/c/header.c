@@ -84,6 +84,11 @@ AT(pair_map_answer, file, 24);
 AT(pair_map_answer, depth, 32);
 AT(pair_map_answer, marker, 40);
 
+SIZE(differences_answer, 96);
+AT(differences_answer, status, 0);
+AT(differences_answer, file, 24);
+AT(differences_answer, counts, 32);
+
 SIZE(picture, 24);
 AT(picture, width, 0);
 AT(picture, height, 8);
@@ -158,7 +163,7 @@ static const struct {
 };
 
 /* The file: header, lumps in turn, directory. */
-static uint8_t wad[1024];
+static uint8_t wad[2048];
 static size_t wad_len, wad_start;
 
 static void put(const void *bytes, size_t size)
@@ -729,6 +734,172 @@ static void pair_maps(void)
     EXPECT(status_is(j.status, 25, 5, 1) && j.file == MESHPIGEON_PATCH && j.depth == 0 && j.marker == 0);
 }
 
+/* ---- two maps compared ---- */
+
+/* The file as it is built first; `wad` is the new one. */
+static uint8_t old_wad[sizeof wad];
+static size_t old_wad_len;
+
+static void keep_as_old(void)
+{
+    memcpy(old_wad, wad, wad_len);
+    old_wad_len = wad_len;
+}
+
+/* The lump at a place moves behind all the rest, with more records of one kind. */
+static void grow(size_t place, const uint8_t *record, size_t size, size_t times)
+{
+    const size_t old_size = lumps[BEFORE + place].size, offset = wad_len;
+    put(lumps[BEFORE + place].bytes, old_size);
+    for (size_t i = 0; i < times; i++)
+        put(record, size);
+    give_part(BEFORE + place, offset, old_size + size * times);
+}
+
+/* A new map with a count of its own of each lump's differing records: three things more; linedef 1 changed, and three more; five sidedefs
+ * more; both vertices changed; six segs and seven subsectors more; the root changed; eight sectors more. */
+enum { LISTED = 36 };
+static const size_t listed_counts[8] = {3, 4, 5, 2, 6, 7, 1, 8};
+static const uint16_t listed[LISTED] = {0, 1, 2, 1, 2, 3, 4, 1, 2, 3,  4, 5, 0, 1, 2, 3, 4, 5,
+                                        6, 7, 4, 5, 6, 7, 8, 9, 10, 1, 1, 2, 3, 4, 5, 6, 7, 8};
+
+static void build_new(void)
+{
+    static const uint8_t nothing[30] = {0}, subsector[] = {W(1), W(0)};
+    build_wad();
+    wad[lump_offset(BEFORE + 4)] = 9;
+    wad[lump_offset(BEFORE + 4) + 7] = 9;
+    wad[lump_offset(BEFORE + 7) + 28] = 9;
+    grow(1, nothing, 10, 3);
+    grow(2, nothing, 14, 3);
+    wad[wad_len - 3 * 14 - 6] = 9;
+    grow(3, nothing, 30, 5);
+    grow(5, nothing, 12, 6);
+    grow(6, subsector, sizeof subsector, 7);
+    grow(8, nothing, 26, 8);
+    grow(9, nothing, 1, (9 * 9 + 7) / 8 - 1);
+}
+
+/* What the library is lent: a word more than the list has, and one more than the nodes need. */
+static uint16_t differing[LISTED + 1];
+
+static meshpigeon_differences_answer differences(const uint8_t *old_name, const uint8_t *new_name, size_t words_len, size_t list_len)
+{
+    memset(differing, 0xA5, sizeof differing);
+    memset(lent, 0xA5, sizeof lent);
+    return meshpigeon_differences(old_wad, old_wad_len, old_name, 8, wad, wad_len, new_name, 8, lent, words_len, differing, list_len);
+}
+
+static int is_difference_refused(meshpigeon_differences_answer d, uint32_t number, size_t place, size_t record, uint32_t file)
+{
+    return status_is(d.status, number, place, record) && d.file == file && all_are(d.counts, sizeof d.counts, 0) &&
+           all_are(differing, sizeof differing, 0xA5);
+}
+
+static void compared_maps(void)
+{
+    build_wad();
+    keep_as_old();
+    meshpigeon_differences_answer d = differences(map_name, map_name, 4 * NODES + 1, 0);
+    EXPECT(accepted(d.status) && d.file == MESHPIGEON_NO_FILE && all_are(d.counts, sizeof d.counts, 0));
+    EXPECT(all_are(differing, sizeof differing, 0xA5) && words_cleared());
+    build_new();
+    for (size_t room = LISTED; room <= LISTED + 1; room++) {
+        d = differences(map_name, map_name, 4 * NODES + 1, room);
+        EXPECT(accepted(d.status) && d.file == MESHPIGEON_NO_FILE && memcmp(d.counts, listed_counts, sizeof d.counts) == 0);
+        EXPECT(memcmp(differing, listed, sizeof listed) == 0 && differing[LISTED] == 0xA5A5 && words_cleared());
+    }
+    EXPECT(is_difference_refused(differences(map_name, map_name, 4 * NODES, LISTED - 1), 75, 0, 0, MESHPIGEON_NO_FILE) && words_cleared());
+    EXPECT(is_difference_refused(differences(map_name, map_name, 4 * NODES, 0), 75, 0, 0, MESHPIGEON_NO_FILE) && words_cleared());
+}
+
+/* What the old map alone has is not listed: with both maps exchanged the changed records are left. */
+static void dropped_records(void)
+{
+    static const size_t counts[8] = {0, 1, 0, 2, 0, 0, 1, 0};
+    static const uint16_t changed[4] = {1, 0, 1, 1};
+    build_new();
+    keep_as_old();
+    build_wad();
+    meshpigeon_differences_answer d = differences(map_name, map_name, 4 * NODES, 4);
+    EXPECT(accepted(d.status) && d.file == MESHPIGEON_NO_FILE && memcmp(d.counts, counts, sizeof counts) == 0);
+    EXPECT(memcmp(differing, changed, sizeof changed) == 0 && all_are(differing + 4, sizeof differing - sizeof changed, 0xA5));
+    EXPECT(is_difference_refused(differences(map_name, map_name, 4 * NODES, 3), 75, 0, 0, MESHPIGEON_NO_FILE) && words_cleared());
+}
+
+/* The new map becomes one of Hexen: two of its linedefs, and BEHAVIOR behind the last entry. */
+static void build_hexen(void)
+{
+    static const uint8_t of_hexen[] = {W(0), W(1), W(0), 0, 0, 0, 0, 0, 0, W(0), NO_SIDEDEF,
+                                       W(1), W(0), W(0), 0, 0, 0, 0, 0, 0, W(0), NO_SIDEDEF};
+    static const uint8_t part[] = {L(0), L(0)};
+    build_wad();
+    put(part, sizeof part);
+    put("BEHAVIOR", 8);
+    wad[4] = ENTRIES + 1;
+    give_part(BEFORE + 2, wad_len, sizeof of_hexen);
+    put(of_hexen, sizeof of_hexen);
+}
+
+/* 76 comes before 75, and after either map's refusal. */
+static void compared_games(void)
+{
+    build_wad();
+    keep_as_old();
+    build_hexen();
+    for (size_t room = 0; room <= LISTED; room += LISTED)
+        EXPECT(is_difference_refused(differences(map_name, map_name, 4 * NODES, room), 76, 0, 0, MESHPIGEON_NO_FILE) && words_cleared());
+    wad[wad_len - 16] = 2;
+    EXPECT(is_difference_refused(differences(map_name, map_name, 4 * NODES, 0), 23, 2, 1, MESHPIGEON_NEW) && words_cleared());
+    build_hexen();
+    keep_as_old();
+    meshpigeon_differences_answer d = differences(map_name, map_name, 4 * NODES, 0);
+    EXPECT(accepted(d.status) && all_are(d.counts, sizeof d.counts, 0));
+    build_wad();
+    EXPECT(is_difference_refused(differences(map_name, map_name, 4 * NODES, 0), 76, 0, 0, MESHPIGEON_NO_FILE) && words_cleared());
+}
+
+/* The old map's refusal comes before the new one's, and leaves the words as found where it is below 31; then those of the old map, which is
+ * accepted, are zero. */
+static void compared_refusals(void)
+{
+    build_wad();
+    keep_as_old();
+    wad[lump_offset(BEFORE + 5) + 6] = 2;
+    EXPECT(is_difference_refused(differences(map_name, map_name, 4 * NODES, LISTED), 25, 5, 0, MESHPIGEON_NEW) && words_cleared());
+    old_wad[lump_offset(BEFORE + 2) + 14] = 2;
+    EXPECT(is_difference_refused(differences(map_name, map_name, 4 * NODES, LISTED), 23, 2, 1, MESHPIGEON_OLD) && words_as_found());
+    build_wad();
+    EXPECT(is_difference_refused(differences(map_name, map_name, 4 * NODES, LISTED), 23, 2, 1, MESHPIGEON_OLD) && words_as_found());
+    give_children(1, 1, 0, 0x8003);
+    keep_as_old();
+    EXPECT(is_difference_refused(differences(map_name, map_name, 4 * NODES, LISTED), 31, 7, 0, MESHPIGEON_OLD) && words_cleared());
+    build_wad();
+    keep_as_old();
+    give_children(0x8000, 0x8000, 0, 0x8003);
+    EXPECT(is_difference_refused(differences(map_name, map_name, 4 * NODES, LISTED), 32, 7, 0, MESHPIGEON_NEW) && words_cleared());
+    EXPECT(is_difference_refused(differences(map_name, map_name, 4 * NODES - 1, LISTED), 30, 7, 0, MESHPIGEON_OLD) && words_as_found());
+    EXPECT(is_difference_refused(differences(map_name, palette_name, 4 * NODES, 0), 10, 0, 0, MESHPIGEON_NEW) && words_cleared());
+}
+
+/* Each map has its own name, and the words must be enough for each: the one map has no nodes, and one subsector. */
+static void compared_names_and_words(void)
+{
+    static const uint8_t other_name[8] = "MAP02";
+    build_wad();
+    give_part(BEFORE + 6, lump_offset(BEFORE + 6), 4);
+    give_part(BEFORE + 7, 0, 0);
+    keep_as_old();
+    build_wad();
+    memcpy(wad + wad_start + 16 * BEFORE + 8, other_name, 8);
+    EXPECT(is_difference_refused(differences(map_name, other_name, 4 * NODES - 1, LISTED), 30, 7, 0, MESHPIGEON_NEW) && words_as_found());
+    EXPECT(is_difference_refused(differences(other_name, map_name, 4 * NODES, LISTED), 11, 0, 0, MESHPIGEON_OLD) && words_as_found());
+    EXPECT(is_difference_refused(differences(map_name, map_name, 4 * NODES, LISTED), 11, 0, 0, MESHPIGEON_NEW) && words_as_found());
+    meshpigeon_differences_answer d = differences(map_name, other_name, 4 * NODES, LISTED);
+    EXPECT(accepted(d.status) && d.counts[5] == 3 && d.counts[6] == 2 && words_cleared());
+    EXPECT(words_are(differing, 1, 2, 3, 0) && differing[4] == 1 && differing[5] == 0xA5A5);
+}
+
 /* ---- pictures ---- */
 
 /* Three columns of two rows: a pixel of colour 7 in the second row of the first column, and two columns of nothing. */
@@ -1115,6 +1286,11 @@ int main(void)
     pair_lumps();
     pair_files();
     pair_maps();
+    compared_maps();
+    dropped_records();
+    compared_games();
+    compared_refusals();
+    compared_names_and_words();
     pictures();
     paintings();
     writings();
