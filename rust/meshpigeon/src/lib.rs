@@ -11,6 +11,7 @@
 //! ```
 #![deny(missing_docs)]
 
+mod differences;
 mod game;
 mod pair;
 mod raw;
@@ -20,6 +21,7 @@ mod renumber;
 mod sidedefs;
 mod why;
 
+pub use differences::{differences, differences_with, DifferenceFile, DifferenceRefusal, Differences};
 pub use game::{Linedef, Thing};
 pub use pair::{pair_find, pair_judge_map, pair_judge_map_with, pair_lump, PairEntry, PairFile, PairLump, PairMap, PairRefusal};
 pub use record::{Node, Sector, Seg, Sidedef, Subsector, Vertex};
@@ -36,6 +38,9 @@ pub const MOST_REASON: usize = 32_767;
 
 /// As many bytes as any renumbered NODES has: those of 32,766 nodes, since an accepted map reaches one subsector more than nodes.
 pub const MOST_RENUMBERED: usize = Node::SIZE * 32_766;
+
+/// As many words as any list of differing records needs: six lumps of 65,535 records and two of 32,767.
+pub const MOST_DIFFERENCES: usize = 6 * 65_535 + 2 * 32_767;
 
 /// As many words as any draw order needs: one more than 32,767 nodes.
 pub const MOST_DRAWN: usize = 32_767 + 1;

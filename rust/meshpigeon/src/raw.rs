@@ -5,7 +5,7 @@ mod layout;
 
 use crate::game::{Linedef, Thing};
 use crate::record::{Node, Sector, Seg, Sidedef, Subsector, Vertex};
-use crate::{PairFile, PairRefusal, Picture, Refusal, Search, Sidedefs};
+use crate::{DifferenceFile, DifferenceRefusal, PairFile, PairRefusal, Picture, Refusal, Search, Sidedefs};
 
 /// What every answer begins with; number 0 is accepted.
 #[repr(C)]
@@ -65,6 +65,8 @@ answers! {
     PairEntryAnswer { file: u32, offset: usize, size: usize }
     /// An accepted map of a pair.
     PairMapAnswer { file: u32, depth: usize, marker: usize }
+    /// How many records of each lump differ.
+    DifferencesAnswer { file: u32, counts: [usize; 8] }
     /// A picture's header.
     PictureAnswer { picture: Picture }
     /// How long a written lump is.
@@ -140,6 +142,20 @@ extern "C" {
         words: *mut u16,
         words_len: usize,
     ) -> PairMapAnswer;
+    fn meshpigeon_differences(
+        old_wad: Bytes,
+        old_wad_len: usize,
+        old_name: Bytes,
+        old_name_len: usize,
+        new_wad: Bytes,
+        new_wad_len: usize,
+        new_name: Bytes,
+        new_name_len: usize,
+        words: *mut u16,
+        words_len: usize,
+        list: *mut u16,
+        list_len: usize,
+    ) -> DifferencesAnswer;
     fn meshpigeon_judge_picture(lump: Bytes, lump_len: usize) -> PictureAnswer;
     fn meshpigeon_paint_picture(
         lump: Bytes,
@@ -258,6 +274,37 @@ pub(crate) fn pair_judge_map(
     let (base, patch, name, words) = (base.as_ptr(), patch.as_ptr(), name.as_ptr(), words.as_mut_ptr());
     let answer = unsafe { meshpigeon_pair_judge_map(base, base_len, patch, patch_len, name, name_len, words, words_len) };
     noted(answer.file, answer.checked())
+}
+
+pub(crate) fn differences(
+    [old_wad, old_name]: [&[u8]; 2],
+    [new_wad, new_name]: [&[u8]; 2],
+    words: &mut [u16],
+    list: &mut [u16],
+) -> Result<DifferencesAnswer, DifferenceRefusal> {
+    let (words_len, list_len) = (words.len(), list.len());
+    let answer = unsafe {
+        meshpigeon_differences(
+            old_wad.as_ptr(),
+            old_wad.len(),
+            old_name.as_ptr(),
+            old_name.len(),
+            new_wad.as_ptr(),
+            new_wad.len(),
+            new_name.as_ptr(),
+            new_name.len(),
+            words.as_mut_ptr(),
+            words_len,
+            list.as_mut_ptr(),
+            list_len,
+        )
+    };
+    let file = match answer.file {
+        1 => Some(DifferenceFile::Old),
+        2 => Some(DifferenceFile::New),
+        _ => None,
+    };
+    answer.checked().map_err(|refusal| DifferenceRefusal { file, refusal })
 }
 
 pub(crate) fn judge_picture(lump: &[u8]) -> Result<PictureAnswer, Refusal> {

@@ -17,7 +17,7 @@ const fn sizes(hexen: bool) -> [usize; 9] {
 /// Why something was refused.
 #[derive(Clone, Copy, Debug, PartialEq, Eq)]
 pub struct Refusal {
-    /// The number in the table of refusals: 1 to 7, 10 to 12, 20 to 28, 30 to 32, 40 to 46, 50 to 58, 60, 61, 70 to 74, 80,
+    /// The number in the table of refusals: 1 to 7, 10 to 12, 20 to 28, 30 to 32, 40 to 46, 50 to 58, 60, 61, 70 to 76, 80,
     /// 81, 85.
     pub number: u32,
     /// The map lump concerned, 0 (the marker) to 10 (BLOCKMAP); 0 where none is.
@@ -57,9 +57,9 @@ impl Refusal {
     }
 
     /// Whether the caller's loan or question is at fault, and not the file: too few words, a short buffer, a number or a name that
-    /// cannot be asked for, a record that cannot be written, an order that is no good one.
+    /// cannot be asked for, a record that cannot be written, an order that is no good one, maps that cannot be compared.
     pub fn is_callers(&self) -> bool {
-        matches!(self.number, 7 | 10 | 30 | 41 | 45 | 55..=58 | 60 | 61 | 70..=74 | 80 | 85)
+        matches!(self.number, 7 | 10 | 30 | 41 | 45 | 55..=58 | 60 | 61 | 70..=76 | 80 | 85)
     }
 
     fn say_of_file(&self, out: &mut fmt::Formatter<'_>) -> fmt::Result {
@@ -237,6 +237,8 @@ impl fmt::Display for Refusal {
                  no arguments, and a Hexen linedef no tag and no special above 255"
             ),
             70..=74 => self.say_of_order(out),
+            75 => write!(out, "the list is too short for the differing records: it has one word for each of them"),
+            76 => write!(out, "one map is Doom's and the other Hexen's: only two maps of one game can be compared"),
             80 => write!(out, "the count of sectors is not one that a map can have: a map has 1 to 65,535"),
             81 => write!(out, "more bytes came than any SIDEDEFS may have: at most 16,777,216 may come"),
             85 => write!(

@@ -31,6 +31,7 @@ layout! {
     Sidedefs 32 { sectors 0, bytes 8, bad 16, low 24, found 25 }
     PairEntryAnswer 48 { status 0, file 24, offset 32, size 40 }
     PairMapAnswer 48 { status 0, file 24, depth 32, marker 40 }
+    DifferencesAnswer 96 { status 0, file 24, counts 32 }
     Picture 24 { width 0, height 8, left 16, top 18 }
     PictureAnswer 48 { status 0, picture 24 }
     LengthAnswer 32 { status 0, length 24 }
