@@ -19,6 +19,7 @@
 mod blockmap;
 mod bytes;
 mod descent;
+mod differences;
 mod game;
 mod graph;
 mod map;
@@ -36,6 +37,7 @@ mod why_blockmap;
 mod why_graph;
 
 pub use descent::{descend, Found};
+pub use differences::{differences, DifferenceFile, DifferenceRefusal};
 pub use game::{Linedef, Thing};
 pub use map::{judge_map, map_game, reject_size, Accepted};
 pub use order::draw_order;

@@ -72,6 +72,12 @@ impl<'a> Lumps<'a> {
     pub(crate) fn count(&self, place: usize) -> usize {
         TABLE[place - 1].records.as_ref().map_or(0, |records| self.at(place).len() / records.size(self.hexen))
     }
+
+    /// The bytes of each record of the lump at `place`, 1 to 8, in turn.
+    pub(crate) fn records(&self, place: usize) -> impl Iterator<Item = &'a [u8]> {
+        let size = TABLE[place - 1].records.as_ref().map_or(1, |records| records.size(self.hexen));
+        self.at(place).chunks_exact(size)
+    }
 }
 
 /// Judges the last map called `name`, of either game: refusals 1 to 6, 10 to 12 and 20 to 32.
