@@ -1,14 +1,14 @@
 //! What a case is: the bytes, the question asked of them, and what is known of the answer.
 
 use crate::{Explained, Kind, Record};
-use reader::{Accepted, Found, PairEntry, PairMap, PairRefusal, Picture, Refusal, Search};
+use reader::{Accepted, DifferenceRefusal, Found, PairEntry, PairMap, PairRefusal, Picture, Refusal, Search};
 
 /// One input with one question.
 #[derive(Clone, Debug)]
 pub struct Case {
     /// What the case is about, for reports.
     pub label: String,
-    /// The file, of a pair the patch; NODES lump, SIDEDEFS lump, picture lump or record lump; of a picture to be written its cover.
+    /// The file, of a pair the patch, of two maps the new one's; NODES lump, SIDEDEFS lump, picture lump or record lump; of a picture to be written its cover.
     pub bytes: Vec<u8>,
     /// What is asked of the bytes.
     pub question: Question,
@@ -62,6 +62,19 @@ pub enum Question {
         order: Vec<u16>,
         /// The output as lent.
         out: Vec<u8>,
+    },
+    /// What changed between two maps, the bytes being the new one's file.
+    Differences {
+        /// The old map's file.
+        old: Vec<u8>,
+        /// The old map's name.
+        old_name: Vec<u8>,
+        /// The new map's name.
+        new_name: Vec<u8>,
+        /// The work words as lent.
+        words: Vec<u16>,
+        /// The list as lent.
+        list: Vec<u16>,
     },
     /// A lump of a pair, the bytes being the patch.
     PairFind {
@@ -163,6 +176,8 @@ pub enum Expected {
     Hexen(bool),
     /// A draw order of so many subsectors, or a written lump of so many bytes.
     Count(usize),
+    /// So many records that are listed of each lump, or this refusal with its file.
+    Differences(Result<[usize; 8], DifferenceRefusal>),
     /// This lump of a pair, or this refusal with its file.
     PairEntry(Result<PairEntry, PairRefusal>),
     /// This map of a pair, or this refusal with its file.

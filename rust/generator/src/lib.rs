@@ -1,4 +1,5 @@
-//! A deterministic generator of WAD files, maps, pictures, records, descents, orders of nodes and sidedefs in scraps, good and bad.
+//! A deterministic generator of WAD files, maps, pictures, records, descents, orders of nodes, pairs of maps and sidedefs in
+//! scraps, good and bad.
 //!
 //! Everything is built from named fields, with what is known of the answer beside it:
 //!
@@ -7,6 +8,7 @@
 //!   [`all_picture_damages`] does so for pictures;
 //! - [`why_case`] gives maps that are asked for their reason, and [`with_reason`] makes one of any map check's case;
 //! - [`renumber_case`] gives maps whose nodes are to be numbered anew, and [`with_order`] makes one of any map check's case;
+//! - [`differences_case`] gives two maps whose records are to be compared, and [`with_other`] makes one of any map check's case;
 //! - [`limits`] lists both sides of every limit, each case built when asked for;
 //! - [`MapSpec`], [`Plan`], [`BlockmapSpec`], [`PictureSpec`] and [`Canvas`] build inputs by hand;
 //! - [`ordinary_map`], [`hexen_map_of`], [`largest_map`], [`largest_hexen_map_of`], [`directory_of`],
@@ -37,12 +39,15 @@ mod damage;
 mod damage_graph;
 mod damage_records;
 mod descent;
+mod differences;
 mod draw;
+mod edit;
 mod family;
 mod flip;
 mod game;
 mod graph;
 mod limit;
+mod limit_differences;
 mod limit_draw;
 mod limit_graph;
 mod limit_lump;
@@ -88,6 +93,7 @@ pub use blockmap::{BlockmapSpec, Layout};
 pub use case::{Case, Expected, Question};
 pub use damage::{damages, Damage};
 pub use descent::descent_case;
+pub use differences::{differences_case, with_other};
 pub use draw::draw_case;
 pub use family::{case, cases, FAMILIES};
 pub use flip::{flipped_map_case, flipped_picture_case, random_file_case, random_lump_case};

@@ -1,6 +1,7 @@
 //! Both sides of every limit: the file, the directory and its entries.
 
 use crate::game::game_limits;
+use crate::limit_differences::differences_limits;
 use crate::limit_draw::draw_limits;
 use crate::limit_graph::graph_limits;
 use crate::limit_lump::lump_limits;
@@ -44,6 +45,7 @@ pub fn limits() -> Vec<Build> {
     all.extend(why_blockmap_limits());
     all.extend(why_graph_limits());
     all.extend(renumber_limits());
+    all.extend(differences_limits());
     all
 }
 

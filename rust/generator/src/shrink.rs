@@ -21,10 +21,12 @@ pub fn shrink(case: &Case, mut fails: impl FnMut(&Case) -> bool) -> Case {
     with(&shrunk(&base, |base| fails(&with(base))))
 }
 
-/// The base of a pair.
+/// The base of a pair, or the old map's file.
 fn base_of(case: &mut Case) -> Option<&mut Vec<u8>> {
     match &mut case.question {
-        Question::PairFind { base, .. } | Question::PairJudgeMap { base, .. } => Some(base),
+        Question::PairFind { base, .. } | Question::PairJudgeMap { base, .. } | Question::Differences { old: base, .. } => {
+            Some(base)
+        }
         _ => None,
     }
 }

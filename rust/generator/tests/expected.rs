@@ -3,9 +3,9 @@
 mod common;
 
 use common::check;
-use generator::{all_picture_damages, case, damages, pair_case, pair_count, patch_case, single_case};
+use generator::{all_picture_damages, case, damages, differences_case, pair_case, pair_count, patch_case, single_case};
 use generator::{renumber_case, sidedefs_case, why_case, written_case, Expected, Rng, PICTURE_DAMAGES};
-use reader::PairFile;
+use reader::{DifferenceFile, PairFile};
 use std::collections::{BTreeMap, BTreeSet};
 
 #[test]
@@ -70,7 +70,7 @@ fn cases_of_all_families() {
     }
     println!("{met:?}");
     let wanted = [0, 1, 2, 3, 4, 5, 6, 7, 10, 11, 12, 20, 21, 22, 23, 24, 25, 26, 27, 28, 30, 31, 32];
-    let more = [40, 41, 42, 43, 44, 45, 46, 50, 51, 52, 53, 54, 55, 56, 57, 58, 60, 61, 70, 71, 72, 73, 74, 80, 85];
+    let more = [40, 41, 42, 43, 44, 45, 46, 50, 51, 52, 53, 54, 55, 56, 57, 58, 60, 61, 70, 71, 72, 73, 74, 75, 76, 80, 85];
     assert!(wanted.iter().chain(&more).all(|number| met.contains_key(number)));
 }
 
@@ -130,6 +130,31 @@ fn every_number_of_a_map_in_order_is_met() {
     let of_maps = (0..=6).chain(10..=12).chain(20..=28).chain(30..=32);
     assert_eq!(met.keys().copied().collect::<Vec<u32>>(), of_maps.chain(70..=74).collect::<Vec<u32>>());
     assert!([0, 70, 71, 72, 73, 74].iter().all(|number| met[number] > 500), "{met:?}");
+}
+
+#[test]
+fn every_number_of_two_maps_is_met_in_either_file() {
+    let (mut rng, mut met) = (Rng::new(9), BTreeMap::new());
+    let (mut changed, mut of_both) = ([0; 8], BTreeSet::new());
+    for _ in 0..40_000 {
+        let case = differences_case(&mut rng);
+        *met.entry(check(&case)).or_insert(0) += 1;
+        match case.expected {
+            Expected::Differences(Ok(counts)) => {
+                changed.iter_mut().zip(counts).for_each(|(all, count)| *all += usize::from(count > 0))
+            }
+            Expected::Differences(Err(it)) => {
+                of_both.insert((it.refusal.number, it.file.map(|file| file == DifferenceFile::New)));
+            }
+            _ => {}
+        }
+    }
+    let of_maps: Vec<u32> = (1..=6).chain(10..=12).chain(20..=28).chain(30..=32).collect();
+    assert_eq!(met.keys().copied().collect::<Vec<u32>>(), [&[0], &of_maps[..], &[75, 76]].concat());
+    assert!([0, 30, 75, 76].iter().all(|number| met[number] > 500), "{met:?}");
+    assert!(changed.iter().all(|&count| count > 1_000), "{changed:?}");
+    let in_either = of_maps.iter().flat_map(|&number| [(number, Some(false)), (number, Some(true))]);
+    assert_eq!(of_both, in_either.chain([(75, None), (76, None)]).collect());
 }
 
 #[test]

@@ -14,6 +14,7 @@ enum Answer {
     Search(Search),
     Hexen(bool),
     Count(usize),
+    Differences(Result<[usize; 8], DifferenceRefusal>),
     PairEntry(Result<PairEntry, PairRefusal>),
     PairMap(Result<PairMap, PairRefusal>),
 }
@@ -33,6 +34,7 @@ pub fn check(case: &Case) -> u32 {
         Expected::Search(search) => answer == Ok(Answer::Search(search)),
         Expected::Hexen(hexen) => answer == Ok(Answer::Hexen(hexen)),
         Expected::Count(count) => answer == Ok(Answer::Count(count)),
+        Expected::Differences(counts) => answer == Ok(Answer::Differences(counts)),
         Expected::PairEntry(entry) => answer == Ok(Answer::PairEntry(entry)),
         Expected::PairMap(map) => answer == Ok(Answer::PairMap(map)),
     };
@@ -40,6 +42,7 @@ pub fn check(case: &Case) -> u32 {
     match answer {
         Err(refusal) | Ok(Answer::Search(Search { marker: Err(refusal), .. })) => refusal.number,
         Ok(Answer::Explained(Err(refusal), _)) => refusal.number,
+        Ok(Answer::Differences(Err(it))) => it.refusal.number,
         Ok(Answer::PairEntry(Err(it)) | Answer::PairMap(Err(it))) => it.refusal.number,
         Ok(_) => 0,
     }
@@ -55,6 +58,9 @@ fn ask(case: &Case) -> Result<Answer, Refusal> {
         Question::JudgeMap { name, words } => ask_map(bytes, name, words),
         Question::Why { name, words, out } => ask_why(bytes, name, words, out),
         Question::Renumber { name, words, order, out } => ask_renumber(bytes, name, words, order, out),
+        Question::Differences { old, old_name, new_name, words, list } => {
+            Ok(Answer::Differences(ask_differences([old, bytes], [old_name, new_name], words, list)))
+        }
         Question::PairFind { base, name } => Ok(Answer::PairEntry(ask_pair(base, bytes, name))),
         Question::PairJudgeMap { base, name, words } => Ok(Answer::PairMap(ask_pair_map(base, bytes, name, words))),
         Question::Descend { subsectors, x, y } => descend(bytes, *subsectors, *x, *y).map(Answer::Found),
@@ -108,6 +114,60 @@ fn ask_why(wad: &[u8], name: &[u8], lent: &[u16], lent_out: &[u8]) -> Result<Ans
     }
     assert_eq!((verdict, length, &out[..length]), (judged, printed, &whole[..printed]));
     Ok(Answer::Explained(verdict, whole[..printed].to_vec()))
+}
+
+/// The words are those of both map checks, one after the other, and so are the maps' refusals; 76 and 75 come where neither map is refused. What is
+/// listed is what was asked for, and nothing else of the list is written.
+fn ask_differences(
+    files: [&[u8]; 2],
+    names: [&[u8]; 2],
+    lent: &[u16],
+    lent_list: &[u16],
+) -> Result<[usize; 8], DifferenceRefusal> {
+    let (mut words, mut list, mut left) = (lent.to_vec(), lent_list.to_vec(), lent.to_vec());
+    let answer = differences(files[0], names[0], files[1], names[1], &mut words, &mut list);
+    let judged = judge_both(files, names, &mut left);
+    assert_eq!(words, left);
+    let total = answer.map_or(0, |counts| counts.iter().sum());
+    assert_eq!(list[total..], lent_list[total..]);
+    let markers = match judged {
+        Ok(markers) => markers,
+        Err(refusal) => {
+            assert_eq!(answer, Err(refusal));
+            return answer;
+        }
+    };
+    let [old, new] = [0, 1].map(|at| map_game(files[at], markers[at]));
+    let lists: Vec<Vec<u16>> = (1..=8).map(|place| differing(files, markers, place)).collect();
+    let due = if old != new {
+        Err(76)
+    } else if lists.concat().len() > list.len() {
+        Err(75)
+    } else {
+        Ok(std::array::from_fn(|at| lists[at].len()))
+    };
+    assert_eq!(answer.map_err(|it| (it.file, it.refusal)), due.map_err(|number| (None, Refusal::plain(number))));
+    assert!(answer.is_err() || list[..total] == lists.concat());
+    answer
+}
+
+/// The markers of both maps, or the first refusal with its file.
+fn judge_both(files: [&[u8]; 2], names: [&[u8]; 2], words: &mut [u16]) -> Result<[usize; 2], DifferenceRefusal> {
+    let of = |file| move |refusal| DifferenceRefusal { file: Some(file), refusal };
+    let old = judge_map(files[0], names[0], words).map_err(of(DifferenceFile::Old))?;
+    let new = judge_map(files[1], names[1], words).map_err(of(DifferenceFile::New))?;
+    Ok([old.marker, new.marker])
+}
+
+/// Every number that the new lump has and the old one not, and every number at which both have other bytes.
+fn differing(files: [&[u8]; 2], markers: [usize; 2], place: usize) -> Vec<u16> {
+    let [old, new] = [0, 1].map(|at| lump(files[at], markers[at] + place));
+    let size = Kind::at(place, map_game(files[1], markers[1]) == Ok(true)).size();
+    let is_other = |number: &u16| {
+        let start = size * usize::from(*number);
+        (start..start + size).any(|at| old.get(at) != Some(&new[at]))
+    };
+    (0..(new.len() / size) as u16).filter(is_other).collect()
 }
 
 /// The words are the map check's, and so is a refusal of the map; any other refusal is the first rule of W-212 that does not hold. With a
