@@ -10,7 +10,7 @@ type Refused = (u32, usize, usize);
 pub struct Outcome {
     /// The answer's numbers, or the refusal's number, place and record.
     pub numbers: Result<Vec<i64>, Refused>,
-    /// The file of a pair that the answer notes, with a refusal too: 0 none, 1 the base, 2 the patch.
+    /// The file of a pair that the answer notes, with a refusal too: 0 none, 1 the base, 2 the patch; of two maps 1 the old, 2 the new.
     pub file: u32,
     /// How many names were compared, with a refusal too.
     pub compared: usize,
@@ -20,6 +20,8 @@ pub struct Outcome {
     pub part: Vec<u8>,
     /// The work words, or those of a draw order, afterwards.
     pub words: Vec<u16>,
+    /// The list of differing records afterwards.
+    pub list: Vec<u16>,
     /// The colour buffer afterwards, or what was written to: a lump, or the output of a picture, a reason or new NODES.
     pub first: Vec<u8>,
     /// The cover buffer afterwards.
@@ -28,14 +30,14 @@ pub struct Outcome {
 
 impl Outcome {
     fn new(numbers: Result<Vec<i64>, Refused>) -> Self {
-        let (part, words, first, second) = Default::default();
-        Self { numbers, file: 0, compared: 0, printed: 0, part, words, first, second }
+        let (part, words, list, first, second) = Default::default();
+        Self { numbers, file: 0, compared: 0, printed: 0, part, words, list, first, second }
     }
 }
 
 macro_rules! asker {
-    ($(#[$about:meta])* $name:ident, $side:ident, $judge_map:ident, $why:ident, $renumber:ident, $draw_order:ident, $pair_judge_map:ident,
-     $write_picture:ident, $part:expr, $pair_part:expr) => {
+    ($(#[$about:meta])* $name:ident, $side:ident, $judge_map:ident, $why:ident, $renumber:ident, $differences:ident, $draw_order:ident,
+     $pair_judge_map:ident, $write_picture:ident, $part:expr, $pair_part:expr) => {
         $(#[$about])*
         pub fn $name(case: &Case) -> Outcome {
             let refused = |it: $side::Refusal| (it.number, it.place, it.record);
@@ -82,6 +84,17 @@ macro_rules! asker {
                     let written = $side::$renumber(bytes, name, &mut words, order, &mut out);
                     let numbers = written.map(|length| vec![length as i64]).map_err(refused);
                     Outcome { words, first: out, ..Outcome::new(numbers) }
+                }
+                Question::Differences { old, old_name, new_name, words, list } => {
+                    let (mut words, mut list) = (words.clone(), list.clone());
+                    let counts = $side::$differences(old, old_name, bytes, new_name, &mut words, &mut list);
+                    let file = match counts.err().and_then(|it| it.file) {
+                        None => 0,
+                        Some($side::DifferenceFile::Old) => 1,
+                        Some($side::DifferenceFile::New) => 2,
+                    };
+                    let numbers = counts.map(|counts| counts.map(|count| count as i64).to_vec());
+                    Outcome { file, words, list, ..Outcome::new(numbers.map_err(|it| refused(it.refusal))) }
                 }
                 Question::PairFind { base, name } => {
                     let found = $side::pair_find(base, bytes, name);
@@ -219,14 +232,15 @@ macro_rules! write {
 
 asker! {
     /// Asks the proved library.
-    ask_library, meshpigeon, judge_map_with, why_with, renumber_with, draw_order_with, pair_judge_map_with, write_picture_with,
+    ask_library, meshpigeon, judge_map_with, why_with, renumber_with, differences_with, draw_order_with, pair_judge_map_with,
+    write_picture_with,
     |bytes, number| meshpigeon::lump(bytes, number).unwrap_or_default().to_vec(),
     |base, patch, name| meshpigeon::pair_lump(base, patch, name).map_or_else(|_| Vec::new(), |lump| lump.bytes.to_vec())
 }
 
 asker! {
     /// Asks the independent reader.
-    ask_reader, reader, judge_map, why, renumber, draw_order, pair_judge_map, write_picture,
+    ask_reader, reader, judge_map, why, renumber, differences, draw_order, pair_judge_map, write_picture,
     |bytes, number| reader::lump(bytes, number).to_vec(),
     |base, patch, name| reader::pair_lump(base, patch, name).to_vec()
 }

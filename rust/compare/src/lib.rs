@@ -5,6 +5,7 @@
 #![deny(missing_docs)]
 
 mod ask;
+mod differences;
 mod reason;
 mod renumber;
 mod stream;
@@ -13,7 +14,7 @@ pub use ask::{ask_library, ask_reader, Outcome};
 pub use stream::{fed, judged, stepped};
 
 use generator::{Case, Expected, Question};
-use reader::{PairFile, PairRefusal};
+use reader::{DifferenceFile, DifferenceRefusal, PairFile, PairRefusal};
 
 /// What is wrong with the answers to a case, if anything: they differ, or are not what the generator knows.
 pub fn fault(case: &Case) -> Option<String> {
@@ -25,7 +26,10 @@ pub fn fault(case: &Case) -> Option<String> {
     if !comes_back(case, &library) {
         return Some(format!("what was written is not read back: {library:?}"));
     }
-    let more = stream::fault(case).or_else(|| reason::fault(case, &library)).or_else(|| renumber::fault(case, &library));
+    let more = stream::fault(case)
+        .or_else(|| reason::fault(case, &library))
+        .or_else(|| renumber::fault(case, &library))
+        .or_else(|| differences::fault(case, &library));
     if let Some(words) = more {
         return Some(words);
     }
@@ -46,6 +50,7 @@ pub fn fault(case: &Case) -> Option<String> {
             let marker = it.marker.map(|it| vec![it as i64]).map_err(|it| (it.number, it.place, it.record));
             (&library.numbers, library.compared) == (&marker, it.compared)
         }
+        Expected::Differences(it) => is_of_two(&library, it),
         Expected::PairEntry(it) => is_of_pair(&library, it.map(|it| (it.file, vec![it.offset as i64, it.size as i64]))),
         Expected::PairMap(it) => is_of_pair(&library, it.map(|it| (it.file, vec![it.map.depth as i64, it.map.marker as i64]))),
     };
@@ -67,6 +72,14 @@ fn comes_back(case: &Case, written: &Outcome) -> bool {
     meshpigeon::judge_picture(lump) == Ok(picture)
         && meshpigeon::paint_picture(lump, &mut painted, &mut covered) == Ok(picture)
         && (&covered[..], painted) == (&case.bytes[..area], kept)
+}
+
+/// Whether counts and file are those of this answer on two maps.
+fn is_of_two(outcome: &Outcome, known: Result<[usize; 8], DifferenceRefusal>) -> bool {
+    let file = known.err().and_then(|it| it.file).map_or(0, |file| if file == DifferenceFile::Old { 1 } else { 2 });
+    let counts = known.map(|counts| counts.map(|count| count as i64).to_vec());
+    let numbers = counts.map_err(|it| (it.refusal.number, it.refusal.place, it.refusal.record));
+    (outcome.file, &outcome.numbers) == (file, &numbers)
 }
 
 /// Whether numbers and file are those of this answer on a pair.

@@ -1,8 +1,8 @@
 //! Library and reader on generated cases: 200,000 by default, any number by MESHPIGEON_CASES, from MESHPIGEON_SEED.
 
 use compare::fault;
-use generator::{all_picture_damages, case, every_second, limits, renumber_case, shrink, why_case, with_order, with_reason};
-use generator::{Canvas, Case, Question, Rng};
+use generator::{all_picture_damages, case, differences_case, every_second, limits, renumber_case, shrink, why_case};
+use generator::{with_order, with_other, with_reason, Canvas, Case, Question, Rng};
 use std::env;
 use std::thread;
 
@@ -55,6 +55,23 @@ fn reasons_of_generated_maps_agree() {
 #[test]
 fn orders_of_generated_maps_agree() {
     hold_all(|seed, index| renumber_case(&mut Rng::of_case(seed, index)));
+}
+
+#[test]
+fn differences_of_generated_maps_agree() {
+    hold_all(|seed, index| differences_case(&mut Rng::of_case(seed, index)));
+}
+
+/// Whatever the map check is asked at a limit, the map is compared too, with itself or a good one.
+#[test]
+fn differences_at_both_sides_of_every_limit_agree() {
+    let mut rng = Rng::new(17);
+    for (index, build) in limits().iter().enumerate() {
+        let case = build();
+        if matches!(case.question, Question::JudgeMap { .. }) {
+            hold(&with_other(case, &mut rng), &format!("difference at limit {index}"));
+        }
+    }
 }
 
 /// Whatever the map check is asked at a limit, an order of its nodes is tried too.
