@@ -88,6 +88,17 @@ pub enum Command {
         /// The count of sectors, good or not.
         sectors: usize,
     },
+    /// Say what changed between two files' maps.
+    Diff {
+        /// The old file.
+        old: OsString,
+        /// The new file.
+        new: OsString,
+        /// Names as given; none for every map that both have.
+        maps: Vec<OsString>,
+        /// Whether each record is told.
+        records: bool,
+    },
     /// Number a map's nodes anew.
     Renumber {
         /// The file.
@@ -125,6 +136,7 @@ struct Parts {
     offset: Option<OsString>,
     list: Option<OsString>,
     output: Option<OsString>,
+    records: bool,
     json: bool,
     quiet: bool,
     help: bool,
@@ -132,7 +144,7 @@ struct Parts {
 }
 
 /// What may be asked for.
-const COMMANDS: &str = "judge, list, descend, order, picture, encode, sidedefs or renumber";
+const COMMANDS: &str = "judge, list, descend, order, picture, encode, sidedefs, renumber or diff";
 
 /// Takes the arguments after the program's name apart.
 pub fn parse(arguments: Vec<OsString>) -> Result<Request, Misuse> {
@@ -157,6 +169,7 @@ pub fn parse(arguments: Vec<OsString>) -> Result<Request, Misuse> {
         Some("picture") => picture(&parts),
         Some("encode") => encode(&parts),
         Some("sidedefs") => sidedefs(&parts),
+        Some("diff") => diff(&parts),
         Some("renumber") => renumber(&parts),
         _ => misuse(format!("'{}' is no command: {COMMANDS}", shown(&name))),
     }?;
@@ -177,6 +190,7 @@ fn split(arguments: Vec<OsString>) -> Result<Parts, Misuse> {
         match argument.to_str() {
             Some("--") => parts.words.extend(rest.by_ref()),
             Some("--json") => parts.json = true,
+            Some("--records") => parts.records = true,
             Some("--quiet" | "-q") => parts.quiet = true,
             Some("--help" | "-h") => parts.help = true,
             Some("--version" | "-V") => parts.version = true,
@@ -230,7 +244,7 @@ fn is_option(argument: &OsStr) -> bool {
 /// Refuses options that the command does not know.
 fn fits(command: &OsStr, parts: &Parts) -> Result<(), Misuse> {
     let takes = |commands: &[&str]| commands.iter().any(|it| command == *it);
-    let strange = if !parts.maps.is_empty() && !takes(&["judge"]) {
+    let strange = if !parts.maps.is_empty() && !takes(&["judge", "diff"]) {
         "--map"
     } else if parts.base.is_some() && !takes(&["judge", "picture"]) {
         "--base"
@@ -242,6 +256,8 @@ fn fits(command: &OsStr, parts: &Parts) -> Result<(), Misuse> {
         "--order"
     } else if parts.output.is_some() && !takes(&["order", "picture", "encode", "renumber"]) {
         "-o"
+    } else if parts.records && !takes(&["diff"]) {
+        "--records"
     } else if parts.quiet && !takes(&["judge", "picture", "encode", "sidedefs", "renumber"]) {
         "--quiet"
     } else {
@@ -317,6 +333,12 @@ fn encode(parts: &Parts) -> Result<Command, Misuse> {
 fn sidedefs(parts: &Parts) -> Result<Command, Misuse> {
     let [sectors] = words(parts, "sidedefs needs SECTORS, and the lump on standard input")?;
     Ok(Command::Sidedefs { sectors: count(&sectors)? })
+}
+
+fn diff(parts: &Parts) -> Result<Command, Misuse> {
+    let [old, new] = words(parts, "diff needs OLD NEW")?;
+    read_once([&old, &new].into_iter())?;
+    Ok(Command::Diff { old, new, maps: parts.maps.clone(), records: parts.records })
 }
 
 fn renumber(parts: &Parts) -> Result<Command, Misuse> {

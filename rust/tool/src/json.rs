@@ -30,9 +30,15 @@ impl Object {
     }
 
     /// A list of numbers.
-    pub fn numbers(self, key: &str, values: &[u16]) -> Self {
-        let values: Vec<String> = values.iter().map(u16::to_string).collect();
+    pub fn numbers<N: ToString>(self, key: &str, values: &[N]) -> Self {
+        let values: Vec<String> = values.iter().map(N::to_string).collect();
         self.member(key, Some(format!("[{}]", values.join(","))))
+    }
+
+    /// A list of objects, or null.
+    pub fn objects(self, key: &str, values: Option<Vec<Object>>) -> Self {
+        let list = |values: Vec<Object>| values.into_iter().map(Object::close).collect::<Vec<_>>().join(",");
+        self.member(key, values.map(|values| format!("[{}]", list(values))))
     }
 
     /// An object, or null.
@@ -88,8 +94,10 @@ mod tests {
 
     #[test]
     fn a_member_may_be_a_list() {
-        let object = Object::new().numbers("some", &[3, 0, 65_535]).numbers("none", &[]);
+        let object = Object::new().numbers("some", &[3, 0, 65_535]).numbers::<u16>("none", &[]);
         assert_eq!(object.close(), r#"{"some":[3,0,65535],"none":[]}"#);
+        let object = Object::new().objects("some", Some(vec![Object::new(), Object::new().count("a", 1)])).objects("none", None);
+        assert_eq!(object.close(), r#"{"some":[{},{"a":1}],"none":null}"#);
     }
 
     #[test]

@@ -16,13 +16,7 @@ pub fn run(files: &[OsString], base: Option<&OsStr>, maps: &[OsString], report: 
         Ok(below) => below,
         Err(fault) => return report.fault(base.unwrap_or_default(), fault),
     };
-    let mut asked: Vec<Vec<u8>> = Vec::new();
-    for map in maps.iter().map(|map| name::asked(map)) {
-        if !asked.contains(&map) {
-            asked.push(map);
-        }
-    }
-    let mut lent = Lent::new();
+    let (asked, mut lent) = (name::all_asked(maps), Lent::new());
     for file in files {
         match Opened::open(file, &below) {
             Ok(opened) => judge_file(file, &opened, &asked, &mut lent, report),

@@ -8,6 +8,7 @@
 
 mod args;
 mod descend;
+mod diff;
 mod encode;
 mod field;
 mod finding;
@@ -24,6 +25,7 @@ mod pair;
 mod palette;
 mod picture;
 mod png;
+mod record;
 mod renumber;
 mod report;
 mod sidedefs;
@@ -65,6 +67,7 @@ fn run(request: &Request, report: &mut Report) {
         }
         Command::Encode { image, palette, offset, output } => encode::run(image, palette.as_deref(), *offset, output, report),
         Command::Sidedefs { sectors } => sidedefs::run(*sectors, report),
+        Command::Diff { old, new, maps, records } => diff::run(old, new, maps, *records, report),
         Command::Renumber { file, map, list, output } => renumber::run(file, map, list.as_deref(), output, report),
     }
 }

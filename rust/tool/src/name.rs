@@ -1,10 +1,21 @@
 //! Names: of lumps and maps as eight bytes, and of anything as text that is safe to print.
 
-use std::ffi::OsStr;
+use std::ffi::{OsStr, OsString};
 
 /// A name as it is asked for: upper case, zero-padded to eight bytes. A longer one is left as long as it is, and is then no entry's.
 pub fn asked(given: &OsStr) -> Vec<u8> {
     padded(&given.as_encoded_bytes().to_ascii_uppercase())
+}
+
+/// All names that are asked for, each once.
+pub fn all_asked(given: &[OsString]) -> Vec<Vec<u8>> {
+    let mut all: Vec<Vec<u8>> = Vec::new();
+    for name in given.iter().map(|name| asked(name)) {
+        if !all.contains(&name) {
+            all.push(name);
+        }
+    }
+    all
 }
 
 /// A name zero-padded to eight bytes, if it is not longer.

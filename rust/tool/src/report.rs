@@ -6,8 +6,9 @@ use crate::verdict::{counted, Outcome, Source, Subject, Verdict};
 use std::ffi::OsStr;
 use std::io::{self, IsTerminal, Write};
 
-/// Something was refused.
+/// Something was refused; in a comparison, something differs.
 const REFUSED: u8 = 1;
+const DIFFERS: u8 = 1;
 /// Something could not be read or written.
 const UNREAD: u8 = 2;
 /// The command line was not understood.
@@ -29,6 +30,8 @@ pub struct Report {
     output: io::Stdout,
     broken: Option<io::Error>,
     status: u8,
+    /// The status of a refusal.
+    refused: u8,
     tally: Tally,
 }
 
@@ -48,7 +51,17 @@ impl Report {
     pub fn new(json: bool, quiet: bool) -> Self {
         let output = io::stdout();
         let colour = output.is_terminal() && std::env::var_os("NO_COLOR").is_none();
-        Self { json, quiet, colour, output, broken: None, status: 0, tally: Tally::default() }
+        Self { json, quiet, colour, output, broken: None, status: 0, refused: REFUSED, tally: Tally::default() }
+    }
+
+    /// From now on a refusal has the status of what cannot be read, as `diff` has it.
+    pub fn compare(&mut self) {
+        self.refused = UNREAD;
+    }
+
+    /// Two maps are not the same, or one of them is not there.
+    pub fn differs(&mut self) {
+        self.worsen(DIFFERS);
     }
 
     /// A verdict.
@@ -143,7 +156,7 @@ impl Report {
             (Outcome::NoMap, _) => self.tally.files_without += 1,
         }
         if verdict.is_refusal() {
-            self.worsen(REFUSED);
+            self.worsen(self.refused);
         }
     }
 }

@@ -60,9 +60,12 @@ fn value(rest: &mut Rest) -> Value {
     }
 }
 
-/// One value or more, up to the closing bracket.
+/// Any number of values, up to the closing bracket.
 fn values(rest: &mut Rest) -> Vec<Value> {
     let mut values = Vec::new();
+    if rest.next_if_eq(&']').is_some() {
+        return values;
+    }
     loop {
         values.push(value(rest));
         match rest.next() {

@@ -2,6 +2,7 @@
 #![forbid(unsafe_code)]
 
 mod descend;
+mod diff;
 mod encode;
 mod found;
 mod hexen;

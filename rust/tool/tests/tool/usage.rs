@@ -60,6 +60,9 @@ fn each_command_has_its_words() {
     misused(&["renumber", "a.wad", "-o", "b"], "renumber needs FILE MAP -o OUT.wad");
     misused(&["renumber", "a.wad", "MAP01", "0", "-o", "b"], "renumber needs FILE MAP -o OUT.wad");
     misused(&["renumber", "-", "MAP01", "-o", "b", "--order", "-"], "standard input can be judged once only");
+    misused(&["diff", "a.wad"], "diff needs OLD NEW");
+    misused(&["diff", "a.wad", "a.wad", "MAP01"], "diff needs OLD NEW");
+    misused(&["diff", "-", "-"], "standard input can be judged once only");
 }
 
 #[test]
@@ -83,6 +86,10 @@ fn each_command_has_its_options() {
     misused(&["renumber", "a.wad", "MAP01", "-o", "b", "--map", "MAP01"], "renumber does not take --map");
     misused(&["renumber", "a.wad", "MAP01", "-o", "b", "--base", "a.wad"], "renumber does not take --base");
     misused(&["order", "a.wad", "MAP01", "0", "0", "--order", "b"], "order does not take --order");
+    misused(&["judge", "a.wad", "--records"], "judge does not take --records");
+    misused(&["diff", "a.wad", "a.wad", "--quiet"], "diff does not take --quiet");
+    misused(&["diff", "a.wad", "a.wad", "--base", "a.wad"], "diff does not take --base");
+    misused(&["diff", "a.wad", "a.wad", "-o", "b"], "diff does not take -o");
 }
 
 #[test]
