@@ -15,8 +15,8 @@
 //!   [`littered_directory_of`], [`search_to_the_first`], [`search_in_vain`], [`pair_of`], [`pair_in_vain`], [`chain`], [`balanced`],
 //!   [`doublings`], [`shared_subsector`], [`hostile_blockmap`], [`hostile_picture`], [`picture`], [`pixels`], [`checkered`],
 //!   [`halving_nodes`], [`mixed_nodes`], [`deep_chain`], [`double_nodes`], [`deep_doublings`], [`sidedefs_of`],
-//!   [`bad_sidedef_of`], [`bad_seg_of`], [`bad_blockmap_of`], [`long_loop`], [`loop_behind_tree`], [`map_in_order`] and
-//!   [`chain_in_order`] are the inputs of a benchmark;
+//!   [`bad_sidedef_of`], [`bad_seg_of`], [`bad_blockmap_of`], [`long_loop`], [`loop_behind_tree`], [`map_in_order`],
+//!   [`chain_in_order`], [`twice`], [`with_changes`] and [`with_last_changed`] are the inputs of a benchmark;
 //! - [`shrink`] makes a failing case smaller.
 //!
 //! ```
@@ -33,6 +33,7 @@
 #![deny(missing_docs)]
 
 mod bench;
+mod bench_differences;
 mod blockmap;
 mod case;
 mod damage;
@@ -89,6 +90,7 @@ pub use bench::{
     loop_behind_tree, map_in_order, map_of, mixed_nodes, order_and_file, ordinary_map, pair_of, picture, pixels,
     repeat_at_the_end, shared_subsector, sidedefs_of, twice_as_long, FACED, MOST_BYTES,
 };
+pub use bench_differences::{twice, with_changes, with_last_changed};
 pub use blockmap::{BlockmapSpec, Layout};
 pub use case::{Case, Expected, Question};
 pub use damage::{damages, Damage};

@@ -5,7 +5,7 @@ mod common;
 use common::check;
 use generator::*;
 use reader::{descend, directory, draw_order, find_map, judge_map, judge_picture, map_game, Accepted, Found, Refusal, Search};
-use reader::{judge_sidedefs, pair_find, pair_judge_map, renumber, why, write_picture, PairFile, Picture};
+use reader::{differences, judge_sidedefs, pair_find, pair_judge_map, renumber, why, write_picture, PairFile, Picture};
 
 #[test]
 fn both_sides_of_every_limit() {
@@ -146,6 +146,23 @@ fn inputs_in_order_are_good_or_refused_at_their_end() {
         assert_eq!(renumbered(&chain_in_order(nodes, child_at_the_end)), (reached, Err(71)));
         assert_eq!(renumbered(&chain_in_order(nodes, twice_as_long)), (2 * nodes + 2, Err(73)));
     }
+}
+
+/// How many records differ of each lump of two maps in one input.
+fn differing(input: &[u8]) -> [usize; 8] {
+    let (old, new) = halves(input);
+    let (mut words, mut list) = (vec![1; 4 * 32_767], vec![1; 458_744]);
+    differences(old, &MAP_NAME, new, &MAP_NAME, &mut words, &mut list).expect("two good maps")
+}
+
+#[test]
+fn two_maps_in_one_input_differ_as_they_say() {
+    assert_eq!(differing(&twice(map_of(2))), [0; 8]);
+    assert_eq!(differing(&with_last_changed(map_of(2))), [0, 0, 0, 0, 0, 0, 0, 1]);
+    assert_eq!(differing(&with_changes(map_of(1), 10)), [15, 49, 67, 47, 75, 0, 24, 9]);
+    let most = [65_535, 65_535, 65_535, 65_535, 65_535, 0, 32_766, 8_000];
+    assert_eq!(differing(&with_changes(largest_map(), 1)), most);
+    assert_eq!(differing(&with_last_changed(largest_map())), [0, 0, 0, 0, 0, 0, 0, 1]);
 }
 
 #[test]

@@ -188,6 +188,51 @@ fn reader_renumbered(input: &[u8]) -> usize {
     length.unwrap_or_else(|refusal| refusal.number as usize)
 }
 
+/// How many records of the second map of two differ.
+fn library_differences(joined: &[u8]) -> usize {
+    let (old, new) = given::halves(joined);
+    let (mut words, mut list) = (vec![0; meshpigeon::MOST_WORDS], vec![0; meshpigeon::MOST_DIFFERENCES]);
+    let counts = meshpigeon::differences_with(old, &given::MAP_NAME, new, &given::MAP_NAME, &mut words, &mut list);
+    counts.expect("two good maps").iter().sum()
+}
+
+fn reader_differences(joined: &[u8]) -> usize {
+    let (old, new) = given::halves(joined);
+    let (mut words, mut list) = (vec![0; meshpigeon::MOST_WORDS], vec![0; meshpigeon::MOST_DIFFERENCES]);
+    let counts = reader::differences(old, &given::MAP_NAME, new, &given::MAP_NAME, &mut words, &mut list);
+    counts.expect("two good maps").iter().sum()
+}
+
+/// The depths of two maps, with the same words and list lent.
+fn library_judged_alone(joined: &[u8]) -> usize {
+    let (old, new) = given::halves(joined);
+    let (mut words, list) = (vec![0; meshpigeon::MOST_WORDS], vec![0_u16; meshpigeon::MOST_DIFFERENCES]);
+    black_box(&list);
+    [old, new].map(|wad| meshpigeon::judge_map_with(wad, &given::MAP_NAME, &mut words).expect("a good map").depth).iter().sum()
+}
+
+fn reader_judged_alone(joined: &[u8]) -> usize {
+    let (old, new) = given::halves(joined);
+    let (mut words, list) = (vec![0; meshpigeon::MOST_WORDS], vec![0_u16; meshpigeon::MOST_DIFFERENCES]);
+    black_box(&list);
+    [old, new].map(|wad| reader::judge_map(wad, &given::MAP_NAME, &mut words).expect("a good map").depth).iter().sum()
+}
+
+/// The rows of two maps of 16 MiB: judged and not compared, the same, and another in the very last record.
+const JUDGED_ALONE: &str = "differences: 16 MiB, judged alone";
+const THE_SAME: &str = "differences: 16 MiB, the same";
+const LAST_RECORD: &str = "differences: 16 MiB, last record";
+
+/// What comparing two maps costs beside judging them, in the library's own time.
+fn comparing_to_judging(rows: &[Row]) -> Option<String> {
+    let time = |name| rows.iter().find(|row| row.name == name).map(|row| row.library.as_secs_f64());
+    let alone = time(JUDGED_ALONE)?;
+    let [same, last] = [time(THE_SAME)? / alone, time(LAST_RECORD)? / alone];
+    Some(format!(
+        "Comparing two maps of 16 MiB takes {same:.2} of the time of judging both, {last:.2} where the last record differs."
+    ))
+}
+
 /// The rows of one lump: in a map with little else, whose check is mostly this lump's; in one piece; and in scraps.
 const IN_A_MAP: &str = "65,535 sidedefs in a map";
 const IN_ONE_PIECE: &str = "65,535 sidedefs in one piece";
@@ -439,6 +484,42 @@ fn inputs() -> Vec<Input> {
             reader: reader_renumbered,
         },
         Input {
+            name: "differences: ordinary map, the same",
+            sized: |n| given::twice(given::map_of(n)),
+            library: library_differences,
+            reader: reader_differences,
+        },
+        Input {
+            name: "differences: a tenth changed",
+            sized: |n| given::with_changes(given::map_of(n), 10),
+            library: library_differences,
+            reader: reader_differences,
+        },
+        Input {
+            name: JUDGED_ALONE,
+            sized: |n| given::twice(given::largest_map_of(n)),
+            library: library_judged_alone,
+            reader: reader_judged_alone,
+        },
+        Input {
+            name: THE_SAME,
+            sized: |n| given::twice(given::largest_map_of(n)),
+            library: library_differences,
+            reader: reader_differences,
+        },
+        Input {
+            name: LAST_RECORD,
+            sized: |n| given::with_last_changed(given::largest_map_of(n)),
+            library: library_differences,
+            reader: reader_differences,
+        },
+        Input {
+            name: "differences: 16 MiB, all records",
+            sized: |n| given::with_changes(given::largest_map_of(n), 1),
+            library: library_differences,
+            reader: reader_differences,
+        },
+        Input {
             name: "hostile BLOCKMAP of 16 MiB",
             sized: |n| given::hostile_blockmap_of(given::MOST_BYTES * n / 4),
             library: library_map,
@@ -534,7 +615,7 @@ fn main() {
     let asked = std::env::var("MESHPIGEON_ROWS").unwrap_or_default();
     let rows: Vec<Row> = inputs().iter().filter(|input| input.name.contains(&asked)).map(measure).collect();
     print!("{}", table(&rows));
-    if let Some(line) = scraps_to_whole(&rows) {
+    for line in [scraps_to_whole(&rows), comparing_to_judging(&rows)].iter().flatten() {
         println!("\n{line}");
     }
     if let Some(file) = std::env::args_os().nth(1) {
