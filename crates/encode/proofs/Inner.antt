@@ -10,11 +10,11 @@ use native.Mathlib.Omega.{arith}
 use lib.IntN.{pos}
 use lib.ListN.{length, length-append}
 use lib.Seq.{sets, length-sets}
-use Rattle.endian.specs.Unsigned.{putU32}
+use Rattle.endian.specs.Unsigned.{putU32, u32Bytes}
 use Rattle.picture.specs.declared.Picture.{Picture}
 use Rattle.layout.specs.Rows.{laidOut}
 use Rattle.encode.specs.Runs.{aboveOf, begins, runFrom, postOf, postAt, columnBytes, columnLength}
-use Rattle.encode.specs.Lump.{pixelAt, coveredAt, u32Bytes}
+use Rattle.encode.specs.Lump.{pixelAt, coveredAt}
 use Rattle.encode.specs.Inner.{runBytes, startOfColumn, offsetsTo, columnsTo}
 use Rattle.layout.proofs.LaidOut.{sum-more, laid-none, laid-suc, laid-more, length-laid-le}
 use Rattle.layout.proofs.Stores.{sets-append, sets-comm}

@@ -8,7 +8,8 @@ use lib.ListN.{length, length-append}
 use Rattle.picture.specs.declared.Picture.{Picture}
 use Rattle.layout.specs.Rows.{sumOf, laidOut}
 use Rattle.encode.specs.Runs.{begins, columnLength}
-use Rattle.encode.specs.Lump.{pixelAt, coveredAt, columnOf, columnSize, columnStart, u32Bytes, writtenOf, writtenLength}
+use Rattle.endian.specs.Unsigned.{u32Bytes}
+use Rattle.encode.specs.Lump.{pixelAt, coveredAt, columnOf, columnSize, columnStart, writtenOf, writtenLength}
 use Rattle.encode.specs.Inner.{startOfColumn}
 use Rattle.layout.proofs.LaidOut.{sum-none, sum-suc, sum-most, count-most, length-laid}
 use Rattle.encode.proofs.Runs.{length-column}

@@ -12,7 +12,7 @@ use lib.ListN.{length, getD, take, drop, length-append}
 use lib.Seq.{take-at, ext-getD, getD-take, length-take-le}
 use mir.Syntax.{w16}
 use mir.Val.{SFits}
-use Rattle.endian.specs.Unsigned.{u32At}
+use Rattle.endian.specs.Unsigned.{u32At, u32Bytes}
 use Rattle.endian.specs.Signed.{signed, bitsOf}
 use Rattle.endian.proofs.Unsigned.{u16-whole}
 use Rattle.endian.proofs.Signed.{signed-bits}
@@ -28,7 +28,7 @@ use Rattle.layout.specs.Buffers.{bufferAfter}
 use Rattle.canvas.specs.Pixels.{byColour, byCover, listOf, planeOf}
 use Rattle.canvas.proofs.Checks.{room-passed}
 use Rattle.canvas.proofs.Planes.{length-listOf, getD-listOf}
-use Rattle.encode.specs.Lump.{pixelsOf, pixelAt, coveredAt, columnOf, columnStart, u32Bytes, headerBytes, writtenOf}
+use Rattle.encode.specs.Lump.{pixelsOf, pixelAt, coveredAt, columnOf, columnStart, headerBytes, writtenOf}
 use Rattle.encode.specs.declared.Encoding.the-variants.{Written}
 use Rattle.encode.specs.Encoding.{encodingOf, encodeCheck, givenCheck}
 use Rattle.encode.specs.RoundTrip.{ReadBack, RoundTrip, OutputRoundTrip, PaintedRoundTrip}

@@ -5,8 +5,7 @@ use mathlib.Core.Path.{_≡_}
 use native.Mathlib.Omega.{arith}
 use lib.ListN.{length, set, length-set}
 use lib.Seq.{sets}
-use Rattle.endian.specs.Unsigned.{putU32}
-use Rattle.encode.specs.Lump.{u32Bytes}
+use Rattle.endian.specs.Unsigned.{putU32, u32Bytes}
 
 -- an offset's four bytes
 pub sets-u32 : (l : List ℕ) (at n : ℕ) → putU32 l at n ≡ sets l at (u32Bytes n)

@@ -5,7 +5,8 @@ use mathlib.Core.List.{List, []}
 use Rattle.picture.specs.Layout.{tableEnd}
 use Rattle.layout.specs.Rows.{sumOf, laidOut}
 use Rattle.encode.specs.Runs.{postOf, columnBytes, columnLength}
-use Rattle.encode.specs.Lump.{pixelAt, coveredAt, u32Bytes}
+use Rattle.endian.specs.Unsigned.{u32Bytes}
+use Rattle.encode.specs.Lump.{pixelAt, coveredAt}
 
 -- a run of `count` rows from `row` on as a post; a run of none is nothing
 abbrev pub runBytes : (ℕ → ℕ) → ℕ → ℕ → List ℕ

@@ -1,11 +1,11 @@
 -- The lump that is written: header, column offsets, columns in order with no shared bytes (02, W-201). Pixel (column, row)
 -- stands at row × width + column of both buffers. Assumes nothing.
-use Prim.Native.Nat.{ℕ, _+_, _*_, _/_, _%_}
+use Prim.Native.Nat.{ℕ, _+_, _*_}
 use mathlib.Core.Bool.{Bool}
 use mathlib.Core.List.{List, _++_}
 use lib.Dec.{eqb}
 use lib.ListN.{getD}
-use Rattle.endian.specs.Unsigned.{u16Bytes}
+use Rattle.endian.specs.Unsigned.{u16Bytes, u32Bytes}
 use Rattle.endian.specs.Signed.{bitsOf}
 use Rattle.picture.specs.declared.Picture.{Picture}
 use Rattle.picture.specs.Layout.{tableEnd}
@@ -40,10 +40,6 @@ columnStart picture cover column = tableEnd (picture .width) + sumOf (columnSize
 -- the lump's length, the layout's sum: 8 + 4 × width, and for each column 1 + 4 × runs + covered pixels
 abbrev pub writtenLength : Picture → List ℕ → ℕ
 writtenLength picture cover = columnStart picture cover (picture .width)
-
--- the four bytes of `n`
-abbrev pub u32Bytes : ℕ → List ℕ
-u32Bytes n = u16Bytes (n % 65536) ++ u16Bytes (n / 65536)
 
 -- width, height, left and top offset
 abbrev pub headerBytes : Picture → List ℕ

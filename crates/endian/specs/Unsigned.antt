@@ -1,7 +1,7 @@
 -- Little-endian unsigned numbers of two and of four bytes, read out of a list of bytes and written back (01, "All
 -- numbers are little-endian"). Past the list's end a byte reads as 0. Assumes nothing.
 use Prim.Native.Nat.{ℕ, _+_, _*_, _/_, _%_, _<_}
-use mathlib.Core.List.{List, [], _∷_}
+use mathlib.Core.List.{List, [], _∷_, _++_}
 use lib.ListN.{getD, set}
 
 -- every element of `xs` is a byte
@@ -19,6 +19,10 @@ u32At xs at = u16At xs at + 65536 * u16At xs (at + 2)
 -- the two bytes of `n`
 abbrev pub u16Bytes : ℕ → List ℕ
 u16Bytes n = n % 256 ∷ n / 256 ∷ []
+
+-- the four bytes of `n`
+abbrev pub u32Bytes : ℕ → List ℕ
+u32Bytes n = u16Bytes (n % 65536) ++ u16Bytes (n / 65536)
 
 -- `xs` with the two bytes of `n` at `at`
 abbrev pub putU16 : List ℕ → ℕ → ℕ → List ℕ

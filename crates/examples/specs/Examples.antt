@@ -5,7 +5,7 @@ use mathlib.Core.List.{List, [], _∷_, _++_}
 use mathlib.Core.Path.{_≡_}
 use lib.IntN.{ℤ, pos, negsuc, _-ℤ_, _*ℤ_}
 use lib.ListN.{length, replicate}
-use Rattle.endian.specs.Unsigned.{u16Bytes}
+use Rattle.endian.specs.Unsigned.{u16Bytes, u32Bytes}
 use Rattle.refusal.specs.declared.Check.the-variants.{Pass}
 use Rattle.refusal.specs.declared.Refusal.the-variants.{DescentLoop}
 use Rattle.name.specs.Names.{nameOk, sameName}
@@ -43,10 +43,7 @@ lowest = negsuc 32767
 abbrev node : ℕ → ℕ → List ℕ
 node right left = replicate 24 0 ++ u16Bytes right ++ u16Bytes left
 
--- numbers and entries of a file
-abbrev u32Bytes : ℕ → List ℕ
-u32Bytes n = u16Bytes (n % 65536) ++ u16Bytes (n / 65536)
-
+-- an entry of a file
 abbrev entry : ℕ → ℕ → ℕ → List ℕ
 entry place offset size = u32Bytes offset ++ u32Bytes size ++ lumpName place
 

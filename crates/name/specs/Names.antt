@@ -33,16 +33,16 @@ charactersOk (c ∷ cs) = characterOk c && charactersOk cs
 abbrev pub nameOk : List ℕ → Bool
 nameOk bytes = not (isEmpty (nameOf bytes)) && charactersOk (nameOf bytes)
 
--- two rows of characters are the same
-abbrev pub sameCharacters : List ℕ → List ℕ → Bool
-sameCharacters [] [] = true
-sameCharacters [] (d ∷ ds) = false
-sameCharacters (c ∷ cs) [] = false
-sameCharacters (c ∷ cs) (d ∷ ds) = eqb c d && sameCharacters cs ds
+-- two rows of bytes are the same
+abbrev pub sameBytes : List ℕ → List ℕ → Bool
+sameBytes [] [] = true
+sameBytes [] (d ∷ ds) = false
+sameBytes (c ∷ cs) [] = false
+sameBytes (c ∷ cs) (d ∷ ds) = eqb c d && sameBytes cs ds
 
 -- two names are the same
 abbrev pub sameName : List ℕ → List ℕ → Bool
-sameName bytes bytes′ = sameCharacters (nameOf bytes) (nameOf bytes′)
+sameName bytes bytes′ = sameBytes (nameOf bytes) (nameOf bytes′)
 
 -- as many characters as tests, each passing its own
 abbrev pub fits : List (ℕ → Bool) → List ℕ → Bool

@@ -17,7 +17,8 @@ use Rattle.refusal.specs.declared.Refusal.the-variants.{PostBounds, Post
 use Rattle.refusal.specs.declared.Refusal.the-variants.{EncodeSize, EncodeCover, EncodeRoom}
 use Rattle.refusal.specs.declared.Refusal.the-variants.{RecordBounds, RecordFields}
 use Rattle.refusal.specs.declared.Refusal.the-variants.{RenumberNodes, RenumberChild, RenumberRoot, RenumberLength, RenumberRoom}
-use Rattle.refusal.specs.declared.Refusal.the-variants.{DifferenceRoom, DifferenceGames, StreamSectors, StreamLength, ReasonRoom}
+use Rattle.refusal.specs.declared.Refusal.the-variants.{DifferenceRoom, DifferenceGames, StreamSectors, StreamLength}
+use Rattle.refusal.specs.declared.Refusal.the-variants.{IndexHead, IndexVersion, IndexEntries, ReasonRoom, IndexRoom}
 
 -- a row of the table: number, place, record
 abbrev pub row : ℕ → ℕ → ℕ → Row
@@ -74,7 +75,11 @@ rowOf DifferenceRoom = row 75 0 0
 rowOf DifferenceGames = row 76 0 0
 rowOf StreamSectors = row 80 0 0
 rowOf StreamLength = row 81 0 0
+rowOf IndexHead = row 82 0 0
+rowOf IndexVersion = row 83 0 0
+rowOf IndexEntries = row 84 0 0
 rowOf ReasonRoom = row 85 0 0
+rowOf IndexRoom = row 86 0 0
 
 -- the paper's number of a refusal
 abbrev pub numberOf : Refusal → ℕ

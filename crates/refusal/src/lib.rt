@@ -100,8 +100,16 @@ pub enum Refusal {
     StreamSectors,
     // 81: sidedefs as they arrive, more bytes than a file has
     StreamLength,
+    // 82: an index too short, or of another file
+    IndexHead,
+    // 83: an index of another version
+    IndexVersion,
+    // 84: an index that is not the directory's
+    IndexEntries,
     // 85: why a map is judged as it is, an output buffer under what is printed
     ReasonRoom,
+    // 86: building an index, records or output too short
+    IndexRoom,
 }
 
 // What a check answers.
@@ -167,7 +175,11 @@ pub fn row_of(r: Refusal) -> Row
         Refusal::DifferenceGames => Row(76, 0, 0),
         Refusal::StreamSectors => Row(80, 0, 0),
         Refusal::StreamLength => Row(81, 0, 0),
+        Refusal::IndexHead => Row(82, 0, 0),
+        Refusal::IndexVersion => Row(83, 0, 0),
+        Refusal::IndexEntries => Row(84, 0, 0),
         Refusal::ReasonRoom => Row(85, 0, 0),
+        Refusal::IndexRoom => Row(86, 0, 0),
     }
 }
 

@@ -1,0 +1,5 @@
+-- Records of a name index and their order, the index's bytes, and what they are. Assumes nothing.
+
+pub mod Records
+pub mod Index
+pub mod Promises

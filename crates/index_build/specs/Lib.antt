@@ -1,0 +1,3 @@
+-- Building an index. Assumes nothing.
+
+pub mod Building

@@ -1,0 +1,4 @@
+-- The full check of an index. Assumes nothing.
+
+pub mod Checking
+pub mod Promises

@@ -1,0 +1,1 @@
+// The last entry of a name by an index (W-210). The definitions are in specs/.
