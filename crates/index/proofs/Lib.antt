@@ -1,5 +1,7 @@
--- The laws of records in order, and of the sorted records of a directory. Assumes nothing.
+-- The laws of records in order, of the sorted records of a directory, and of the bytes of an index. Assumes nothing.
 
 pub mod Orders
 pub mod Sorting
 pub mod Holds
+pub mod Padded
+pub mod Bytes

@@ -1,1 +1,3 @@
--- Laws. Assumes nothing.
+-- The laws of the full check. Assumes nothing.
+
+pub mod Accepts

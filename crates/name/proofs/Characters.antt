@@ -26,7 +26,7 @@ abbrev allBelow : ℕ → (ℕ → Bool) → Bool
 allBelow zero ok = true
 allBelow (suc n) ok = ok n && allBelow n ok
 
-both : (a b : Bool) → (a && b) ≡ true → (a ≡ true) × (b ≡ true)
+pub both : (a b : Bool) → (a && b) ≡ true → (a ≡ true) × (b ≡ true)
 both true b e = (refl, e)
 both false b e = let z : _≡_ {A = ℕ} 0 1 = cc in absurd (omega arith)
 

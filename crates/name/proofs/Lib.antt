@@ -2,3 +2,4 @@
 
 pub mod Characters
 pub mod Rows
+pub mod Bytes
