@@ -28,8 +28,9 @@ module _ (wad : List ℕ) where
       (e, le-leb (recordPlace (entryCount (headOf wad))) (length (indexBytes wad)) (omega arith), eq-eqb _ _ n, eq-eqb _ _ of)
 
 pub accepts-the-index : AcceptsTheIndex
-accepts-the-index wad index e =
-    (λ (p : indexCheck wad index ≡ Pass).
-    let rest = andThen-pass (indexHeadCheck wad index) (unless (sameBytes index (indexBytes wad)) IndexEntries) p .1 in
-    same-equal index (indexBytes wad) (unless-pass (sameBytes index (indexBytes wad)) IndexEntries rest),
-    λ (p : index ≡ indexBytes wad). rw (p, head-passes wad e, equal-same (indexBytes wad)))
+accepts-the-index wad index e = (
+  λ (p : indexCheck wad index ≡ Pass).
+      let rest = andThen-pass (indexHeadCheck wad index) (unless (sameBytes index (indexBytes wad)) IndexEntries) p .1 in
+      same-equal index (indexBytes wad) (unless-pass (sameBytes index (indexBytes wad)) IndexEntries rest),
+  λ (p : index ≡ indexBytes wad). rw (p, head-passes wad e, equal-same (indexBytes wad)),
+)

@@ -1,1 +1,4 @@
--- Laws. Assumes nothing.
+-- The laws of a lookup. Assumes nothing.
+
+pub mod Halving
+pub mod Holds
