@@ -1,4 +1,6 @@
 // The records of a name index (W-210): a name and an entry number, and which comes first. The definitions are in specs/.
+pub mod names;
+
 ghost use mathlib.Core.Path.{_≡_};
 ghost use Rattle.index.specs.Records.{precedes};
 
