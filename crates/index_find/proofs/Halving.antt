@@ -20,21 +20,21 @@ before-or-after i m =
     ⊎-elim (λ (h : i < m + 1). inl (omega arith)) (λ (h : m + 1 ≤ i). inr h) (under-or-not i (m + 1))
 
 module _ (low : ℕ → Bool) where
-  past-none : (past left : ℕ) → pastBy low 0 past left ≡ past
+  pub past-none : (past left : ℕ) → pastBy low 0 past left ≡ past
   unfolding pastBy
   past-none past left = refl
 
-  past-step : (fuel past left : ℕ) → pastBy low (suc fuel) past left
+  pub past-step : (fuel past left : ℕ) → pastBy low (suc fuel) past left
       ≡ cond (eqb left 0) past
       (cond (low (past + left / 2)) (pastBy low fuel (past + left / 2 + 1) (left - left / 2 - 1)) (pastBy low fuel past (left / 2)))
   unfolding pastBy
   past-step fuel past left = refl
 
-  compared-none : (past left : ℕ) → comparedBy low 0 past left ≡ 0
+  pub compared-none : (past left : ℕ) → comparedBy low 0 past left ≡ 0
   unfolding comparedBy
   compared-none past left = refl
 
-  compared-step : (fuel past left : ℕ) → comparedBy low (suc fuel) past left
+  pub compared-step : (fuel past left : ℕ) → comparedBy low (suc fuel) past left
       ≡ cond (eqb left 0) 0
       (suc (cond (low (past + left / 2)) (comparedBy low fuel (past + left / 2 + 1) (left - left / 2 - 1)) (comparedBy low fuel past (left / 2))))
   unfolding comparedBy

@@ -1,4 +1,5 @@
 -- The laws of a lookup. Assumes nothing.
 
 pub mod Halving
+pub mod Turns
 pub mod Holds

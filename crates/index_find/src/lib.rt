@@ -1,1 +1,82 @@
 // The last entry of a name by an index (W-210). The definitions are in specs/.
+mod halves;
+
+ghost use mathlib.Core.Path.{_≡_};
+ghost use Prim.Native.Nat.{_*_, _≤_};
+ghost use lib.ListN.{length};
+ghost use Rattle.wad.specs.declared.map.Marker.the-variants.{Refused as NoMarker};
+ghost use Rattle.index.specs.Index.{recordPlace};
+ghost use Rattle.index_find.specs.Finding.{believed, lastPast, lookup, findAnswer};
+use halves::gone_past;
+use index_check::record_place;
+use refusal::Check;
+use refusal::Refusal;
+use wad::Marker;
+use wad::MarkerSearch;
+
+// The entry of a number that the index told, if it is one and has the name.
+fn believed(dir: &[u8], count: usize, name: &[u8], number: usize) -> Marker
+    requires { ⌜ (16 * count ≤ length (now dir)) × (length (now name) ≡ 8) ⌝ }
+    ensures { λ r. ⌜ r ≡ believed (now (dir .entry)) count (now (name .entry)) number ⌝ }
+{
+    if count <= number {
+        return Marker::Refused(Refusal::MapMissing);
+    }
+    if name::same_name(wad::part(dir, 16 * number + 8, 8), name) {
+        return Marker::Entry(number);
+    }
+    Marker::Refused(Refusal::MapMissing)
+}
+
+// The last of the records gone past, if its name is the asked one.
+fn last_past(dir: &[u8], count: usize, index: &[u8], name: &[u8], past: usize) -> Marker
+    requires { ⌜ (16 * count ≤ length (now dir)) × (length (now name) ≡ 8) ⌝ }
+    requires { ⌜ (past ≤ 4096) × (recordPlace past ≤ length (now index)) ⌝ }
+    ensures { λ r. ⌜ r ≡ lastPast (now (dir .entry)) count (now (index .entry)) (now (name .entry)) past ⌝ }
+{
+    if past == 0 {
+        return Marker::Refused(Refusal::MapMissing);
+    }
+    let at = record_place(past - 1);
+    let asked = index::names::padded(name);
+    if index_check::same_bytes(wad::part(index, at, 8), &asked) {
+        return believed(dir, count, name, endian::u16_at(index, at + 8) as usize);
+    }
+    Marker::Refused(Refusal::MapMissing)
+}
+
+// What the index leads to.
+fn look_up(dir: &[u8], count: usize, index: &[u8], name: &[u8]) -> MarkerSearch
+    requires { ⌜ (16 * count ≤ length (now dir)) × (length (now name) ≡ 8) ⌝ }
+    requires { ⌜ (count ≤ 4096) × (recordPlace count ≤ length (now index)) ⌝ }
+    ensures { λ r. ⌜ r ≡ lookup (now (dir .entry)) count (now (index .entry)) (now (name .entry)) ⌝ }
+{
+    let gone = gone_past(index, count, name);
+    MarkerSearch {
+        marker: last_past(dir, count, index, name, gone.past),
+        compared: gone.compared,
+    }
+}
+
+// A refusal before any name is compared.
+fn nothing_compared(r: Refusal) -> MarkerSearch
+    ensures { λ a. ⌜ a ≡ record { marker = NoMarker r; compared = 0 } ⌝ }
+{
+    MarkerSearch {
+        marker: Marker::Refused(r),
+        compared: 0,
+    }
+}
+
+// The last entry of the name: 1 to 6, 82, 83 and 11; and how many names were compared. Nothing else of the index is believed.
+pub fn find(wad: &[u8], index: &[u8], name: &[u8]) -> MarkerSearch
+    ensures { λ r. ⌜ r ≡ findAnswer (now (wad .entry)) (now (index .entry)) (now (name .entry)) ⌝ }
+{
+    if let Check::Refused(r) = index_check::judge_head(wad, index) {
+        return nothing_compared(r);
+    }
+    if name.len() == 8 {
+        return look_up(wad::directory_of(wad), wad::entry_count(wad), index, name);
+    }
+    nothing_compared(Refusal::MapMissing)
+}
