@@ -2,7 +2,8 @@
 -- Assumes nothing.
 use Prim.Native.Nat.{_-_}
 use mathlib.Core.Bool.{Bool}
-use mathlib.Core.Path.{_≡_, refl, sym, ap, _∙_}
+use mathlib.Core.Path.{_≡_, refl, ap}
+use native.Mathlib.Omega.{arith}
 use borrow.Author.Needs.{needs}
 use borrow.Author.Tests.{eq-eqb, ne-eqb}
 use denote.Ref.{now}
@@ -27,11 +28,11 @@ returns : tie.Need-returns Inv-loop μ-loop
 returns c =
     let a = c .before .before .before .before .args in
     let place = c .before .record-place .ensures in
-    let other : length (now (a .index)) ≡ recordPlace (a .count) → ⊥ = λ e. c .if1 .taken (e ∙ sym place) in
+    let other : length (now (a .index)) ≡ recordPlace (a .count) → ⊥ = λ e. absurd (omega (arith, c .if1 .taken, e, place)) in
     refused-then _ (ap (λ (b : Bool). unless b IndexEntries) (ne-eqb (length (now (a .index))) (recordPlace (a .count)) other))
 
 loop-holds : tie.Need-loop-holds Inv-loop μ-loop
-loop-holds c = (c .if1 .left ∙ c .before .record-place .ensures, scanned-none)
+loop-holds c = (omega (arith, c .if1 .left, c .before .record-place .ensures), scanned-none)
 
 returns-2 : tie.Need-returns-2 Inv-loop μ-loop
 returns-2 c =
