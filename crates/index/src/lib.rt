@@ -2,7 +2,9 @@
 pub mod names;
 
 ghost use mathlib.Core.Path.{_≡_};
-ghost use Rattle.index.specs.Records.{precedes};
+ghost use Prim.Native.Nat.{_+_, _*_, _<_, _≤_};
+ghost use lib.ListN.{length};
+ghost use Rattle.index.specs.Records.{recordAt, precedes};
 
 // A name's eight bytes, zeros after the first zero, and the number of an entry that has it.
 #[repr(C)]
@@ -34,4 +36,15 @@ pub fn precedes(a: IndexRecord, b: IndexRecord) -> bool
                                                             & ((x[7] < y[7])
                                                                 | (x[7] == y[7])
                                                                     & (a.number < b.number))))))))
+}
+
+// The record of entry `i` of a directory.
+pub fn record_at(dir: &[u8], i: usize) -> IndexRecord
+    requires { ⌜ (16 * i + 16 ≤ length (now dir)) × (i < 65536) ⌝ }
+    ensures { λ r. ⌜ r ≡ recordAt (now (dir .entry)) i ⌝ }
+{
+    IndexRecord {
+        name: names::padded(wad::part(dir, 16 * i + 8, 8)),
+        number: i as u16,
+    }
 }
