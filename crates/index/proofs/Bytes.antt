@@ -54,7 +54,7 @@ module _ (wad : List ℕ) where
       let (k, (low, is)) = holds .entries i (omega (arith, holds .long, h)) in
       ap (λ (r : IndexRecord). length (r .name)) is ∙ padded-length (entryName (directoryOf wad) k)
 
-  row-length : (i : ℕ) → i < count → length (indexRecordBytes (at i)) ≡ indexRecordSize
+  pub row-length : (i : ℕ) → i < count → length (indexRecordBytes (at i)) ≡ indexRecordSize
   row-length i h =
       let e = length-append (at i .name) (u16Bytes (at i .number)) in
       let n = name-length i h in

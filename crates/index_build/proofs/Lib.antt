@@ -1,1 +1,10 @@
--- Laws. Assumes nothing.
+-- The laws of building, and what its walks share. Assumes nothing.
+
+pub mod Again
+pub mod Walk
+pub mod Places
+pub mod Pushes
+pub mod SortedOver
+pub mod Bytes
+pub mod Rooms
+pub mod Whole

@@ -1,3 +1,4 @@
 -- Building an index. Assumes nothing.
 
 pub mod Building
+pub mod Inner
