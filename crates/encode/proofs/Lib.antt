@@ -7,8 +7,3 @@ pub mod Lump
 pub mod Checks
 pub mod Examples
 pub mod Fits
-pub mod Standing
-pub mod Reading
-pub mod Posts
-pub mod Columns
-pub mod RoundTrip

@@ -17,7 +17,7 @@ use Rattle.refusal.proofs.Checks.{both, each-none, each-more}
 use Rattle.picture.specs.Layout.{widthOf, heightOf, tableEnd, columnOffset}
 use Rattle.picture.specs.Judging.{sizeOk, columnCheck, pictureCheck}
 use Rattle.canvas.specs.Pixels.{shown, listOf, planeOf}
-use Rattle.encode.proofs.Reading.{Reads}
+use Rattle.round_trip.proofs.Reading.{Reads}
 
 -- checks that all pass, one after the other
 each-all : (f : ℕ → Check) (n : ℕ) → ((i : ℕ) → i < n → f i ≡ Pass) → each f n ≡ Pass

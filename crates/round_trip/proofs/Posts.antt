@@ -10,11 +10,11 @@ use lib.ListN.{length, getD, List·getD-append}
 use Rattle.canvas.specs.Pixels.{listOf}
 use Rattle.canvas.proofs.Planes.{length-listOf, getD-listOf}
 use Rattle.layout.specs.Rows.{laidOut}
 use Rattle.encode.specs.Runs.{aboveOf, begins, runFrom, postOf, postAt, columnBytes}
 use Rattle.layout.proofs.LaidOut.{laid-none, laid-suc, length-laid-suc}
 use Rattle.encode.proofs.Runs.{run-suc, run-most, length-post, run-covered}
-use Rattle.encode.proofs.Standing.{Stands, stands-left, stands-right}
-use Rattle.encode.proofs.Reading.{Reads, PostAt, reads-end, reads-gap, reads-post}
+use Rattle.round_trip.proofs.Standing.{Stands, stands-left, stands-right}
+use Rattle.round_trip.proofs.Reading.{Reads, PostAt, reads-end, reads-gap, reads-post}
 
 -- each part of bytes that are laidOut stands after those before it
 pub stands-laid : (f : ℕ → List ℕ) {lump : List ℕ} {at : ℕ} (n : ℕ) → Stands lump at (laidOut f n) → (k : ℕ) → k < n

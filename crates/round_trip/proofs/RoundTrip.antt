@@ -28,15 +28,15 @@ use Rattle.layout.specs.Buffers.{bufferAfter}
 use Rattle.canvas.specs.Pixels.{byColour, byCover, listOf, planeOf}
 use Rattle.canvas.proofs.Checks.{room-passed}
 use Rattle.canvas.proofs.Planes.{length-listOf, getD-listOf}
 use Rattle.encode.specs.Lump.{pixelsOf, pixelAt, coveredAt, columnOf, columnStart, headerBytes, writtenOf}
 use Rattle.encode.specs.declared.Encoding.the-variants.{Written}
 use Rattle.encode.specs.Encoding.{encodingOf, encodeCheck, givenCheck}
-use Rattle.encode.specs.RoundTrip.{ReadBack, RoundTrip, OutputRoundTrip, PaintedRoundTrip}
+use Rattle.round_trip.specs.RoundTrip.{ReadBack, RoundTrip, OutputRoundTrip, PaintedRoundTrip}
 use Rattle.encode.proofs.Lump.{offsets, columns, length-offsets, length-columns, length-written}
 use Rattle.encode.proofs.Fits.{Fit, fit-of, cover-bit}
-use Rattle.encode.proofs.Standing.{Stands, stands-whole, stands-left, stands-right, stands-u32}
-use Rattle.encode.proofs.Posts.{stands-laid, column-reads}
-use Rattle.encode.proofs.Columns.{Given, accepted, plane-given, listOf-same}
+use Rattle.round_trip.proofs.Standing.{Stands, stands-whole, stands-left, stands-right, stands-u32}
+use Rattle.round_trip.proofs.Posts.{stands-laid, column-reads}
+use Rattle.round_trip.proofs.Columns.{Given, accepted, plane-given, listOf-same}
 
 -- what the four bytes of a number say is the number
 u32-whole : (n : ℕ) → u32At (u32Bytes n) 0 ≡ n

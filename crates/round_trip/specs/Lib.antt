@@ -1,0 +1,3 @@
+-- What reading a written picture gives. Assumes nothing.
+
+pub mod RoundTrip
