@@ -23,8 +23,7 @@ use types.Tokens.{lft-new, lft-end}
 use types.Run.{look, init, store, forget, stop, hop, fld, from, load, of-opd, addr, and-then, no-more, assigns, land, returns, enter, alloc1, alloc0, params1, pass1, pass0, free1, free0}
 use types.Part.{whole, sub, look-in, agg}
 use sound.WpLaws.{fmOf, WpFn-mono}
-use denote.RattleType.{RattleType, owns}
-use denote.Enum.Laws as EL
+use denote.RattleType.{owns}
 use denote.Laws.{Is, shows}
 use denote.Memory.{pointee}
 use denote.Plain.{uint-makes}
@@ -49,10 +48,8 @@ use Rattle.refusal.specs.declared.Check.{Check}
 use Rattle.index_build.specs.declared.Building.{Building}
 use Rattle.index_build.specs.Building.{buildCheck, buildingOf}
 use Rattle.index_build.specs.Inner.{entriesIn, EntriesThere, sortedOver, begun, written}
-use Rattle.index_build.proofs.Building as T
-use Rattle.index_build.proofs.Building.Laws as T′
 use Rattle.index_build.proofs.Again.{LentAgain, lends-again, comes-back, LentShared, lends-shared, shared-back}
-use Rattle.index_build.proofs.Walk.{R}
+use Rattle.index_build.proofs.Walk.{R, B, answer-typed, answer-makes}
 use Rattle.index_build.proofs.Whole.{fitting, begun-long, builds}
 use Rattle.index_build.proofs.writing.begin as begin
 use Rattle.index_build.proofs.writing.begin.Symbol as begin-def
@@ -77,13 +74,6 @@ use Rattle.index_build.proofs.build.Code as code
 
 abbrev stayed : Stays (build.ended .signature .params) (build.ended .kept)
 stayed = (stay-none-slice (0 ∷ []) tt (plain (λ _. u8)) yes, (stay-slice (1 ∷ []) tt (plain (λ _. R)), (stay-slice (2 ∷ []) tt (plain (λ _. u8)), tt)))
-
--- the answer's type
-abbrev B : RattleType
-B = T.the-row
-
-typed : {M : Type 1} {𝓤 : URA M} {H : Heap 𝓤} {A : Atoms 𝓤} → Given 𝓤 H A → (r : Building) (v : Val) → Is B r (v ∷ []) → Holds (hasTy T′.mir v) × WT v
-typed {𝓤 = 𝓤} {H = H} {A = A} W r v is = EL.lawful T.the-type T′.the-laws 𝓤 H A W tt .typed r (v ∷ []) is .0
 
 abbrev checkOf : List ℕ → ℕ → List ℕ → Check
 checkOf wad n out = buildCheck wad n (length out)
@@ -135,7 +125,7 @@ module _ {M : Type 1} (𝓤 : URA M) (H : Heap 𝓤) (A : Atoms 𝓤) (W : Given
       → ent 𝓤 (emp 𝓤) (𝓣 .C #entries-in (v ∷ []) (λ w. H .⇛ (fact 𝓤 (w ≡ vint w64 (entriesIn r)))))
   entries-runs r v v-is known =
       let x : EntriesIn .Ghost = ((tt, tt, tt, (r, tt), (v ∷ [], tt)), tt) in
-      via 𝓤 (EntriesIn .pre x) (qed W [] ∵ nothing ! $ nothing ! $ owned ! B (Is B) (EL.makes T.the-type T′.the-plain 𝓤 H A) r (v ∷ []) v-is $ fjoin ! $ nothing ! $ join ! $ frame ! $ done !)
+      via 𝓤 (EntriesIn .pre x) (qed W [] ∵ nothing ! $ nothing ! $ owned ! B (Is B) (answer-makes 𝓤 H A) r (v ∷ []) v-is $ fjoin ! $ nothing ! $ join ! $ frame ! $ done !)
       (via 𝓤 (𝓣 .C #entries-in (v ∷ []) (EntriesIn .post x)) (known x) (𝓣 .mono #entries-in (v ∷ []) (EntriesIn .post x) _ (λ w.
       qed W (raw (EntriesIn .post x w) ∷ []) ∵ updating {P = fact 𝓤 (w ≡ vint w64 (entriesIn r))} ! $
       use1 W (later (some (λ (k : ℕ). (‵ ftrue ⊛ ‵ (usize .own k (w ∷ []))) ⊛ raw (ensured 𝓤 H A entries-in.ended (entries-in.clauses 𝓤 H A mem run) tt (r, tt) tt k)))) (id⊢ 𝓤 _) $ await ! tt $ pick ! (λ k.
@@ -259,7 +249,7 @@ module _ {M : Type 1} (𝓤 : URA M) (H : Heap 𝓤) (A : Atoms 𝓤) (W : Given
       suffices ! _ (ends-at 𝓤 H A build.ended stayed (build.clauses 𝓤 H A mem run) W (((κ₀, (κ₁, (κ₂, tt))), (q₀, (q₁, (q₂, tt))), tt, a, vals), tt) v answer (tt, (zs, (bs, tt))) (tt, (long, (blong, tt)))) $ says ! (builds (d .now) ys os) $
       nothing ! $ move ! (4 ∷ 0 ∷ []) $ join ! $ move ! (2 ∷ 0 ∷ []) $ join ! $ move ! (3 ∷ 0 ∷ []) $ join ! $ frame ! $
       nothing ! $ move ! (2 ∷ 0 ∷ []) $ fjoin ! $ move ! (1 ∷ 0 ∷ []) $ fjoin ! $ move ! (1 ∷ 0 ∷ []) $ fjoin ! $ frame ! $
-      owned ! B (Is B) (EL.makes T.the-type T′.the-plain 𝓤 H A) answer (v ∷ []) v-is $ done !
+      owned ! B (Is B) (answer-makes 𝓤 H A) answer (v ∷ []) v-is $ done !
 
   module _ (𝓣 : Tables 𝓤 H) (known-begin : Triple 𝓤 (𝓣 .C #begin) (Begin 𝓤 H A W mem run 𝓣)) (known-entries : Triple 𝓤 (𝓣 .C #entries-in) (EntriesIn 𝓤 H A W mem run 𝓣)) (known-sort : Triple 𝓤 (𝓣 .C #sort) (Sort 𝓤 H A W mem run 𝓣)) (known-write : Triple 𝓤 (𝓣 .C #write) (Write 𝓤 H A W mem run 𝓣)) where
     abbrev C : Calls 𝓤 H
@@ -292,7 +282,7 @@ module _ {M : Type 1} (𝓤 : URA M) (H : Heap 𝓤) (A : Atoms 𝓤) (W : Given
         use1 W (later (‵ (flft κ₀ q₀) ⊛ ‵ (flft (ν ∷ []) fullShare) ⊛ ‵ (finally u8 δ hs) ⊛ raw (fact 𝓤 (Is B answer (v ∷ []) × (length hs ≡ length os))))) (id⊢ 𝓤 _) $ await ! tt $ split ! $ move ! (1 ∷ []) $ split ! $ move ! (1 ∷ []) $ split ! $ move ! (1 ∷ []) $
         heard ! (Is B answer (v ∷ []) × (length hs ≡ length os)) (λ h.
         -- [the last bytes; ν's token; κ₀'s token; what the lender keeps; the file; the records; κ₁'s token; the locals]
-        land ! (from ! (stop !)) (init ! 29 refl (typed W answer v (h .0))) $
+        land ! (from ! (stop !)) (init ! 29 refl (answer-typed W answer v (h .0))) $
         move ! (1 ∷ []) $ lft-end ! tt $ move ! (0 ∷ 3 ∷ 1 ∷ []) $
         use3 W (later (‵ (Bytes hs (length os)) ⊛ ‵ (flft κ₂ q₂))) (comes-back u8 κ₂ (ν ∷ []) q₂ γ′ b′ o′ 𝓤 H A W (named 2) (named 1) os δ hs o-room (h .1)) $ await ! tt $ split ! $
         -- [the bytes; κ₂'s token; κ₀'s token; the file; the records; κ₁'s token; the locals]: `entries_in`
@@ -340,7 +330,7 @@ module _ {M : Type 1} (𝓤 : URA M) (H : Heap 𝓤) (A : Atoms 𝓤) (W : Given
         use2 W (later (‵ (Recs zs (length zs)) ⊛ ‵ (flft κ₁ q₁))) (shared-back R κ₁ (ν₁ ∷ []) q₁ γ b o 𝓤 H A W (named 1) (named 0) zs (subst (Room R) (sym (f .1)) room)) $ await ! tt $ split ! $
         rewrite ! 0 (λ (m : ℕ). ‵ (Recs zs m)) (f .1) refl $
         -- [the records; κ₁'s token; the bytes; κ₂'s token; κ₀'s token; the file; the locals]
-        assigns ! (of-opd ! (load ! (from ! (stop !)) (look ! 28 refl))) (from ! (stop !)) (init ! 36 refl (typed W answer v (h .0))) $
+        assigns ! (of-opd ! (load ! (from ! (stop !)) (look ! 28 refl))) (from ! (stop !)) (init ! 36 refl (answer-typed W answer v (h .0))) $
         returns ! (look ! 36 refl) $ forget ! 36 refl $ forget ! 34 refl $ forget ! 32 refl $ forget ! 30 refl $ forget ! 28 refl $ forget ! 26 refl $ forget ! 24 refl $ forget ! 22 refl $ forget ! 20 refl $ forget ! 18 refl $ forget ! 16 refl $ forget ! 14 refl $ forget ! 12 refl $ forget ! 10 refl $ forget ! 8 refl $ forget ! 6 refl $
         move ! (36 ∷ 37 ∷ []) $ free1 ! $ move ! (34 ∷ 35 ∷ []) $ free1 ! $ move ! (32 ∷ 33 ∷ []) $ free1 ! $ move ! (30 ∷ 31 ∷ []) $ free1 ! $ move ! (28 ∷ 29 ∷ []) $ free1 ! $ move ! (26 ∷ 27 ∷ []) $ free1 ! $ move ! (24 ∷ 25 ∷ []) $ free1 ! $ move ! (22 ∷ 23 ∷ []) $ free1 ! $ move ! (20 ∷ 21 ∷ []) $ free1 ! $ move ! (18 ∷ 19 ∷ []) $ free1 ! $ move ! (16 ∷ 17 ∷ []) $ free1 ! $ move ! (14 ∷ 15 ∷ []) $ free1 ! $ move ! (12 ∷ 13 ∷ []) $ free1 ! $ move ! (10 ∷ 11 ∷ []) $ free1 ! $ move ! (8 ∷ 9 ∷ []) $ free1 ! $ move ! (6 ∷ 7 ∷ []) $ free1 ! $ free0 ! $
         by ! (exits v (h .0) (f .1) (g .1 ∙ hlong))))))))))))))))))))))))))))))))))
