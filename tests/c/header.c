@@ -89,6 +89,15 @@ AT(differences_answer, status, 0);
 AT(differences_answer, file, 24);
 AT(differences_answer, counts, 32);
 
+SIZE(index_record, 10);
+AT(index_record, name, 0);
+AT(index_record, number, 8);
+
+SIZE(index_answer, 40);
+AT(index_answer, status, 0);
+AT(index_answer, entry, 24);
+AT(index_answer, compared, 32);
+
 SIZE(picture, 24);
 AT(picture, width, 0);
 AT(picture, height, 8);
@@ -900,6 +909,137 @@ static void compared_names_and_words(void)
     EXPECT(words_are(differing, 1, 2, 3, 0) && differing[4] == 1 && differing[5] == 0xA5A5);
 }
 
+/* ---- a name index ---- */
+
+/* Five entries of no size; three have one name, two of them with rubbish after its zero. */
+enum { INDEXED = 5, INDEX_SIZE = 11 + 10 * INDEXED };
+#define NAMED(name) L(0), L(0), name
+#define LONG_NAME 'A', 'B', 'C', 'D', 'E', 'F', 'G', 'H'
+#define SKY 'S', 'K', 'Y', 0, 0, 0, 0, 0
+#define SKY1 'S', 'K', 'Y', '1', 0, 0, 0, 0
+#define SKY1_AND_RUBBISH 'S', 'K', 'Y', '1', 0, 'z', 'z', 'z'
+#define SKY1_AND_AN_A 'S', 'K', 'Y', '1', 0, 0, 0, 'A'
+static uint8_t named[] = {'P', 'W', 'A', 'D', L(INDEXED), L(12), NAMED(SKY1), NAMED(LONG_NAME), NAMED(SKY1_AND_RUBBISH), NAMED(SKY),
+                          NAMED(SKY1_AND_AN_A)};
+static const uint8_t right_index[INDEX_SIZE] = {'W', 'I', 'X', W(1), W(INDEXED), L(sizeof named), LONG_NAME, W(1), SKY, W(3), SKY1, W(0),
+                                                SKY1, W(2), SKY1, W(4)};
+
+/* What the library is lent: a record and a byte more than it needs. */
+static meshpigeon_index_record index_records[INDEXED + 1];
+static uint8_t index_bytes[INDEX_SIZE + 1];
+
+static meshpigeon_length_answer index_build(size_t records_len, size_t out_len)
+{
+    memset(index_records, 0xA5, sizeof index_records);
+    memset(index_bytes, 0xA5, sizeof index_bytes);
+    return meshpigeon_index_build(named, sizeof named, index_records, records_len, index_bytes, out_len);
+}
+
+static int is_index_refused(meshpigeon_length_answer b, uint32_t number, size_t record)
+{
+    return status_is(b.status, number, 0, record) && b.length == 0 && all_are(index_records, sizeof index_records, 0xA5) &&
+           all_are(index_bytes, sizeof index_bytes, 0xA5);
+}
+
+static void indexes(void)
+{
+    static const uint16_t sorted[INDEXED] = {1, 3, 0, 2, 4};
+    for (size_t more = 0; more <= 1; more++) {
+        meshpigeon_length_answer b = index_build(INDEXED + more, INDEX_SIZE + more);
+        EXPECT(accepted(b.status) && b.length == INDEX_SIZE && memcmp(index_bytes, right_index, INDEX_SIZE) == 0);
+        EXPECT(index_bytes[INDEX_SIZE] == 0xA5 && all_are(&index_records[INDEXED], sizeof index_records[INDEXED], 0xA5));
+        for (size_t i = 0; i < INDEXED; i++)
+            EXPECT(memcmp(index_records[i].name, right_index + 11 + 10 * i, 8) == 0 && index_records[i].number == sorted[i]);
+    }
+    EXPECT(is_index_refused(index_build(INDEXED - 1, INDEX_SIZE), 86, 0));
+    EXPECT(is_index_refused(index_build(INDEXED, INDEX_SIZE - 1), 86, 0));
+    EXPECT(is_index_refused(index_build(0, 0), 86, 0));
+    named[12 + 16 * 3 + 8] = 's';
+    EXPECT(is_index_refused(index_build(0, 0), 6, 3));
+    EXPECT(status_is(meshpigeon_index_check(named, sizeof named, right_index, 0), 6, 0, 3));
+    named[12 + 16 * 3 + 8] = 'S';
+}
+
+/* The right index with one byte changed, and room for a byte behind it. */
+static uint8_t changed_index[INDEX_SIZE + 1];
+
+static void change_index(size_t at, uint8_t byte)
+{
+    memcpy(changed_index, right_index, INDEX_SIZE);
+    changed_index[at] = byte;
+}
+
+static int is_checked(size_t index_len, uint32_t number)
+{
+    return status_is(meshpigeon_index_check(named, sizeof named, changed_index, index_len), number, 0, 0);
+}
+
+static int is_found(size_t index_len, const char *name, size_t name_len, size_t entry, size_t compared)
+{
+    meshpigeon_index_answer f =
+        meshpigeon_index_find(named, sizeof named, changed_index, index_len, (const uint8_t *)name, name_len);
+    return accepted(f.status) && f.entry == entry && f.compared == compared;
+}
+
+static int is_lookup_refused(size_t index_len, const char *name, size_t name_len, uint32_t number, size_t compared)
+{
+    meshpigeon_index_answer f =
+        meshpigeon_index_find(named, sizeof named, changed_index, index_len, (const uint8_t *)name, name_len);
+    return status_is(f.status, number, 0, 0) && f.entry == 0 && f.compared == compared;
+}
+
+static void lookups(void)
+{
+    change_index(0, 'W');
+    EXPECT(is_checked(INDEX_SIZE, 0));
+    EXPECT(is_found(INDEX_SIZE, "SKY1\0\0\0", 8, 4, 2) && is_found(INDEX_SIZE, "SKY1\0yyy", 8, 4, 2));
+    EXPECT(is_found(INDEX_SIZE, "ABCDEFGH", 8, 1, 3) && is_found(INDEX_SIZE, "SKY\0\0\0\0", 8, 3, 2));
+    EXPECT(is_lookup_refused(INDEX_SIZE, "SKY0\0\0\0", 8, 11, 2) && is_lookup_refused(INDEX_SIZE, "AAA\0\0\0\0", 8, 11, 3));
+    EXPECT(is_lookup_refused(INDEX_SIZE, "\0SKY1\0\0", 8, 11, 3));
+    EXPECT(is_lookup_refused(INDEX_SIZE, "SKY1\0\0\0", 7, 11, 0) && is_lookup_refused(INDEX_SIZE, "ABCDEFGH", 9, 11, 0));
+    named[12 + 16 * 2 + 8] = 's';
+    meshpigeon_index_answer f = meshpigeon_index_find(named, sizeof named, changed_index, 0, (const uint8_t *)"SKY1\0\0\0", 8);
+    EXPECT(status_is(f.status, 6, 0, 2) && f.entry == 0 && f.compared == 0);
+    named[12 + 16 * 2 + 8] = 'S';
+}
+
+/* Both refuse the header alike: 82 for a short index, then for mark, count and length, and before the version's 83. */
+static void bad_index_headers(void)
+{
+    static const size_t disagree[] = {0, 1, 2, 5, 6, 7, 8, 9, 10};
+    change_index(3, 2);
+    EXPECT(is_checked(INDEX_SIZE, 83) && is_lookup_refused(INDEX_SIZE, "SKY1\0\0\0", 8, 83, 0));
+    EXPECT(is_checked(INDEX_SIZE - 1, 82) && is_lookup_refused(INDEX_SIZE - 1, "SKY1\0\0\0", 8, 82, 0));
+    EXPECT(is_checked(0, 82) && is_lookup_refused(0, "SKY1", 4, 82, 0));
+    change_index(4, 1);
+    EXPECT(is_checked(INDEX_SIZE, 83) && is_lookup_refused(INDEX_SIZE, "SKY1", 4, 83, 0));
+    for (size_t i = 0; i < sizeof disagree / sizeof *disagree; i++) {
+        change_index(disagree[i], 77);
+        changed_index[3] = 2;
+        EXPECT(is_checked(INDEX_SIZE, 82) && is_lookup_refused(INDEX_SIZE, "SKY1\0\0\0", 8, 82, 0));
+    }
+}
+
+/* Any other difference is 84 for the check. A lookup does not look for it, and believes no number that leads to another name. */
+static void wrong_indexes(void)
+{
+    for (size_t at = 11; at < INDEX_SIZE; at++) {
+        change_index(at, right_index[at] + 1);
+        EXPECT(is_checked(INDEX_SIZE, 84));
+    }
+    change_index(INDEX_SIZE, 0);
+    EXPECT(is_checked(INDEX_SIZE + 1, 84) && is_found(INDEX_SIZE + 1, "SKY1\0\0\0", 8, 4, 2));
+    change_index(INDEX_SIZE - 2, 2);
+    EXPECT(is_checked(INDEX_SIZE, 84) && is_found(INDEX_SIZE, "SKY1\0\0\0", 8, 2, 2));
+    change_index(INDEX_SIZE - 2, 3);
+    EXPECT(is_lookup_refused(INDEX_SIZE, "SKY1\0\0\0", 8, 11, 2));
+    change_index(INDEX_SIZE - 2, INDEXED);
+    EXPECT(is_lookup_refused(INDEX_SIZE, "SKY1\0\0\0", 8, 11, 2));
+    /* The last name has rubbish after its zero, and is above the asked one by its bytes. */
+    change_index(INDEX_SIZE - 3, 'A');
+    EXPECT(is_checked(INDEX_SIZE, 84) && is_found(INDEX_SIZE, "SKY1\0\0\0", 8, 2, 3));
+}
+
 /* ---- pictures ---- */
 
 /* Three columns of two rows: a pixel of colour 7 in the second row of the first column, and two columns of nothing. */
@@ -1291,6 +1431,10 @@ int main(void)
     compared_games();
     compared_refusals();
     compared_names_and_words();
+    indexes();
+    lookups();
+    bad_index_headers();
+    wrong_indexes();
     pictures();
     paintings();
     writings();
