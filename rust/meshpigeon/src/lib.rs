@@ -13,6 +13,7 @@
 
 mod differences;
 mod game;
+mod index;
 mod pair;
 mod raw;
 mod record;
@@ -23,6 +24,7 @@ mod why;
 
 pub use differences::{differences, differences_with, DifferenceFile, DifferenceRefusal, Differences};
 pub use game::{Linedef, Thing};
+pub use index::{index_build, index_build_with, index_check, index_find, IndexRecord, IndexSearch};
 pub use pair::{pair_find, pair_judge_map, pair_judge_map_with, pair_lump, PairEntry, PairFile, PairLump, PairMap, PairRefusal};
 pub use record::{Node, Sector, Seg, Sidedef, Subsector, Vertex};
 pub use refusal::Refusal;
@@ -41,6 +43,12 @@ pub const MOST_RENUMBERED: usize = Node::SIZE * 32_766;
 
 /// As many words as any list of differing records needs: six lumps of 65,535 records and two of 32,767.
 pub const MOST_DIFFERENCES: usize = 6 * 65_535 + 2 * 32_767;
+
+/// As many records as the building of any index needs: one for each of 4,096 entries.
+pub const MOST_INDEXED: usize = 4_096;
+
+/// As many bytes as any index has: a header of 11, and 10 for each of 4,096 entries.
+pub const MOST_INDEX: usize = 11 + 10 * MOST_INDEXED;
 
 /// As many words as any draw order needs: one more than 32,767 nodes.
 pub const MOST_DRAWN: usize = 32_767 + 1;

@@ -5,7 +5,9 @@ mod layout;
 
 use crate::game::{Linedef, Thing};
 use crate::record::{Node, Sector, Seg, Sidedef, Subsector, Vertex};
-use crate::{DifferenceFile, DifferenceRefusal, PairFile, PairRefusal, Picture, Refusal, Search, Sidedefs};
+use crate::{
+    DifferenceFile, DifferenceRefusal, IndexRecord, IndexSearch, PairFile, PairRefusal, Picture, Refusal, Search, Sidedefs,
+};
 
 /// What every answer begins with; number 0 is accepted.
 #[repr(C)]
@@ -67,6 +69,8 @@ answers! {
     PairMapAnswer { file: u32, depth: usize, marker: usize }
     /// How many records of each lump differ.
     DifferencesAnswer { file: u32, counts: [usize; 8] }
+    /// An entry by its name, and how many names of an index were compared.
+    IndexAnswer { entry: usize, compared: usize }
     /// A picture's header.
     PictureAnswer { picture: Picture }
     /// How long a written lump is.
@@ -156,6 +160,23 @@ extern "C" {
         list: *mut u16,
         list_len: usize,
     ) -> DifferencesAnswer;
+    fn meshpigeon_index_build(
+        wad: Bytes,
+        wad_len: usize,
+        records: *mut IndexRecord,
+        records_len: usize,
+        out: BytesMut,
+        out_len: usize,
+    ) -> LengthAnswer;
+    fn meshpigeon_index_check(wad: Bytes, wad_len: usize, index: Bytes, index_len: usize) -> Status;
+    fn meshpigeon_index_find(
+        wad: Bytes,
+        wad_len: usize,
+        index: Bytes,
+        index_len: usize,
+        name: Bytes,
+        name_len: usize,
+    ) -> IndexAnswer;
     fn meshpigeon_judge_picture(lump: Bytes, lump_len: usize) -> PictureAnswer;
     fn meshpigeon_paint_picture(
         lump: Bytes,
@@ -305,6 +326,24 @@ pub(crate) fn differences(
         _ => None,
     };
     answer.checked().map_err(|refusal| DifferenceRefusal { file, refusal })
+}
+
+pub(crate) fn index_build(wad: &[u8], records: &mut [IndexRecord], out: &mut [u8]) -> Result<LengthAnswer, Refusal> {
+    let (records_len, out_len) = (records.len(), out.len());
+    unsafe { meshpigeon_index_build(wad.as_ptr(), wad.len(), records.as_mut_ptr(), records_len, out.as_mut_ptr(), out_len) }
+        .checked()
+}
+
+pub(crate) fn index_check(wad: &[u8], index: &[u8]) -> Result<(), Refusal> {
+    unsafe { meshpigeon_index_check(wad.as_ptr(), wad.len(), index.as_ptr(), index.len()) }.check()
+}
+
+/// An answer that a refusal does not clear: `compared` stays.
+pub(crate) fn index_find(wad: &[u8], index: &[u8], name: &[u8]) -> IndexSearch {
+    let answer =
+        unsafe { meshpigeon_index_find(wad.as_ptr(), wad.len(), index.as_ptr(), index.len(), name.as_ptr(), name.len()) };
+    let compared = answer.compared;
+    IndexSearch { entry: answer.checked().map(|answer| answer.entry), compared }
 }
 
 pub(crate) fn judge_picture(lump: &[u8]) -> Result<PictureAnswer, Refusal> {

@@ -17,8 +17,8 @@ const fn sizes(hexen: bool) -> [usize; 9] {
 /// Why something was refused.
 #[derive(Clone, Copy, Debug, PartialEq, Eq)]
 pub struct Refusal {
-    /// The number in the table of refusals: 1 to 7, 10 to 12, 20 to 28, 30 to 32, 40 to 46, 50 to 58, 60, 61, 70 to 76, 80,
-    /// 81, 85.
+    /// The number in the table of refusals: 1 to 7, 10 to 12, 20 to 28, 30 to 32, 40 to 46, 50 to 58, 60, 61, 70 to 76, 80 to
+    /// 86.
     pub number: u32,
     /// The map lump concerned, 0 (the marker) to 10 (BLOCKMAP); 0 where none is.
     pub place: usize,
@@ -57,9 +57,10 @@ impl Refusal {
     }
 
     /// Whether the caller's loan or question is at fault, and not the file: too few words, a short buffer, a number or a name that
-    /// cannot be asked for, a record that cannot be written, an order that is no good one, maps that cannot be compared.
+    /// cannot be asked for, a record that cannot be written, an order that is no good one, maps that cannot be compared, an index that is
+    /// not the file's.
     pub fn is_callers(&self) -> bool {
-        matches!(self.number, 7 | 10 | 30 | 41 | 45 | 55..=58 | 60 | 61 | 70..=76 | 80 | 85)
+        matches!(self.number, 7 | 10 | 30 | 41 | 45 | 55..=58 | 60 | 61 | 70..=76 | 80 | 82..=86)
     }
 
     fn say_of_file(&self, out: &mut fmt::Formatter<'_>) -> fmt::Result {
@@ -182,6 +183,27 @@ impl Refusal {
         }
     }
 
+    fn say_of_index(&self, out: &mut fmt::Formatter<'_>) -> fmt::Result {
+        match self.number {
+            82 => write!(
+                out,
+                "the index is not of this file: it begins with WIX, has the file's count of entries and its length, and is at least 11 \
+                 bytes long and 10 for each entry"
+            ),
+            83 => write!(out, "the index has another version: only version 1 is known"),
+            84 => write!(
+                out,
+                "the index is not the one of this directory: it holds the name and number of each entry once, sorted by name and then by \
+                 number, with zeros after a name's first zero, and nothing behind them"
+            ),
+            _ => write!(
+                out,
+                "too few records or too short an output was lent for the index: it needs one record for each entry, and has 11 bytes and \
+                 10 for each entry"
+            ),
+        }
+    }
+
     fn say_of_picture(&self, out: &mut fmt::Formatter<'_>) -> fmt::Result {
         let record = self.record;
         match self.number {
@@ -241,6 +263,7 @@ impl fmt::Display for Refusal {
             76 => write!(out, "one map is Doom's and the other Hexen's: only two maps of one game can be compared"),
             80 => write!(out, "the count of sectors is not one that a map can have: a map has 1 to 65,535"),
             81 => write!(out, "more bytes came than any SIDEDEFS may have: at most 16,777,216 may come"),
+            82..=84 | 86 => self.say_of_index(out),
             85 => write!(
                 out,
                 "the output is too short for the reason: a field has 16 bytes, and a list of choices one for each, at most as many \

@@ -3,7 +3,7 @@
 /// A refusal of paper 01. Parts that its table does not name are 0.
 #[derive(Clone, Copy, Debug, PartialEq, Eq)]
 pub struct Refusal {
-    /// The number in the table of refusals, 1 to 85.
+    /// The number in the table of refusals, 1 to 86.
     pub number: u32,
     /// The map lump concerned, 0 (the marker) to 10 (BLOCKMAP).
     pub place: usize,

@@ -2,7 +2,7 @@
 //! and sees that the library answers by them.
 
 use super::*;
-use crate::{Picture, Sidedefs};
+use crate::{IndexRecord, Picture, Sidedefs};
 use core::mem::{offset_of, size_of};
 
 /// Holds each struct to its size and each of its fields to its offset. A field that is left out does not compile.
@@ -32,6 +32,8 @@ layout! {
     PairEntryAnswer 48 { status 0, file 24, offset 32, size 40 }
     PairMapAnswer 48 { status 0, file 24, depth 32, marker 40 }
     DifferencesAnswer 96 { status 0, file 24, counts 32 }
+    IndexRecord 10 { name 0, number 8 }
+    IndexAnswer 40 { status 0, entry 24, compared 32 }
     Picture 24 { width 0, height 8, left 16, top 18 }
     PictureAnswer 48 { status 0, picture 24 }
     LengthAnswer 32 { status 0, length 24 }
