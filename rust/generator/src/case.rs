@@ -1,7 +1,9 @@
 //! What a case is: the bytes, the question asked of them, and what is known of the answer.
 
 use crate::{Explained, Kind, Record};
-use reader::{Accepted, DifferenceRefusal, Found, PairEntry, PairMap, PairRefusal, Picture, Refusal, Search};
+use reader::{
+    Accepted, DifferenceRefusal, Found, IndexRecord, IndexSearch, PairEntry, PairMap, PairRefusal, Picture, Refusal, Search,
+};
 
 /// One input with one question.
 #[derive(Clone, Debug)]
@@ -75,6 +77,25 @@ pub enum Question {
         words: Vec<u16>,
         /// The list as lent.
         list: Vec<u16>,
+    },
+    /// Build a file's index.
+    IndexBuild {
+        /// The records as lent.
+        records: Vec<IndexRecord>,
+        /// The output as lent.
+        out: Vec<u8>,
+    },
+    /// Check an index of a file.
+    IndexCheck {
+        /// The index.
+        index: Vec<u8>,
+    },
+    /// Look a name up through an index of a file.
+    IndexFind {
+        /// The index.
+        index: Vec<u8>,
+        /// The asked name.
+        name: Vec<u8>,
     },
     /// A lump of a pair, the bytes being the patch.
     PairFind {
@@ -174,7 +195,9 @@ pub enum Expected {
     Search(Search),
     /// A map of Hexen, or not.
     Hexen(bool),
-    /// A draw order of so many subsectors, or a written lump of so many bytes.
+    /// A lookup through an index that ends so, found or not.
+    Lookup(IndexSearch),
+    /// A draw order of so many subsectors, or a written lump or index of so many bytes.
     Count(usize),
     /// So many records that are listed of each lump, or this refusal with its file.
     Differences(Result<[usize; 8], DifferenceRefusal>),

@@ -1,5 +1,5 @@
-//! A deterministic generator of WAD files, maps, pictures, records, descents, orders of nodes, pairs of maps and sidedefs in
-//! scraps, good and bad.
+//! A deterministic generator of WAD files, maps, pictures, records, descents, orders of nodes, pairs of maps, name indexes and
+//! sidedefs in scraps, good and bad.
 //!
 //! Everything is built from named fields, with what is known of the answer beside it:
 //!
@@ -9,6 +9,7 @@
 //! - [`why_case`] gives maps that are asked for their reason, and [`with_reason`] makes one of any map check's case;
 //! - [`renumber_case`] gives maps whose nodes are to be numbered anew, and [`with_order`] makes one of any map check's case;
 //! - [`differences_case`] gives two maps whose records are to be compared, and [`with_other`] makes one of any map check's case;
+//! - [`index_case`] gives files with a name index to be built, checked or looked into, and [`with_index`] makes one of any file's case;
 //! - [`limits`] lists both sides of every limit, each case built when asked for;
 //! - [`MapSpec`], [`Plan`], [`BlockmapSpec`], [`PictureSpec`] and [`Canvas`] build inputs by hand;
 //! - [`ordinary_map`], [`hexen_map_of`], [`largest_map`], [`largest_hexen_map_of`], [`directory_of`],
@@ -47,10 +48,13 @@ mod family;
 mod flip;
 mod game;
 mod graph;
+mod index;
+mod index_fault;
 mod limit;
 mod limit_differences;
 mod limit_draw;
 mod limit_graph;
+mod limit_index;
 mod limit_lump;
 mod limit_map;
 mod limit_renumber;
@@ -100,6 +104,7 @@ pub use draw::draw_case;
 pub use family::{case, cases, FAMILIES};
 pub use flip::{flipped_map_case, flipped_picture_case, random_file_case, random_lump_case};
 pub use graph::{Shape, Truth};
+pub use index::{halvings, index_case, with_index};
 pub use limit::{limits, Build};
 pub use map::{MapSpec, Sizes};
 pub use name::littered;

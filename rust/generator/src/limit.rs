@@ -4,6 +4,7 @@ use crate::game::game_limits;
 use crate::limit_differences::differences_limits;
 use crate::limit_draw::draw_limits;
 use crate::limit_graph::graph_limits;
+use crate::limit_index::index_limits;
 use crate::limit_lump::lump_limits;
 use crate::limit_map::map_limits;
 use crate::limit_renumber::renumber_limits;
@@ -46,6 +47,7 @@ pub fn limits() -> Vec<Build> {
     all.extend(why_graph_limits());
     all.extend(renumber_limits());
     all.extend(differences_limits());
+    all.extend(index_limits());
     all
 }
 

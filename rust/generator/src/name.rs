@@ -119,7 +119,8 @@ fn names_and_rubbish(full: [u8; 8]) -> Vec<[u8; 8]> {
     all
 }
 
-const NAME_CHARACTERS: &[u8] = b"ABCDEFGHIJKLMNOPQRSTUVWXYZ0123456789[]-_\\";
+/// What a name may hold.
+pub(crate) const NAME_CHARACTERS: &[u8] = b"ABCDEFGHIJKLMNOPQRSTUVWXYZ0123456789[]-_\\";
 
 /// A directory with a good name and this one.
 fn name_case(name: [u8; 8]) -> Case {

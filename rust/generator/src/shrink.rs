@@ -21,12 +21,13 @@ pub fn shrink(case: &Case, mut fails: impl FnMut(&Case) -> bool) -> Case {
     with(&shrunk(&base, |base| fails(&with(base))))
 }
 
-/// The base of a pair, or the old map's file.
+/// The base of a pair, the old map's file, or the index beside the file.
 fn base_of(case: &mut Case) -> Option<&mut Vec<u8>> {
     match &mut case.question {
         Question::PairFind { base, .. } | Question::PairJudgeMap { base, .. } | Question::Differences { old: base, .. } => {
             Some(base)
         }
+        Question::IndexCheck { index } | Question::IndexFind { index, .. } => Some(index),
         _ => None,
     }
 }

@@ -3,8 +3,10 @@
 mod common;
 
 use common::check;
-use generator::{all_picture_damages, case, damages, differences_case, pair_case, pair_count, patch_case, single_case};
-use generator::{renumber_case, sidedefs_case, why_case, written_case, Expected, Rng, PICTURE_DAMAGES};
+use generator::{
+    all_picture_damages, case, damages, differences_case, index_case, pair_case, pair_count, patch_case, single_case,
+};
+use generator::{renumber_case, sidedefs_case, why_case, written_case, Expected, Question, Rng, PICTURE_DAMAGES};
 use reader::{DifferenceFile, PairFile};
 use std::collections::{BTreeMap, BTreeSet};
 
@@ -70,7 +72,10 @@ fn cases_of_all_families() {
     }
     println!("{met:?}");
     let wanted = [0, 1, 2, 3, 4, 5, 6, 7, 10, 11, 12, 20, 21, 22, 23, 24, 25, 26, 27, 28, 30, 31, 32];
-    let more = [40, 41, 42, 43, 44, 45, 46, 50, 51, 52, 53, 54, 55, 56, 57, 58, 60, 61, 70, 71, 72, 73, 74, 75, 76, 80, 85];
+    let more = [
+        40, 41, 42, 43, 44, 45, 46, 50, 51, 52, 53, 54, 55, 56, 57, 58, 60, 61, 70, 71, 72, 73, 74, 75, 76, 80, 82, 83, 84, 85,
+        86,
+    ];
     assert!(wanted.iter().chain(&more).all(|number| met.contains_key(number)));
 }
 
@@ -155,6 +160,28 @@ fn every_number_of_two_maps_is_met_in_either_file() {
     assert!(changed.iter().all(|&count| count > 1_000), "{changed:?}");
     let in_either = of_maps.iter().flat_map(|&number| [(number, Some(false)), (number, Some(true))]);
     assert_eq!(of_both, in_either.chain([(75, None), (76, None)]).collect());
+}
+
+/// Every number comes of what each of the three can refuse.
+#[test]
+fn every_number_of_an_index_is_met() {
+    let (mut rng, mut met) = (Rng::new(10), [BTreeMap::new(), BTreeMap::new(), BTreeMap::new()]);
+    for _ in 0..60_000 {
+        let case = index_case(&mut rng);
+        let asked = match case.question {
+            Question::IndexBuild { .. } => 0,
+            Question::IndexCheck { .. } => 1,
+            _ => 2,
+        };
+        *met[asked].entry(check(&case)).or_insert(0) += 1;
+    }
+    println!("{met:?}");
+    let wanted: [&[u32]; 3] =
+        [&[0, 1, 2, 3, 4, 5, 6, 86], &[0, 1, 2, 3, 4, 5, 6, 82, 83, 84], &[0, 1, 2, 3, 4, 5, 6, 11, 82, 83]];
+    for (met, wanted) in met.iter().zip(wanted) {
+        assert_eq!(met.keys().copied().collect::<Vec<u32>>(), wanted);
+        assert!(met.iter().all(|(number, times)| *times > if (1..=6).contains(number) { 5 } else { 400 }), "{met:?}");
+    }
 }
 
 #[test]

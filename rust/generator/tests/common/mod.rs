@@ -1,6 +1,6 @@
 //! Asks the reader a case's question and holds the answer against what is expected.
 
-use generator::{scraps, with_lump, Case, Encode, Expected, Kind, Question, Record};
+use generator::{halvings, scraps, with_lump, Case, Encode, Expected, Kind, Question, Record};
 use reader::*;
 use std::collections::{BTreeSet, HashMap};
 
@@ -14,6 +14,7 @@ enum Answer {
     Search(Search),
     Hexen(bool),
     Count(usize),
+    Lookup(IndexSearch),
     Differences(Result<[usize; 8], DifferenceRefusal>),
     PairEntry(Result<PairEntry, PairRefusal>),
     PairMap(Result<PairMap, PairRefusal>),
@@ -34,6 +35,7 @@ pub fn check(case: &Case) -> u32 {
         Expected::Search(search) => answer == Ok(Answer::Search(search)),
         Expected::Hexen(hexen) => answer == Ok(Answer::Hexen(hexen)),
         Expected::Count(count) => answer == Ok(Answer::Count(count)),
+        Expected::Lookup(found) => answer == Ok(Answer::Lookup(found)),
         Expected::Differences(counts) => answer == Ok(Answer::Differences(counts)),
         Expected::PairEntry(entry) => answer == Ok(Answer::PairEntry(entry)),
         Expected::PairMap(map) => answer == Ok(Answer::PairMap(map)),
@@ -41,7 +43,7 @@ pub fn check(case: &Case) -> u32 {
     assert!(good, "{}: {:?}, not {:?}", case.label, answer, case.expected);
     match answer {
         Err(refusal) | Ok(Answer::Search(Search { marker: Err(refusal), .. })) => refusal.number,
-        Ok(Answer::Explained(Err(refusal), _)) => refusal.number,
+        Ok(Answer::Explained(Err(refusal), _)) | Ok(Answer::Lookup(IndexSearch { entry: Err(refusal), .. })) => refusal.number,
         Ok(Answer::Differences(Err(it))) => it.refusal.number,
         Ok(Answer::PairEntry(Err(it)) | Answer::PairMap(Err(it))) => it.refusal.number,
         Ok(_) => 0,
@@ -61,6 +63,9 @@ fn ask(case: &Case) -> Result<Answer, Refusal> {
         Question::Differences { old, old_name, new_name, words, list } => {
             Ok(Answer::Differences(ask_differences([old, bytes], [old_name, new_name], words, list)))
         }
+        Question::IndexBuild { records, out } => ask_index(bytes, records, out),
+        Question::IndexCheck { index } => index_check(bytes, index).map(|()| Answer::Good),
+        Question::IndexFind { index, name } => Ok(Answer::Lookup(ask_lookup(bytes, index, name))),
         Question::PairFind { base, name } => Ok(Answer::PairEntry(ask_pair(base, bytes, name))),
         Question::PairJudgeMap { base, name, words } => Ok(Answer::PairMap(ask_pair_map(base, bytes, name, words))),
         Question::Descend { subsectors, x, y } => descend(bytes, *subsectors, *x, *y).map(Answer::Found),
@@ -114,6 +119,47 @@ fn ask_why(wad: &[u8], name: &[u8], lent: &[u16], lent_out: &[u8]) -> Result<Ans
     }
     assert_eq!((verdict, length, &out[..length]), (judged, printed, &whole[..printed]));
     Ok(Answer::Explained(verdict, whole[..printed].to_vec()))
+}
+
+/// What is written is accepted, and any other byte in it is not; the entries ascend by name and number, and each is an entry's name without
+/// what stands after its zero. A refusal changes nothing, and nothing else changes anyway.
+fn ask_index(wad: &[u8], lent: &[IndexRecord], lent_out: &[u8]) -> Result<Answer, Refusal> {
+    let (mut records, mut out) = (lent.to_vec(), lent_out.to_vec());
+    let answer = index_build(wad, &mut records, &mut out);
+    let length = *answer.as_ref().unwrap_or(&0);
+    let count = length.saturating_sub(11) / 10;
+    assert!(records[count..] == lent[count..] && out[length..] == lent_out[length..]);
+    let (records, index) = (&records[..count], &mut out[..length]);
+    answer?;
+    let start = directory(wad)?.start;
+    assert!(records.windows(2).all(|two| (two[0].name, two[0].number) < (two[1].name, two[1].number)));
+    for (record, bytes) in records.iter().zip(index[11..].chunks_exact(10)) {
+        let name = &wad[start + 16 * usize::from(record.number) + 8..][..8];
+        assert!(name_of(&record.name) == name_of(name) && record.name.iter().skip(name_of(name).len()).all(|&byte| byte == 0));
+        assert_eq!(bytes, [&record.name[..], &record.number.to_le_bytes()].concat());
+    }
+    assert_eq!(index_check(wad, index), Ok(()));
+    for at in (0..length).step_by(1 + length / 50) {
+        index[at] ^= 4;
+        assert!(index_check(wad, index).is_err());
+        index[at] ^= 4;
+    }
+    Ok(Answer::Count(length))
+}
+
+/// Never more than 13 names are compared, nor more than the rule compares at most among so many; what is found has the name. In the right
+/// index it is what a search from the end finds.
+fn ask_lookup(wad: &[u8], index: &[u8], name: &[u8]) -> IndexSearch {
+    let search = index_find(wad, index, name);
+    let Ok(Directory { count, start }) = directory(wad) else { return search };
+    assert!(search.compared <= halvings(count, 0).max(halvings(count, count)) && search.compared <= 13);
+    let has_name = |number: &usize| name_of(&wad[start + 16 * number + 8..][..8]) == name_of(name);
+    assert!(search.entry.is_err() || search.entry.is_ok_and(|number| number < count && has_name(&number)));
+    if index_check(wad, index).is_ok() {
+        let last = (0..count).rev().find(has_name).filter(|_| name.len() == 8);
+        assert_eq!(search.entry, last.ok_or(Refusal::plain(11)));
+    }
+    search
 }
 
 /// The words are those of both map checks, one after the other, and so are the maps' refusals; 76 and 75 come where neither map is refused. What is
