@@ -22,7 +22,9 @@ pub struct Outcome {
     pub words: Vec<u16>,
     /// The list of differing records afterwards.
     pub list: Vec<u16>,
-    /// The colour buffer afterwards, or what was written to: a lump, or the output of a picture, a reason or new NODES.
+    /// The records of an index afterwards.
+    pub records: Vec<([u8; 8], u16)>,
+    /// The colour buffer afterwards, or what was written to: a lump, or the output of a picture, a reason, new NODES or an index.
     pub first: Vec<u8>,
     /// The cover buffer afterwards.
     pub second: Vec<u8>,
@@ -30,14 +32,14 @@ pub struct Outcome {
 
 impl Outcome {
     fn new(numbers: Result<Vec<i64>, Refused>) -> Self {
-        let (part, words, list, first, second) = Default::default();
-        Self { numbers, file: 0, compared: 0, printed: 0, part, words, list, first, second }
+        let (part, words, list, records, first, second) = Default::default();
+        Self { numbers, file: 0, compared: 0, printed: 0, part, words, list, records, first, second }
     }
 }
 
 macro_rules! asker {
-    ($(#[$about:meta])* $name:ident, $side:ident, $judge_map:ident, $why:ident, $renumber:ident, $differences:ident, $draw_order:ident,
-     $pair_judge_map:ident, $write_picture:ident, $part:expr, $pair_part:expr) => {
+    ($(#[$about:meta])* $name:ident, $side:ident, $judge_map:ident, $why:ident, $renumber:ident, $differences:ident, $index_build:ident,
+     $draw_order:ident, $pair_judge_map:ident, $write_picture:ident, $part:expr, $pair_part:expr) => {
         $(#[$about])*
         pub fn $name(case: &Case) -> Outcome {
             let refused = |it: $side::Refusal| (it.number, it.place, it.record);
@@ -95,6 +97,22 @@ macro_rules! asker {
                     };
                     let numbers = counts.map(|counts| counts.map(|count| count as i64).to_vec());
                     Outcome { file, words, list, ..Outcome::new(numbers.map_err(|it| refused(it.refusal))) }
+                }
+                Question::IndexBuild { records, out } => {
+                    let given = records.iter().map(|it| same!($side, IndexRecord, it; name number));
+                    let (mut records, mut out) = (given.collect::<Vec<_>>(), out.clone());
+                    let written = $side::$index_build(bytes, &mut records, &mut out);
+                    let numbers = written.map(|length| vec![length as i64]).map_err(refused);
+                    let records = records.iter().map(|it| (it.name, it.number)).collect();
+                    Outcome { records, first: out, ..Outcome::new(numbers) }
+                }
+                Question::IndexCheck { index } => {
+                    Outcome::new($side::index_check(bytes, index).map(|()| Vec::new()).map_err(refused))
+                }
+                Question::IndexFind { index, name } => {
+                    let search = $side::index_find(bytes, index, name);
+                    let numbers = search.entry.map(|entry| vec![entry as i64]).map_err(refused);
+                    Outcome { compared: search.compared, ..Outcome::new(numbers) }
                 }
                 Question::PairFind { base, name } => {
                     let found = $side::pair_find(base, bytes, name);
@@ -232,7 +250,7 @@ macro_rules! write {
 
 asker! {
     /// Asks the proved library.
-    ask_library, meshpigeon, judge_map_with, why_with, renumber_with, differences_with, draw_order_with, pair_judge_map_with,
+    ask_library, meshpigeon, judge_map_with, why_with, renumber_with, differences_with, index_build_with, draw_order_with, pair_judge_map_with,
     write_picture_with,
     |bytes, number| meshpigeon::lump(bytes, number).unwrap_or_default().to_vec(),
     |base, patch, name| meshpigeon::pair_lump(base, patch, name).map_or_else(|_| Vec::new(), |lump| lump.bytes.to_vec())
@@ -240,7 +258,7 @@ asker! {
 
 asker! {
     /// Asks the independent reader.
-    ask_reader, reader, judge_map, why, renumber, differences, draw_order, pair_judge_map, write_picture,
+    ask_reader, reader, judge_map, why, renumber, differences, index_build, draw_order, pair_judge_map, write_picture,
     |bytes, number| reader::lump(bytes, number).to_vec(),
     |base, patch, name| reader::pair_lump(base, patch, name).to_vec()
 }

@@ -6,6 +6,7 @@
 
 mod ask;
 mod differences;
+mod index;
 mod reason;
 mod renumber;
 mod stream;
@@ -29,7 +30,8 @@ pub fn fault(case: &Case) -> Option<String> {
     let more = stream::fault(case)
         .or_else(|| reason::fault(case, &library))
         .or_else(|| renumber::fault(case, &library))
-        .or_else(|| differences::fault(case, &library));
+        .or_else(|| differences::fault(case, &library))
+        .or_else(|| index::fault(case, &library));
     if let Some(words) = more {
         return Some(words);
     }
@@ -49,6 +51,10 @@ pub fn fault(case: &Case) -> Option<String> {
         Expected::Search(it) => {
             let marker = it.marker.map(|it| vec![it as i64]).map_err(|it| (it.number, it.place, it.record));
             (&library.numbers, library.compared) == (&marker, it.compared)
+        }
+        Expected::Lookup(it) => {
+            let entry = it.entry.map(|it| vec![it as i64]).map_err(|it| (it.number, it.place, it.record));
+            (&library.numbers, library.compared) == (&entry, it.compared)
         }
         Expected::Differences(it) => is_of_two(&library, it),
         Expected::PairEntry(it) => is_of_pair(&library, it.map(|it| (it.file, vec![it.offset as i64, it.size as i64]))),

@@ -1,8 +1,8 @@
 //! Library and reader on generated cases: 200,000 by default, any number by MESHPIGEON_CASES, from MESHPIGEON_SEED.
 
 use compare::fault;
-use generator::{all_picture_damages, case, differences_case, every_second, limits, renumber_case, shrink, why_case};
-use generator::{with_order, with_other, with_reason, Canvas, Case, Question, Rng};
+use generator::{all_picture_damages, case, differences_case, every_second, index_case, limits, renumber_case, shrink, why_case};
+use generator::{with_index, with_order, with_other, with_reason, Canvas, Case, Question, Rng};
 use std::env;
 use std::thread;
 
@@ -60,6 +60,23 @@ fn orders_of_generated_maps_agree() {
 #[test]
 fn differences_of_generated_maps_agree() {
     hold_all(|seed, index| differences_case(&mut Rng::of_case(seed, index)));
+}
+
+#[test]
+fn indexes_of_generated_files_agree() {
+    hold_all(|seed, index| index_case(&mut Rng::of_case(seed, index)));
+}
+
+/// Whatever a file is asked at a limit, its index is built, checked or looked into too.
+#[test]
+fn indexes_at_both_sides_of_every_limit_agree() {
+    let mut rng = Rng::new(18);
+    for (index, build) in limits().iter().enumerate() {
+        let case = build();
+        if matches!(case.question, Question::Directory | Question::FindMap { .. } | Question::JudgeMap { .. }) {
+            hold(&with_index(case, &mut rng), &format!("index at limit {index}"));
+        }
+    }
 }
 
 /// Whatever the map check is asked at a limit, the map is compared too, with itself or a good one.
