@@ -30,10 +30,19 @@ pub enum Command {
         /// Names as given; none for every map.
         maps: Vec<OsString>,
     },
-    /// List a directory.
+    /// List a directory, or one entry of it.
     List {
         /// The file.
         file: OsString,
+        /// The entry's name as given, and the index that leads to it.
+        lookup: Option<(OsString, OsString)>,
+    },
+    /// Write or check a name index.
+    Index {
+        /// The file.
+        file: OsString,
+        /// Which of the two.
+        task: IndexTask,
     },
     /// Find a point's subsector.
     Descend {
@@ -112,6 +121,15 @@ pub enum Command {
     },
 }
 
+/// What is to be done with an index.
+#[derive(Debug, PartialEq, Eq)]
+pub enum IndexTask {
+    /// Write it there.
+    Write(OsString),
+    /// Check that one.
+    Check(OsString),
+}
+
 /// Why a command line is not understood.
 #[derive(Debug, PartialEq, Eq)]
 pub struct Misuse(String);
@@ -135,6 +153,9 @@ struct Parts {
     palette: Option<OsString>,
     offset: Option<OsString>,
     list: Option<OsString>,
+    name: Option<OsString>,
+    index: Option<OsString>,
+    check: Option<OsString>,
     output: Option<OsString>,
     records: bool,
     json: bool,
@@ -144,7 +165,7 @@ struct Parts {
 }
 
 /// What may be asked for.
-const COMMANDS: &str = "judge, list, descend, order, picture, encode, sidedefs, renumber or diff";
+const COMMANDS: &str = "judge, list, index, descend, order, picture, encode, sidedefs, renumber or diff";
 
 /// Takes the arguments after the program's name apart.
 pub fn parse(arguments: Vec<OsString>) -> Result<Request, Misuse> {
@@ -164,6 +185,7 @@ pub fn parse(arguments: Vec<OsString>) -> Result<Request, Misuse> {
     let command = match name.to_str() {
         Some("judge") => judge(&parts),
         Some("list") => list(&parts),
+        Some("index") => index(&parts),
         Some("descend") => descend(&parts),
         Some("order") => order(&parts),
         Some("picture") => picture(&parts),
@@ -203,7 +225,7 @@ fn split(arguments: Vec<OsString>) -> Result<Parts, Misuse> {
 
 /// An option that takes a value, and the value where it is joined to a long one: `--map=MAP01`.
 fn valued(argument: &OsStr) -> Option<(&str, Option<&str>)> {
-    const LONG: [&str; 5] = ["--map", "--base", "--palette", "--offset", "--order"];
+    const LONG: [&str; 8] = ["--map", "--base", "--palette", "--offset", "--order", "--name", "--index", "--check"];
     let text = argument.to_str()?;
     let (option, joined) = text.split_once('=').map_or((text, None), |(option, value)| (option, Some(value)));
     (LONG.contains(&option) || text == "-o").then_some((option, joined))
@@ -217,6 +239,9 @@ fn put(option: &str, given: Option<OsString>, parts: &mut Parts) -> Result<(), M
         "--palette" => &mut parts.palette,
         "--offset" => &mut parts.offset,
         "--order" => &mut parts.list,
+        "--name" => &mut parts.name,
+        "--index" => &mut parts.index,
+        "--check" => &mut parts.check,
         "-o" => &mut parts.output,
         _ => {
             parts.maps.push(given);
@@ -254,11 +279,17 @@ fn fits(command: &OsStr, parts: &Parts) -> Result<(), Misuse> {
         "--offset"
     } else if parts.list.is_some() && !takes(&["renumber"]) {
         "--order"
-    } else if parts.output.is_some() && !takes(&["order", "picture", "encode", "renumber"]) {
+    } else if parts.name.is_some() && !takes(&["list"]) {
+        "--name"
+    } else if parts.index.is_some() && !takes(&["list"]) {
+        "--index"
+    } else if parts.check.is_some() && !takes(&["index"]) {
+        "--check"
+    } else if parts.output.is_some() && !takes(&["order", "picture", "encode", "renumber", "index"]) {
         "-o"
     } else if parts.records && !takes(&["diff"]) {
         "--records"
-    } else if parts.quiet && !takes(&["judge", "picture", "encode", "sidedefs", "renumber"]) {
+    } else if parts.quiet && !takes(&["judge", "picture", "encode", "sidedefs", "renumber", "index"]) {
         "--quiet"
     } else {
         return Ok(());
@@ -285,7 +316,24 @@ fn read_once<'a>(files: impl Iterator<Item = &'a OsString>) -> Result<(), Misuse
 
 fn list(parts: &Parts) -> Result<Command, Misuse> {
     let [file] = words(parts, "list needs FILE")?;
-    Ok(Command::List { file })
+    let lookup = match (parts.name.clone(), parts.index.clone()) {
+        (None, None) => None,
+        (Some(name), Some(index)) => Some((name, index)),
+        _ => return misuse("list takes --name and --index together: the name, and the index to look it up in"),
+    };
+    read_once([&file].into_iter().chain(&parts.index))?;
+    Ok(Command::List { file, lookup })
+}
+
+fn index(parts: &Parts) -> Result<Command, Misuse> {
+    let needs = "index needs FILE -o OUT.wix, or FILE --check INDEX";
+    let [file] = words(parts, needs)?;
+    read_once([&file].into_iter().chain(&parts.check))?;
+    match (parts.output.clone(), parts.check.clone()) {
+        (Some(output), None) => Ok(Command::Index { file, task: IndexTask::Write(output) }),
+        (None, Some(index)) => Ok(Command::Index { file, task: IndexTask::Check(index) }),
+        _ => misuse(needs),
+    }
 }
 
 fn descend(parts: &Parts) -> Result<Command, Misuse> {

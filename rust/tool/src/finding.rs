@@ -1,5 +1,6 @@
 //! What was found where a refusal is about a number. It is read from the file's own bytes after the library refused them.
 
+use crate::index_finding::IndexFinding;
 use crate::input::{LEAST_BYTES, MOST_BYTES};
 use crate::json::Object;
 use crate::renumber::post_order;
@@ -46,6 +47,8 @@ pub enum Finding {
     Order(usize, usize),
     /// 80: the count of sectors that was given.
     Sectors(usize),
+    /// 82 to 84, and 11 of a lookup: what is wrong with an index, or how much of it was compared.
+    Index(IndexFinding),
 }
 
 impl Finding {
@@ -133,6 +136,7 @@ impl Finding {
             Self::Last(number, root) => object.number("number", i64::from(number)).number("root", i64::from(root)),
             Self::Order(count, needed) => object.count("count", count).count("needed", needed),
             Self::Sectors(count) => object.count("sectors", count),
+            Self::Index(found) => return found.json(),
         }
     }
 }
@@ -191,6 +195,7 @@ impl fmt::Display for Finding {
                 write!(out, "here that is {}, and it has {}", grouped(needed as i128), grouped(count as i128))
             }
             Self::Sectors(count) => write!(out, "the count given is {}", grouped(count as i128)),
+            Self::Index(found) => found.fmt(out),
         }
     }
 }

@@ -12,6 +12,8 @@ mod diff;
 mod encode;
 mod field;
 mod finding;
+mod index;
+mod index_finding;
 mod input;
 mod json;
 mod judge;
@@ -34,7 +36,7 @@ mod verdict;
 mod wad;
 mod why;
 
-use args::{Command, Request};
+use args::{Command, IndexTask, Request};
 use report::Report;
 use std::process::ExitCode;
 
@@ -59,7 +61,8 @@ fn run(request: &Request, report: &mut Report) {
         Command::Help => report.text(HELP.trim_end()),
         Command::Version => report.text(concat!("meshpigeon ", env!("CARGO_PKG_VERSION"))),
         Command::Judge { files, base, maps } => judge::run(files, base.as_deref(), maps, report),
-        Command::List { file } => list::run(file, report),
+        Command::List { file, lookup: None } => list::run(file, report),
+        Command::List { file, lookup: Some((name, index)) } => list::find(file, name, index, report),
         Command::Descend { file, map, x, y } => descend::run(file, map, (*x, *y), report),
         Command::Order { file, map, x, y, output } => order::run(file, map, (*x, *y), output.as_deref(), report),
         Command::Picture { file, base, lump, palette, output } => {
@@ -68,6 +71,8 @@ fn run(request: &Request, report: &mut Report) {
         Command::Encode { image, palette, offset, output } => encode::run(image, palette.as_deref(), *offset, output, report),
         Command::Sidedefs { sectors } => sidedefs::run(*sectors, report),
         Command::Diff { old, new, maps, records } => diff::run(old, new, maps, *records, report),
+        Command::Index { file, task: IndexTask::Write(output) } => index::write(file, output, report),
+        Command::Index { file, task: IndexTask::Check(index) } => index::check(file, index, report),
         Command::Renumber { file, map, list, output } => renumber::run(file, map, list.as_deref(), output, report),
     }
 }

@@ -2,7 +2,7 @@
 
 use crate::input::Fault;
 use crate::name::shown;
-use crate::verdict::{counted, Outcome, Source, Subject, Verdict};
+use crate::verdict::{counted, Outcome, Source, Subject, Verdict, NOT_THERE};
 use std::ffi::OsStr;
 use std::io::{self, IsTerminal, Write};
 
@@ -13,9 +13,6 @@ const DIFFERS: u8 = 1;
 const UNREAD: u8 = 2;
 /// The command line was not understood.
 pub const BAD_USAGE: u8 = 3;
-
-/// The refusal of a map that was asked for by a name that no entry has: it counts as a refusal, but nothing was judged.
-const NOT_THERE: u32 = 11;
 
 /// Says something on standard error, if it is open.
 pub fn complain(words: &str) {

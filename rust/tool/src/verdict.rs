@@ -89,6 +89,9 @@ pub enum Outcome {
     NoMap,
 }
 
+/// The refusal of a name that no entry has: it counts as a refusal, but nothing was judged.
+pub const NOT_THERE: u32 = 11;
+
 /// The first refusal that leaves a map's ten lumps where they should be.
 pub const LUMPS_ARE_THERE: u32 = 20;
 
@@ -188,10 +191,11 @@ impl Verdict {
         }
     }
 
-    /// A refusal's sentence; that a pair lacks a name is said of both files.
+    /// A refusal's sentence; that a pair lacks a name is said of both files, and of a name that was looked up that the index does not have it.
     fn sentence(&self, refusal: Refusal) -> String {
-        match self.source {
-            Source::Pair(None) => PairRefusal { file: None, refusal }.to_string(),
+        match (self.source, &self.subject) {
+            (Source::Pair(None), _) => PairRefusal { file: None, refusal }.to_string(),
+            (_, Subject::Lump(_)) if refusal.number == NOT_THERE => "the index leads to no entry of that name".to_string(),
             _ => refusal.to_string(),
         }
     }

@@ -6,6 +6,7 @@ mod diff;
 mod encode;
 mod found;
 mod hexen;
+mod index;
 mod input;
 mod json;
 mod json_reader;

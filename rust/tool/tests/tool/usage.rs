@@ -27,6 +27,12 @@ fn commands_and_options_must_be_known() {
     misused(&["encode", "a.pam", "-o", "b", "--offset", "1,2", "--offset=1,2"], "--offset is given twice");
     misused(&["renumber", "a.wad", "MAP01", "-o", "b", "--order"], "--order needs a value");
     misused(&["renumber", "a.wad", "MAP01", "-o", "b", "--order=c", "--order", "d"], "--order is given twice");
+    misused(&["list", "a.wad", "--name"], "--name needs a value");
+    misused(&["list", "a.wad", "--index"], "--index needs a value");
+    misused(&["index", "a.wad", "--check"], "--check needs a value");
+    misused(&["list", "a.wad", "--index=b", "--name=A", "--name=B"], "--name is given twice");
+    misused(&["list", "a.wad", "--name=A", "--index=b", "--index=c"], "--index is given twice");
+    misused(&["index", "a.wad", "--check=b", "--check=c"], "--check is given twice");
     misused(&["judge", "a.wad", "--json=yes"], "'--json=yes' is no option");
     misused(&["picture", "a.wad", "P", "-o=b"], "'-o=b' is no option");
 }
@@ -60,6 +66,14 @@ fn each_command_has_its_words() {
     misused(&["renumber", "a.wad", "-o", "b"], "renumber needs FILE MAP -o OUT.wad");
     misused(&["renumber", "a.wad", "MAP01", "0", "-o", "b"], "renumber needs FILE MAP -o OUT.wad");
     misused(&["renumber", "-", "MAP01", "-o", "b", "--order", "-"], "standard input can be judged once only");
+    misused(&["list", "a.wad", "--name", "A"], "list takes --name and --index together");
+    misused(&["list", "a.wad", "--index", "b"], "list takes --name and --index together");
+    misused(&["list", "-", "--name", "A", "--index", "-"], "standard input can be judged once only");
+    misused(&["index", "a.wad"], "index needs FILE -o OUT.wix, or FILE --check INDEX");
+    misused(&["index", "-o", "b"], "index needs FILE -o OUT.wix, or FILE --check INDEX");
+    misused(&["index", "a.wad", "b.wad", "-o", "b"], "index needs FILE -o OUT.wix, or FILE --check INDEX");
+    misused(&["index", "a.wad", "-o", "b", "--check", "c"], "index needs FILE -o OUT.wix, or FILE --check INDEX");
+    misused(&["index", "-", "--check", "-"], "standard input can be judged once only");
     misused(&["diff", "a.wad"], "diff needs OLD NEW");
     misused(&["diff", "a.wad", "a.wad", "MAP01"], "diff needs OLD NEW");
     misused(&["diff", "-", "-"], "standard input can be judged once only");
@@ -86,6 +100,10 @@ fn each_command_has_its_options() {
     misused(&["renumber", "a.wad", "MAP01", "-o", "b", "--map", "MAP01"], "renumber does not take --map");
     misused(&["renumber", "a.wad", "MAP01", "-o", "b", "--base", "a.wad"], "renumber does not take --base");
     misused(&["order", "a.wad", "MAP01", "0", "0", "--order", "b"], "order does not take --order");
+    misused(&["judge", "a.wad", "--name", "A"], "judge does not take --name");
+    misused(&["judge", "a.wad", "--index", "b"], "judge does not take --index");
+    misused(&["list", "a.wad", "--check", "b"], "list does not take --check");
+    misused(&["index", "a.wad", "-o", "b", "--map", "MAP01"], "index does not take --map");
     misused(&["judge", "a.wad", "--records"], "judge does not take --records");
     misused(&["diff", "a.wad", "a.wad", "--quiet"], "diff does not take --quiet");
     misused(&["diff", "a.wad", "a.wad", "--base", "a.wad"], "diff does not take --base");
