@@ -17,7 +17,8 @@
 //!   [`doublings`], [`shared_subsector`], [`hostile_blockmap`], [`hostile_picture`], [`picture`], [`pixels`], [`checkered`],
 //!   [`halving_nodes`], [`mixed_nodes`], [`deep_chain`], [`double_nodes`], [`deep_doublings`], [`sidedefs_of`],
 //!   [`bad_sidedef_of`], [`bad_seg_of`], [`bad_blockmap_of`], [`long_loop`], [`loop_behind_tree`], [`map_in_order`],
-//!   [`chain_in_order`], [`twice`], [`with_changes`] and [`with_last_changed`] are the inputs of a benchmark;
+//!   [`chain_in_order`], [`twice`], [`with_changes`], [`with_last_changed`], [`names_at_random`], [`names_ascending`],
+//!   [`names_descending`], [`names_alike`], [`with_its_index`] and [`with_a_wrong_index`] are the inputs of a benchmark;
 //! - [`shrink`] makes a failing case smaller.
 //!
 //! ```
@@ -35,6 +36,7 @@
 
 mod bench;
 mod bench_differences;
+mod bench_index;
 mod blockmap;
 mod case;
 mod damage;
@@ -95,6 +97,9 @@ pub use bench::{
     repeat_at_the_end, shared_subsector, sidedefs_of, twice_as_long, FACED, MOST_BYTES,
 };
 pub use bench_differences::{twice, with_changes, with_last_changed};
+pub use bench_index::{
+    names_alike, names_ascending, names_at_random, names_descending, wad_and_index, with_a_wrong_index, with_its_index,
+};
 pub use blockmap::{BlockmapSpec, Layout};
 pub use case::{Case, Expected, Question};
 pub use damage::{damages, Damage};

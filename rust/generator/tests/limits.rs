@@ -5,7 +5,8 @@ mod common;
 use common::check;
 use generator::*;
 use reader::{descend, directory, draw_order, find_map, judge_map, judge_picture, map_game, Accepted, Found, Refusal, Search};
-use reader::{differences, judge_sidedefs, pair_find, pair_judge_map, renumber, why, write_picture, PairFile, Picture};
+use reader::{differences, index_build, index_check, index_find, IndexRecord, IndexSearch};
+use reader::{judge_sidedefs, pair_find, pair_judge_map, renumber, why, write_picture, PairFile, Picture};
 
 #[test]
 fn both_sides_of_every_limit() {
@@ -163,6 +164,27 @@ fn two_maps_in_one_input_differ_as_they_say() {
     let most = [65_535, 65_535, 65_535, 65_535, 65_535, 0, 32_766, 8_000];
     assert_eq!(differing(&with_changes(largest_map(), 1)), most);
     assert_eq!(differing(&with_last_changed(largest_map())), [0, 0, 0, 0, 0, 0, 0, 1]);
+}
+
+#[test]
+fn names_of_an_index_are_good_and_in_their_order() {
+    for count in [0, 1, 1_024, 4_096] {
+        let files = [names_at_random(count), names_ascending(count), names_descending(count), names_alike(count)];
+        let numbers = files.map(|wad| {
+            let (mut records, mut out) = (vec![IndexRecord::default(); count], vec![0; 11 + 10 * count]);
+            assert_eq!(index_build(&wad, &mut records, &mut out), Ok(out.len()));
+            let (right, wrong) = (with_its_index(wad.clone()), with_a_wrong_index(wad.clone()));
+            assert_eq!(wad_and_index(&right), (&wad[..], &out[..]));
+            assert!(index_check(&wad, wad_and_index(&wrong).1).is_err());
+            records.iter().map(|it| it.number).collect::<Vec<u16>>()
+        });
+        let row: Vec<u16> = (0..count as u16).collect();
+        assert!(numbers[1] == row && numbers[3] == row && numbers[2].iter().rev().eq(&row) && (count < 2 || numbers[0] != row));
+        let (input, most) = (with_its_index(names_ascending(count)), halvings(count, 1));
+        let (wad, index) = wad_and_index(&input);
+        let entry = if count == 0 { Err(Refusal::plain(11)) } else { Ok(0) };
+        assert_eq!(index_find(wad, index, b"A0000\0\0\0"), IndexSearch { entry, compared: most });
+    }
 }
 
 #[test]

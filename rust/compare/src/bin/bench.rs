@@ -233,6 +233,39 @@ fn comparing_to_judging(rows: &[Row]) -> Option<String> {
     ))
 }
 
+/// The length of a file's index, over records and into an output that are lent.
+fn library_index(wad: &[u8]) -> usize {
+    let mut records = vec![meshpigeon::IndexRecord::default(); meshpigeon::MOST_INDEXED];
+    meshpigeon::index_build_with(wad, &mut records, &mut vec![0; meshpigeon::MOST_INDEX]).expect("a good file")
+}
+
+fn reader_index(wad: &[u8]) -> usize {
+    let mut records = vec![reader::IndexRecord::default(); meshpigeon::MOST_INDEXED];
+    reader::index_build(wad, &mut records, &mut vec![0; meshpigeon::MOST_INDEX]).expect("a good file")
+}
+
+/// The check of an index, right or wrong.
+fn library_checked(input: &[u8]) -> usize {
+    let (wad, index) = given::wad_and_index(input);
+    meshpigeon::index_check(wad, index).map_or_else(|refusal| refusal.number as usize, |()| 0)
+}
+
+fn reader_checked(input: &[u8]) -> usize {
+    let (wad, index) = given::wad_and_index(input);
+    reader::index_check(wad, index).map_or_else(|refusal| refusal.number as usize, |()| 0)
+}
+
+/// How many names are compared until the first of all is found.
+fn library_lookup(input: &[u8]) -> usize {
+    let (wad, index) = given::wad_and_index(input);
+    meshpigeon::index_find(wad, index, b"A0000\0\0\0").compared
+}
+
+fn reader_lookup(input: &[u8]) -> usize {
+    let (wad, index) = given::wad_and_index(input);
+    reader::index_find(wad, index, b"A0000\0\0\0").compared
+}
+
 /// The rows of one lump: in a map with little else, whose check is mostly this lump's; in one piece; and in scraps.
 const IN_A_MAP: &str = "65,535 sidedefs in a map";
 const IN_ONE_PIECE: &str = "65,535 sidedefs in one piece";
@@ -518,6 +551,48 @@ fn inputs() -> Vec<Input> {
             sized: |n| given::with_changes(given::largest_map_of(n), 1),
             library: library_differences,
             reader: reader_differences,
+        },
+        Input {
+            name: "index: 4,096 names at random",
+            sized: |n| given::names_at_random(1_024 * n),
+            library: library_index,
+            reader: reader_index,
+        },
+        Input {
+            name: "index: 4,096 names ascending",
+            sized: |n| given::names_ascending(1_024 * n),
+            library: library_index,
+            reader: reader_index,
+        },
+        Input {
+            name: "index: 4,096 names descending",
+            sized: |n| given::names_descending(1_024 * n),
+            library: library_index,
+            reader: reader_index,
+        },
+        Input {
+            name: "index: 4,096 times one name",
+            sized: |n| given::names_alike(1_024 * n),
+            library: library_index,
+            reader: reader_index,
+        },
+        Input {
+            name: "index of 4,096 checked",
+            sized: |n| given::with_its_index(given::names_at_random(1_024 * n)),
+            library: library_checked,
+            reader: reader_checked,
+        },
+        Input {
+            name: "index of 4,096, last wrong (84)",
+            sized: |n| given::with_a_wrong_index(given::names_descending(1_024 * n)),
+            library: library_checked,
+            reader: reader_checked,
+        },
+        Input {
+            name: "lookup in an index of 4,096",
+            sized: |n| given::with_its_index(given::names_at_random(1_024 * n)),
+            library: library_lookup,
+            reader: reader_lookup,
         },
         Input {
             name: "hostile BLOCKMAP of 16 MiB",
