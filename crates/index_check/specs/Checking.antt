@@ -13,13 +13,17 @@ use Rattle.wad.specs.Header.{headOf, entryCount}
 use Rattle.wad.specs.Entries.{fileCheck}
 use Rattle.index.specs.Index.{indexMark, indexVersion, versionPlace, countPlace, lengthPlace, recordPlace, indexBytes}
 
--- 82: long enough for the file's entries, with the mark, and with the file's count and length
-abbrev pub indexHeadOk : List ℕ → List ℕ → Bool
-indexHeadOk wad index =
-    leb (recordPlace (entryCount (headOf wad))) (length index)
+-- long enough for `count` records, with the mark, and with that count and a file's length, `len`
+abbrev pub headOk : ℕ → ℕ → List ℕ → Bool
+headOk count len index =
+    leb (recordPlace count) (length index)
     && sameBytes (take 3 index) indexMark
-    && eqb (u16At index countPlace) (entryCount (headOf wad))
-    && eqb (u32At index lengthPlace) (length wad)
+    && eqb (u16At index countPlace) count
+    && eqb (u32At index lengthPlace) len
+
+-- 82: so it is with the count of entries and the length of the file
+abbrev pub indexHeadOk : List ℕ → List ℕ → Bool
+indexHeadOk wad index = headOk (entryCount (headOf wad)) (length wad) index
 
 -- 83
 abbrev pub versionOk : List ℕ → Bool

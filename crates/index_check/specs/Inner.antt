@@ -2,9 +2,9 @@
 use Prim.Native.Nat.{ℕ, _+_, _-_}
 use mathlib.Core.Bool.{Bool, true, _&&_, cond}
 use mathlib.Core.List.{List}
-use lib.Dec.{ltb, leb, eqb}
-use lib.ListN.{length, take}
-use Rattle.endian.specs.Unsigned.{u16At, u32At}
+use lib.Dec.{ltb, eqb}
+use lib.ListN.{length}
+use Rattle.endian.specs.Unsigned.{u16At}
 use Rattle.refusal.specs.declared.Check.{Check}
 use Rattle.refusal.specs.declared.Refusal.the-variants.{IndexEntries}
 use Rattle.refusal.specs.Checks.{unless, _andThen_, each}
@@ -13,15 +13,7 @@ use Rattle.wad.specs.Slices.{part}
 use Rattle.wad.specs.Entries.{entryName}
 use Rattle.index.specs.declared.IndexRecord.{IndexRecord}
 use Rattle.index.specs.Records.{padded, precedes}
-use Rattle.index.specs.Index.{indexMark, countPlace, lengthPlace, recordPlace}
-
--- what 82 looks at, by the file's count of entries and its length
-abbrev pub headOk : ℕ → ℕ → List ℕ → Bool
-headOk count len index =
-    leb (recordPlace count) (length index)
-    && sameBytes (take 3 index) indexMark
-    && eqb (u16At index countPlace) count
-    && eqb (u32At index lengthPlace) len
+use Rattle.index.specs.Index.{recordPlace}
 
 -- record `i` of an index
 abbrev pub recordIn : List ℕ → ℕ → IndexRecord

@@ -4,7 +4,7 @@ ghost use Prim.Native.Nat.{_≤_};
 ghost use lib.ListN.{length};
 ghost use Rattle.name.specs.Names.{sameBytes};
 ghost use Rattle.index.specs.Index.{recordPlace};
-ghost use Rattle.index_check.specs.Inner.{headOk};
+ghost use Rattle.index_check.specs.Checking.{headOk};
 
 // Where record i begins; for the count of records, how long the index is.
 pub fn record_place(i: usize) -> usize

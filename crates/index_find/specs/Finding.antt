@@ -26,9 +26,12 @@ nameIn index i = part index (recordPlace i) 8
 abbrev pub numberIn : List ℕ → ℕ → ℕ
 numberIn index i = u16At index (recordPlace i + 8)
 
--- a record's name is not above the asked one, by bytes
+-- the name of record `i` is not above these bytes, nor above an asked name's
+abbrev pub notAboveBytes : List ℕ → List ℕ → ℕ → Bool
+notAboveBytes index asked i = not (belowFrom 8 0 asked (nameIn index i) false)
+
 abbrev pub notAbove : List ℕ → List ℕ → ℕ → Bool
-notAbove index name i = not (belowFrom 8 0 (padded name) (nameIn index i) false)
+notAbove index name i = notAboveBytes index (padded name) i
 
 -- of `left` records behind the first `past` that were gone past: compare the one behind half of them, rounded down; if it is not above go on
 -- after it, otherwise before it. How many are gone past in the end

@@ -3,8 +3,8 @@ ghost use mathlib.Core.Path.{_≡_};
 ghost use Prim.Native.Nat.{_+_, _<_, _≤_};
 ghost use lib.ListN.{length};
 ghost use Rattle.index.specs.Index.{recordPlace};
-ghost use Rattle.index_find.specs.Finding.{notAbove};
-ghost use Rattle.index_find.specs.Inner.{notAboveBytes, goneBy};
+ghost use Rattle.index_find.specs.Finding.{notAboveBytes, notAbove};
+ghost use Rattle.index_find.specs.Inner.{goneBy};
 use index::IndexRecord;
 
 // How many records were gone past, and how many were compared.

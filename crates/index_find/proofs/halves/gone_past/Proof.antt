@@ -6,8 +6,7 @@ use mathlib.Core.Path.{_≡_, sym, ap, _∙_}
 use native.Mathlib.Omega.{arith}
 use borrow.Author.Needs.{needs}
 use denote.Ref.{now}
-use Rattle.index_find.specs.Finding.{notAbove}
-use Rattle.index_find.specs.Inner.{notAboveBytes}
+use Rattle.index_find.specs.Finding.{notAboveBytes, notAbove}
 use Rattle.index_find.proofs.Turns.{Searching, searching-all, searching-after, searching-before, searching-done}
 use Rattle.index_find.proofs.halves.gone_past.Statement.{statement}
 use Rattle.index_find.proofs.halves.gone_past.Tie as tie
