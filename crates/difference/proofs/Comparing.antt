@@ -11,7 +11,8 @@ use lib.Dec.{eqb}
 use lib.ListN.{length, getD, take, drop}
 use lib.Seq.{drop-cons}
 use Rattle.layout.proofs.LaidOut.{length-laid-le}
-use Rattle.difference.specs.Records.{sameRecord, countIn, changed, changesBelow, changes}
+use Rattle.name.specs.Names.{sameBytes}
+use Rattle.difference.specs.Records.{countIn, changed, changesBelow, changes}
 use Rattle.difference.specs.Inner.{SameAt, NoneChanged, changesFrom}
 use Rattle.difference.proofs.Laying.{laid-empty}
 
@@ -19,8 +20,8 @@ use Rattle.difference.proofs.Laying.{laid-empty}
 
 -- one byte less
 pub same-more : (old new : List ℕ) (at left : ℕ) → at < length old → at < length new → 0 < left
-    → sameRecord (take left (drop at old)) (take left (drop at new))
-    ≡ (eqb (getD old at 0) (getD new at 0) && sameRecord (take (left - 1) (drop (at + 1) old)) (take (left - 1) (drop (at + 1) new)))
+    → sameBytes (take left (drop at old)) (take left (drop at new))
+    ≡ (eqb (getD old at 0) (getD new at 0) && sameBytes (take (left - 1) (drop (at + 1) old)) (take (left - 1) (drop (at + 1) new)))
 same-more old new at zero h k l = absurd (omega arith)
 same-more old new at (suc left) h k l =
     let one : suc left - 1 ≡ left = omega arith in rw (drop-cons old at 0 h, drop-cons new at 0 k, add-one at, one)
@@ -42,7 +43,7 @@ block-inside size lump i n h =
 -- ---- a run of bytes
 
 same-bytes : (old new : List ℕ) (n at : ℕ) → at + n ≤ length old → at + n ≤ length new → SameAt old new at n
-    → sameRecord (take n (drop at old)) (take n (drop at new)) ≡ true
+    → sameBytes (take n (drop at old)) (take n (drop at new)) ≡ true
 same-bytes old new zero at h k s = refl
 same-bytes old new (suc n) at h k s =
     let here : at + 0 ≡ at = omega arith in

@@ -16,23 +16,10 @@ use Rattle.refusal.proofs.Checks.{both}
 use Rattle.field.specs.Records.{recordBytes}
 use Rattle.bsp.specs.Heights.{member}
 use Rattle.bsp.proofs.Repeats.{or-either, or-neither, member-left, member-right, member-append, member-head, member-cons, at-member}
-use Rattle.difference.specs.Records.{sameRecord, countIn, changed, changes}
+use Rattle.name.specs.Names.{sameBytes}
+use Rattle.name.proofs.Bytes.{same-equal, equal-same}
+use Rattle.difference.specs.Records.{countIn, changed, changes}
 use Rattle.difference.specs.Promises.{Copies}
-
--- ---- the same bytes
-
-pub same-equal : (xs ys : List ℕ) → sameRecord xs ys ≡ true → xs ≡ ys
-same-equal [] [] e = refl
-same-equal [] (y ∷ ys) e = let z : _≡_ {A = ℕ} 0 1 = cc in absurd (omega arith)
-same-equal (x ∷ xs) [] e = let z : _≡_ {A = ℕ} 0 1 = cc in absurd (omega arith)
-same-equal (x ∷ xs) (y ∷ ys) e =
-    let p = both (eqb x y) (sameRecord xs ys) e in
-    let rest = same-equal xs ys (p .1) in
-    λ i. eqb-true x y (p .0) i ∷ rest i
-
-pub equal-same : (xs : List ℕ) → sameRecord xs xs ≡ true
-equal-same [] = refl
-equal-same (x ∷ xs) = rw (eq-eqb x x refl) (equal-same xs)
 
 -- ---- the numbers below `n` that pass a test
 
@@ -113,8 +100,8 @@ records-laid lump size (suc n) =
 module _ (size : ℕ) (old new : List ℕ) where
   unchanged : (i : ℕ) → changed size old new i ≡ false → recordBytes old size i ≡ recordBytes new size i
   unchanged i e =
-      let p = or-neither (leb (countIn size old) i) (not (sameRecord (recordBytes old size i) (recordBytes new size i))) e in
-      same-equal (recordBytes old size i) (recordBytes new size i) (not-false (sameRecord (recordBytes old size i) (recordBytes new size i)) (p .1))
+      let p = or-neither (leb (countIn size old) i) (not (sameBytes (recordBytes old size i) (recordBytes new size i))) e in
+      same-equal (recordBytes old size i) (recordBytes new size i) (not-false (sameBytes (recordBytes old size i) (recordBytes new size i)) (p .1))
 
   copied-record : (i : ℕ) → i < countIn size new
       → cond (member i (changes size old new)) (recordBytes new size i) (recordBytes old size i) ≡ recordBytes new size i
@@ -137,10 +124,10 @@ module _ (size : ℕ) (old new : List ℕ) where
               p .0,
               ⊎-elim
                   (λ (h : leb (countIn size old) i ≡ true). inl (leb-true (countIn size old) i h))
-                  (λ (h : not (sameRecord (recordBytes old size i) (recordBytes new size i)) ≡ true).
+                  (λ (h : not (sameBytes (recordBytes old size i) (recordBytes new size i)) ≡ true).
                   inr (λ e.
-                  let no = not-true (sameRecord (recordBytes old size i) (recordBytes new size i)) h in
-                  let yes = ap (λ (xs : List ℕ). sameRecord xs (recordBytes new size i)) e ∙ equal-same (recordBytes new size i) in
+                  let no = not-true (sameBytes (recordBytes old size i) (recordBytes new size i)) h in
+                  let yes = ap (λ (xs : List ℕ). sameBytes xs (recordBytes new size i)) e ∙ equal-same (recordBytes new size i) in
                   let z : _≡_ {A = ℕ} 0 1 = cc in omega arith))
                   (or-either (leb (countIn size old) i) _ (p .1)),
             );

@@ -5,15 +5,9 @@ use mathlib.Core.List.{List, [], _∷_}
 use lib.Dec.{leb, eqb}
 use lib.ListN.{length}
 use Rattle.layout.specs.Rows.{laidOut}
+use Rattle.name.specs.Names.{sameBytes}
 use Rattle.field.specs.Records.{recordBytes}
 use Rattle.bsp.specs.Heights.{member}
-
--- the same bytes
-abbrev pub sameRecord : List ℕ → List ℕ → Bool
-sameRecord [] [] = true
-sameRecord [] (y ∷ ys) = false
-sameRecord (x ∷ xs) [] = false
-sameRecord (x ∷ xs) (y ∷ ys) = eqb x y && sameRecord xs ys
 
 -- how many whole records a lump has
 abbrev pub countIn : ℕ → List ℕ → ℕ
@@ -21,7 +15,7 @@ countIn size lump = length lump / size
 
 -- record `i` of the new lump: the old one does not have it, or has another there
 abbrev pub changed : ℕ → List ℕ → List ℕ → ℕ → Bool
-changed size old new i = leb (countIn size old) i || not (sameRecord (recordBytes old size i) (recordBytes new size i))
+changed size old new i = leb (countIn size old) i || not (sameBytes (recordBytes old size i) (recordBytes new size i))
 
 -- the numbers of such records below `n`, ascending
 abbrev pub changesBelow : ℕ → List ℕ → List ℕ → ℕ → List ℕ

@@ -5,12 +5,13 @@ ghost use mathlib.Core.List.{[], _∷_};
 ghost use Prim.Native.Nat.{_+_, _≤_, _<_};
 ghost use lib.ListN.{length, take, drop};
 ghost use lib.Seq.{sets};
-ghost use Rattle.difference.specs.Records.{sameRecord, countIn, changed};
+ghost use Rattle.name.specs.Names.{sameBytes};
+ghost use Rattle.difference.specs.Records.{countIn, changed};
 
 // Whether the `size` bytes from `from` on are the same in both.
 fn same_bytes(old: &[u8], new: &[u8], from: usize, size: usize) -> bool
     requires { ⌜ (from + size ≤ length (now old)) × (from + size ≤ length (now new)) ⌝ }
-    ensures { λ r. ⌜ r ≡ sameRecord (take size (drop from (now (old .entry)))) (take size (drop from (now (new .entry)))) ⌝ }
+    ensures { λ r. ⌜ r ≡ sameBytes (take size (drop from (now (old .entry)))) (take size (drop from (now (new .entry)))) ⌝ }
 {
     for i in 0..size {
         if old[from + i] != new[from + i] {

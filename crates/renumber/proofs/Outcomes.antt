@@ -25,9 +25,9 @@ use Rattle.bsp.proofs.Shared.{words-end}
 use Rattle.bsp.proofs.Verdict.{verdict-none}
 use Rattle.graph.specs.Inner.Searching.{Searchable}
 use Rattle.renumber.specs.declared.Renumbering.{Renumbering}
-use Rattle.renumber.specs.Orders.{manyOk, onceOk, rootOk, childrenOk, renumberCheck}
+use Rattle.renumber.specs.Orders.{lateCheck, manyOk, onceOk, rootOk, childrenOk, renumberCheck}
 use Rattle.renumber.specs.Renumbering.{renumbered, newNode, renumberingOf}
-use Rattle.renumber.specs.Inner.{markedOk, markedBelow, Marks, allMarked, PlacesHeld, Emptied, Filled, Ordered, lateCheck, OrderJudged, GraphJudged, graphCheck, nodesCheck, NodesRenumbered, Writable}
+use Rattle.renumber.specs.Inner.{markedOk, markedBelow, Marks, allMarked, PlacesHeld, Emptied, Filled, Ordered, OrderJudged, GraphJudged, graphCheck, nodesCheck, NodesRenumbered, Writable}
 use Rattle.renumber.proofs.Members.{same-test}
 use Rattle.renumber.proofs.Marking.{marked-is, is-marked, below-few, marks-many, all-marked}
 use Rattle.renumber.proofs.Placing.{placed-none, all-places}

@@ -2,17 +2,14 @@
 -- mark the nodes that are reached; the next `count` words then hold the place of each node in the list. Assumes nothing.
 use Prim.Native.Nat.{ℕ, zero, suc, _+_, _*_, _≤_, _<_}
 use mathlib.Core.Bool.{Bool, true, false, _&&_, _||_, not, cond}
-use mathlib.Core.List.{List, [], _∷_, _++_}
+use mathlib.Core.List.{List, [], _∷_}
 use mathlib.Core.Path.{_≡_}
-use lib.Dec.{leb, ltb, eqb}
-use lib.ListN.{length, getD, take}
-use Rattle.endian.specs.Unsigned.{u16Bytes}
+use lib.Dec.{ltb, eqb}
+use lib.ListN.{length, getD}
 use Rattle.refusal.specs.declared.Check.{Check}
 use Rattle.refusal.specs.declared.Check.the-variants.{Pass, Refused}
-use Rattle.refusal.specs.declared.Refusal.the-variants.{NodeLoop, NodeShared, RenumberRoot, RenumberChild, RenumberRoom}
-use Rattle.refusal.specs.Checks.{unless, _andThen_}
+use Rattle.refusal.specs.declared.Refusal.the-variants.{NodeLoop, NodeShared}
 use Rattle.layout.specs.Buffers.{bufferAfter}
-use Rattle.field.specs.Records.{recordBytes}
 use Rattle.built.specs.Nodes.{nodeSize}
 use Rattle.bsp.specs.declared.Choice.{Choice}
 use Rattle.bsp.specs.declared.Choice.the-variants.{Right, Left}
@@ -26,8 +23,8 @@ use Rattle.graph.specs.Inner.Looks.{markOf}
 use Rattle.wad.specs.declared.map.Marker.the-variants.{Entry}
 use Rattle.level.specs.Verdict.{verdictBy, wordsAfterBy}
 use Rattle.renumber.specs.declared.Renumbering.{Renumbering}
-use Rattle.renumber.specs.Orders.{oldAt, rootOk, childrenOk, renumberCheck}
-use Rattle.renumber.specs.Renumbering.{checkBy, lumpBy, renumbered, renumberingOf}
+use Rattle.renumber.specs.Orders.{oldAt, childrenOk, renumberCheck}
+use Rattle.renumber.specs.Renumbering.{withChildren, checkBy, lumpBy, renumbered, renumberingOf}
 
 -- ---- from a marker on, and from the nodes on
 
@@ -116,13 +113,6 @@ pub record Ordered (nodes : List ℕ) (count : ℕ) (words order : List ℕ) : T
   pub once : repeats order ≡ false
   pub places : PlacesHeld order (length order) words count
 
--- 72, 71 and 74
-abbrev pub lateCheck : List ℕ → List ℕ → ℕ → Check
-lateCheck nodes order room =
-    unless (rootOk nodes order) RenumberRoot
-    andThen unless (childrenOk nodes order (length order)) RenumberChild
-    andThen unless (leb (nodeSize * length order) room) RenumberRoom
-
 -- what is answered of the list, and known where it passes
 pub record OrderJudged (nodes : List ℕ) (count : ℕ) (order : List ℕ) (room : ℕ) (words : List ℕ) (answer : Check) : Type 0 where
   pub tells : answer ≡ renumberCheck nodes order room
@@ -154,9 +144,7 @@ renamedBy words count w = cond (isNode w) (placeWord words count w) w
 -- node `v` by the new numbers of its children
 abbrev pub nodeBy : List ℕ → List ℕ → ℕ → ℕ → List ℕ
 nodeBy nodes words count v =
-    take 24 (recordBytes nodes nodeSize v)
-    ++ u16Bytes (renamedBy words count (childOf nodes v Right))
-    ++ u16Bytes (renamedBy words count (childOf nodes v Left))
+    withChildren nodes v (renamedBy words count (childOf nodes v Right)) (renamedBy words count (childOf nodes v Left))
 
 -- what a list that passes is written from
 pub record Writable (nodes : List ℕ) (count : ℕ) (words order : List ℕ) (room : ℕ) : Type 0 where

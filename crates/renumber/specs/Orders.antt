@@ -54,11 +54,14 @@ unfoldable pub childrenOk : List ℕ → List ℕ → ℕ → Bool
 childrenOk nodes order zero = true
 childrenOk nodes order (suc n) = childrenOk nodes order n && childFirst nodes order n Right && childFirst nodes order n Left
 
--- the list, and then the room for the nodes
-abbrev pub renumberCheck : List ℕ → List ℕ → ℕ → Check
-renumberCheck nodes order room =
-    unless (manyOk nodes order) RenumberLength
-    andThen unless (onceOk nodes order) RenumberNodes
-    andThen unless (rootOk nodes order) RenumberRoot
+-- 72, 71, and then the room for the nodes
+abbrev pub lateCheck : List ℕ → List ℕ → ℕ → Check
+lateCheck nodes order room =
+    unless (rootOk nodes order) RenumberRoot
     andThen unless (childrenOk nodes order (length order)) RenumberChild
     andThen unless (leb (nodeSize * length order) room) RenumberRoom
+
+-- the whole row
+abbrev pub renumberCheck : List ℕ → List ℕ → ℕ → Check
+renumberCheck nodes order room =
+    unless (manyOk nodes order) RenumberLength andThen unless (onceOk nodes order) RenumberNodes andThen lateCheck nodes order room

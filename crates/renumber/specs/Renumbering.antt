@@ -24,12 +24,15 @@ use Rattle.renumber.specs.Orders.{indexIn, oldAt, renumberCheck}
 abbrev pub renamed : List ℕ → ℕ → ℕ
 renamed order w = cond (isNode w) (indexIn order w) w
 
--- node `i` of the new lump: the bytes of the old one, up to its children, and these renamed
+-- the bytes of node `v` up to its children, and two others in their place
+abbrev pub withChildren : List ℕ → ℕ → ℕ → ℕ → List ℕ
+withChildren nodes v right left = take 24 (recordBytes nodes nodeSize v) ++ u16Bytes right ++ u16Bytes left
+
+-- node `i` of the new lump: the old one with its children renamed
 abbrev pub newNode : List ℕ → List ℕ → ℕ → List ℕ
 newNode nodes order i =
-    take 24 (recordBytes nodes nodeSize (oldAt order i))
-    ++ u16Bytes (renamed order (childOf nodes (oldAt order i) Right))
-    ++ u16Bytes (renamed order (childOf nodes (oldAt order i) Left))
+    withChildren nodes (oldAt order i)
+    (renamed order (childOf nodes (oldAt order i) Right)) (renamed order (childOf nodes (oldAt order i) Left))
 
 -- the new lump
 abbrev pub renumbered : List ℕ → List ℕ → List ℕ

@@ -6,7 +6,8 @@ use native.Mathlib.Omega.{arith}
 use borrow.Author.Tests.{le-leb, lt-leb}
 use denote.Ref.{now}
 use Rattle.field.specs.Records.{recordBytes}
-use Rattle.difference.specs.Records.{sameRecord, countIn}
+use Rattle.name.specs.Names.{sameBytes}
+use Rattle.difference.specs.Records.{countIn}
 use Rattle.difference.proofs.Comparing.{record-inside}
 use Rattle.difference.proofs.records.is_changed.Statement.{statement}
 use Rattle.difference.proofs.records.is_changed.Tie as tie
@@ -15,7 +16,7 @@ returns : tie.Need-returns
 returns c =
     let s = c .before .before .before in
     let past : countIn (s .args .size) (now (s .args .old)) ≤ s .args .i = omega (arith, s .pre .0, c .if1 .taken) in
-    sym (ap (λ (b : Bool). b || not (sameRecord (recordBytes (now (s .args .old)) (s .args .size) (s .args .i)) (recordBytes (now (s .args .new)) (s .args .size) (s .args .i)))) (le-leb _ _ past))
+    sym (ap (λ (b : Bool). b || not (sameBytes (recordBytes (now (s .args .old)) (s .args .size) (s .args .i)) (recordBytes (now (s .args .new)) (s .args .size) (s .args .i)))) (le-leb _ _ past))
 
 mul-same-bytes : tie.Need-mul-same-bytes
 mul-same-bytes c =
@@ -35,7 +36,7 @@ same-bytes-requires c κs =
 returns-2 : tie.Need-returns-2
 returns-2 c =
     let a = c .before .before .before .before .args in
-    let bytes = sameRecord (recordBytes (now (a .old)) (a .size) (a .i)) (recordBytes (now (a .new)) (a .size) (a .i)) in
+    let bytes = sameBytes (recordBytes (now (a .old)) (a .size) (a .i)) (recordBytes (now (a .new)) (a .size) (a .i)) in
     ap not (c .same-bytes .ensures) ∙ sym (ap (λ (b : Bool). b || not bytes) (lt-leb _ _ (there (c .before))))
 
 pub is-changed-spec : {M : Type 1} → statement M

@@ -6,7 +6,7 @@ use borrow.Author.Needs.{needs}
 use borrow.Author.Tests.{eq-eqb, ne-eqb}
 use denote.Ref.{now}
 use lib.ListN.{take, drop, getD}
-use Rattle.difference.specs.Records.{sameRecord}
+use Rattle.name.specs.Names.{sameBytes}
 use Rattle.difference.proofs.Comparing.{same-more}
 use Rattle.difference.proofs.records.same_bytes.Statement.{statement}
 use Rattle.difference.proofs.records.same_bytes.Tie as tie
@@ -14,8 +14,8 @@ use Rattle.difference.proofs.records.same_bytes.Tie as tie
 abbrev Inv-loop : tie.InvT-loop
 Inv-loop old new from size i₀ i =
     (i ≤ size)
-    × (sameRecord (take size (drop from old)) (take size (drop from new))
-    ≡ sameRecord (take (size - i) (drop (from + i) old)) (take (size - i) (drop (from + i) new)))
+    × (sameBytes (take size (drop from old)) (take size (drop from new))
+    ≡ sameBytes (take (size - i) (drop (from + i) old)) (take (size - i) (drop (from + i) new)))
 
 abbrev μ-loop : tie.MeasureT-loop
 μ-loop old new from size i₀ i = size - i
