@@ -2,9 +2,8 @@
 
 pub mod Again
 pub mod Walk
-pub mod Places
-pub mod Pushes
 pub mod SortedOver
 pub mod Bytes
+pub mod Numbers
 pub mod Rooms
 pub mod Whole

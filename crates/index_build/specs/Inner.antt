@@ -1,15 +1,19 @@
--- What only contracts of inner functions cite: where a record is put, the records so far, and the bytes so far. Assumes nothing.
-use Prim.Native.Nat.{ℕ, zero, suc, _+_, _-_, _/_, _<_}
-use mathlib.Core.List.{List, _∷_, _++_}
+-- What only contracts of inner functions cite: the order of the entries in the output, the records and the bytes so far. Assumes nothing.
+use Prim.Native.Nat.{ℕ, zero, suc, _+_, _-_, _*_, _/_, _<_, _≤_}
+use mathlib.Core.List.{List, _++_}
 use mathlib.Core.Path.{_≡_}
-use lib.ListN.{length, getD, take, drop}
+use lib.ListN.{length, getD, drop}
 use lib.Seq.{sets}
 use Rattle.refusal.specs.declared.Check.{Check}
 use Rattle.refusal.specs.declared.Check.the-variants.{Pass, Refused}
+use Rattle.endian.specs.Unsigned.{u16At, u16Bytes}
+use Rattle.layout.specs.Rows.{laidOut}
 use Rattle.wad.specs.Header.{headOf, entryCount, fileHeaderCheck}
+use Rattle.wad.specs.Entries.{directoryOf}
 use Rattle.index.specs.declared.IndexRecord.{IndexRecord}
-use Rattle.index.specs.Records.{noRecord, insert, indexOf}
+use Rattle.index.specs.Records.{noRecord, recordAt, indexOf}
 use Rattle.index.specs.Index.{indexHeadSize, indexRecordSize, recordPlace, indexHead, indexRecordBytes}
+use Rattle.index_order.specs.Orders.{entryAt}
 use Rattle.index_build.specs.declared.Building.{Building}
 use Rattle.index_build.specs.declared.Building.the-variants.{Written, Refused as NotWritten}
 
@@ -18,25 +22,35 @@ abbrev pub entriesIn : Building → ℕ
 entriesIn (Written length) = (length - indexHeadSize) / indexRecordSize
 entriesIn (NotWritten r) = 0
 
--- the first `n` entries can be read
-abbrev pub EntriesThere : List ℕ → ℕ → Type 0
-EntriesThere wad n = (i : ℕ) → i < n → (fileHeaderCheck (length wad) (headOf wad) ≡ Pass) × (i < entryCount (headOf wad))
+-- where number `i` of the order stands, while the records are sorted: behind the head, where their bytes will be
+abbrev pub orderPlace : ℕ → ℕ
+orderPlace i = indexHeadSize + 2 * i
 
--- `r` is where `insert` puts it
-abbrev pub Place : List IndexRecord → IndexRecord → ℕ → Type 0
-Place xs new r = insert new xs ≡ take r xs ++ new ∷ drop r xs
+-- number `i` of the order
+abbrev pub orderedAt : List ℕ → ℕ → ℕ
+orderedAt out i = u16At out (orderPlace i)
 
--- `new` at a place of the first `n`, over the record at `n`
-abbrev pub inserted : ℕ → ℕ → IndexRecord → List IndexRecord → List IndexRecord
-inserted at n new xs = take at xs ++ new ∷ take (n - at) (drop at xs) ++ drop (n + 1) xs
+-- the order of a file's entries
+abbrev pub orderBytes : List ℕ → List ℕ
+orderBytes wad = laidOut (λ i. u16Bytes (entryAt (directoryOf wad) (entryCount (headOf wad)) i)) (entryCount (headOf wad))
+
+-- number `i` of the order can be read, and the entry of that number
+abbrev pub EntryThere : List ℕ → List ℕ → ℕ → Type 0
+EntryThere wad out i =
+    (fileHeaderCheck (length wad) (headOf wad) ≡ Pass) × (orderedAt out i < entryCount (headOf wad)) × (orderPlace i + 2 ≤ length out)
+
+-- the first `n` numbers of the order are there, and are those of the sorted records
+abbrev pub EntriesThere : List ℕ → List ℕ → ℕ → Type 0
+EntriesThere wad out n =
+    (i : ℕ) → i < n → EntryThere wad out i × (recordAt (directoryOf wad) (orderedAt out i) ≡ getD (indexOf (directoryOf wad) n) i noRecord)
 
 -- the sorted records of the first `n` entries over the first `n` records, and the records behind them
 abbrev pub sortedOver : List ℕ → ℕ → List IndexRecord → List IndexRecord
 sortedOver dir n records = indexOf dir n ++ drop n records
 
--- the output after the check: where it passes, with the head
+-- the output after the check: where it passes, with the head and the order
 abbrev pub begun : Check → List ℕ → List ℕ → List ℕ
-begun Pass wad out = sets out 0 (indexHead wad)
+begun Pass wad out = sets out 0 (indexHead wad ++ orderBytes wad)
 begun (Refused r) wad out = out
 
 -- the bytes of a record at the place of record `i`

@@ -1,5 +1,6 @@
-// A name index built (W-210): every entry is put into a lent slice of records, which stays sorted, and then written out. The definitions are
-// in specs/. `build`, `sort`, `place`, `insert` and `write` take a slice of records and are proved by a walk of their MIR, by hand.
+// A name index built (W-210): the order of the entries is found and kept in the output, each record is put into its place of a lent slice, and
+// then written out over the order. The definitions are in specs/. `build`, `sort` and `write` take a slice of records and are proved by a
+// walk of their MIR, by hand.
 ghost use mathlib.Core.Path.{_≡_};
 ghost use Rattle.index_build.specs.Building.{Builds};
 ghost use Rattle.index_build.specs.Inner.{entriesIn};
@@ -23,7 +24,7 @@ pub fn build(wad: &[u8], records: &mut [IndexRecord], out: &mut [u8]) -> Buildin
 {
     let answer = writing::begin(wad, records.len(), out);
     let n = entries_in(answer);
-    sorting::sort(wad, n, records);
+    sorting::sort(wad, out, n, records);
     writing::write(records, n, out);
     answer
 }

@@ -132,28 +132,30 @@ module _ {M : Type 1} (𝓤 : URA M) (H : Heap 𝓤) (A : Atoms 𝓤) (W : Given
       split ! $ move ! (1 ∷ []) $ use1 W (raw (fact 𝓤 (k ≡ entriesIn r))) (exE 𝓤 _ (λ ws. snd∗ 𝓤 (sem 𝓤 H A (lasts entries-in.ended tt (r, tt) ws)) (fact 𝓤 (k ≡ entriesIn r)))) $ heard ! (k ≡ entriesIn r) (λ e. split ! $ drop ! $
       peeks ! usize (Is usize) (shows 𝓤 H A usize) k (w ∷ []) (λ is. at-once ! $ check ! (ap only (is .0) ∙ ap (vint w64) e) $ keep ! [] $ done !))))))
 
-  -- both tokens are back, and the last records are said
-  abbrev SortedBack : Lft → Share → ℕ → RefT (List IndexRecord) → List IndexRecord → Val → SProp 𝓤
-  SortedBack κ q ν x l w = sep 𝓤 (A .lft κ q) (sep 𝓤 (A .lft (ν ∷ []) fullShare) (sep 𝓤 (sem 𝓤 H A (finally R (x .name) l)) (fact 𝓤 ((w ≡ vunit) × (length l ≡ length (x .now))))))
+  -- the tokens are back, and the last records are said
+  abbrev SortedBack : Lft → Share → ℕ → ℕ → RefT (List IndexRecord) → List IndexRecord → Val → SProp 𝓤
+  SortedBack κ q ν ν′ x l w = sep 𝓤 (A .lft κ q) (sep 𝓤 (A .lft (ν ∷ []) fullShare) (sep 𝓤 (A .lft (ν′ ∷ []) fullShare) (sep 𝓤 (sem 𝓤 H A (finally R (x .name) l)) (fact 𝓤 ((w ≡ vunit) × (length l ≡ length (x .now)))))))
 
-  sort-runs : (κ : Lft) (q : Share) (ν : ℕ) (d : RefT (List ℕ)) (n : ℕ) (x : RefT (List IndexRecord)) (s : Val) → n < 2 ^ 64 → (n ≤ length (x .now)) × EntriesThere (d .now) n → Triple 𝓤 (𝓣 .C #sort) Sort
-      → ent 𝓤 (sep 𝓤 (A .lft κ q) (sep 𝓤 (sem 𝓤 H A (ShrSlice (named 0) κ u8 .own d (slice-vals d))) (sep 𝓤 (A .lft (ν ∷ []) fullShare) (sem 𝓤 H A (MutSlice (named 1) (ν ∷ []) R .own x (s ∷ []))))))
-      (𝓣 .C #sort (sliceVal (d .ptr) (length (d .now)) ∷ vint w64 n ∷ s ∷ []) (λ w. H .⇛ (SortedBack κ q ν x (sortedOver (directoryOf (d .now)) n (x .now)) w)))
-  sort-runs κ q ν d n x s n-fits pre known =
-      let y : Sort .Ghost = (((κ, (ν ∷ [], tt)), (q, (fullShare, tt)), tt, (d, (n, (x, tt))), (slice-vals d, (vint w64 n ∷ [], (s ∷ [], tt)))), tt) in
+  sort-runs : (κ : Lft) (q : Share) (ν ν′ : ℕ) (d e : RefT (List ℕ)) (n : ℕ) (x : RefT (List IndexRecord)) (u s : Val) → n < 2 ^ 64 → (n ≤ length (x .now)) × EntriesThere (d .now) (e .now) n → Triple 𝓤 (𝓣 .C #sort) Sort
+      → ent 𝓤 (sep 𝓤 (A .lft κ q) (sep 𝓤 (sem 𝓤 H A (ShrSlice (named 0) κ u8 .own d (slice-vals d))) (sep 𝓤 (A .lft (ν ∷ []) fullShare) (sep 𝓤 (sem 𝓤 H A (ShrSlice (named 1) (ν ∷ []) u8 .own e (u ∷ []))) (sep 𝓤 (A .lft (ν′ ∷ []) fullShare) (sem 𝓤 H A (MutSlice (named 2) (ν′ ∷ []) R .own x (s ∷ []))))))))
+      (𝓣 .C #sort (sliceVal (d .ptr) (length (d .now)) ∷ u ∷ vint w64 n ∷ s ∷ []) (λ w. H .⇛ (SortedBack κ q ν ν′ x (sortedOver (directoryOf (d .now)) n (x .now)) w)))
+  sort-runs κ q ν ν′ d e n x u s n-fits pre known =
+      let y : Sort .Ghost = (((κ, (ν ∷ [], (ν′ ∷ [], tt))), (q, (fullShare, (fullShare, tt))), tt, (d, (e, (n, (x, tt)))), (slice-vals d, (u ∷ [], (vint w64 n ∷ [], (s ∷ [], tt))))), tt) in
       let last : List IndexRecord = sortedOver (directoryOf (d .now)) n (x .now) in
-      via 𝓤 (Sort .pre y) (qed W (‵ (flft κ q) ∷ ‵ (ShrSlice (named 0) κ u8 .own d (slice-vals d)) ∷ ‵ (flft (ν ∷ []) fullShare) ∷ ‵ (MutSlice (named 1) (ν ∷ []) R .own x (s ∷ [])) ∷ []) ∵ says ! pre $
-      nothing ! $ move ! (3 ∷ 0 ∷ []) $ join ! $ move ! (1 ∷ 0 ∷ []) $ join ! $ frame ! $
-      nothing ! $ move ! (2 ∷ 0 ∷ []) $ fjoin ! $ owned ! usize (Is usize) (uint-makes 𝓤 H A W w64) n _ (refl, n-fits) $ fjoin ! $ move ! (1 ∷ 0 ∷ []) $ fjoin ! $ done !)
-      (via 𝓤 (𝓣 .C #sort (sliceVal (d .ptr) (length (d .now)) ∷ vint w64 n ∷ s ∷ []) (Sort .post y)) (known y) (𝓣 .mono #sort (sliceVal (d .ptr) (length (d .now)) ∷ vint w64 n ∷ s ∷ []) (Sort .post y) _ (λ w.
-      qed W (raw (Sort .post y w) ∷ []) ∵ updating {P = SortedBack κ q ν x last w} ! $
-      use1 W (later (some (λ (r : Unit {0}). ((‵ (flft κ q) ⊛ ‵ (flft (ν ∷ []) fullShare) ⊛ ‵ ftrue) ⊛ ‵ (unit .own r (w ∷ []))) ⊛ raw (ensured 𝓤 H A sort.ended (sort.clauses 𝓤 H A mem run) (κ, (ν ∷ [], tt)) (d, (n, (x, tt))) tt r)))) (id⊢ 𝓤 _) $ await ! tt $ pick ! (λ r.
-      split ! $ move ! (1 ∷ []) $ use1 W (some (λ (ws : Unit {0} × (Unit {0} × (List IndexRecord × Unit {0}))). ‵ (lasts sort.ended (κ, (ν ∷ [], tt)) (d, (n, (x, tt))) ws) ⊛ raw (fact 𝓤 (ws .1 .1 .0 ≡ last)))) (id⊢ 𝓤 _) $ pick ! (λ ws.
-      split ! $ move ! (1 ∷ []) $ heard ! (ws .1 .1 .0 ≡ last) (λ e.
-      fsplit ! $ drop ! $ fsplit ! $ drop ! $ fsplit ! $ fsplit ! $ move ! (1 ∷ []) $ feqL ! (λ l.
-      move ! (2 ∷ []) $ split ! $ move ! (1 ∷ []) $ peeks ! unit (Is unit) (shows 𝓤 H A unit) r (w ∷ []) (λ is. drop ! $ split ! $ move ! (1 ∷ []) $ split ! $
-      rewrite ! 3 (λ (l : List IndexRecord). ‵ (finally R (x .name) l)) e refl $
-      at-once ! $ move ! (2 ∷ []) $ frame ! $ frame ! $ says ! (ap only is, subst (λ (l : List IndexRecord). length l ≡ length (x .now)) e l) $ keep ! (1 ∷ []) $ done !))))))))
+      let args : List Val = sliceVal (d .ptr) (length (d .now)) ∷ u ∷ vint w64 n ∷ s ∷ [] in
+      via 𝓤 (Sort .pre y) (qed W (‵ (flft κ q) ∷ ‵ (ShrSlice (named 0) κ u8 .own d (slice-vals d)) ∷ ‵ (flft (ν ∷ []) fullShare) ∷ ‵ (ShrSlice (named 1) (ν ∷ []) u8 .own e (u ∷ [])) ∷ ‵ (flft (ν′ ∷ []) fullShare) ∷ ‵ (MutSlice (named 2) (ν′ ∷ []) R .own x (s ∷ [])) ∷ []) ∵ says ! pre $
+      nothing ! $ move ! (5 ∷ 0 ∷ []) $ join ! $ move ! (3 ∷ 0 ∷ []) $ join ! $ move ! (1 ∷ 0 ∷ []) $ join ! $ frame ! $
+      nothing ! $ move ! (3 ∷ 0 ∷ []) $ fjoin ! $ owned ! usize (Is usize) (uint-makes 𝓤 H A W w64) n _ (refl, n-fits) $ fjoin ! $ move ! (2 ∷ 0 ∷ []) $ fjoin ! $ move ! (1 ∷ 0 ∷ []) $ fjoin ! $ done !)
+      (via 𝓤 (𝓣 .C #sort args (Sort .post y)) (known y) (𝓣 .mono #sort args (Sort .post y) _ (λ w.
+      qed W (raw (Sort .post y w) ∷ []) ∵ updating {P = SortedBack κ q ν ν′ x last w} ! $
+      use1 W (later (some (λ (r : Unit {0}). ((‵ (flft κ q) ⊛ ‵ (flft (ν ∷ []) fullShare) ⊛ ‵ (flft (ν′ ∷ []) fullShare) ⊛ ‵ ftrue) ⊛ ‵ (unit .own r (w ∷ []))) ⊛ raw (ensured 𝓤 H A sort.ended (sort.clauses 𝓤 H A mem run) (κ, (ν ∷ [], (ν′ ∷ [], tt))) (d, (e, (n, (x, tt)))) tt r)))) (id⊢ 𝓤 _) $ await ! tt $ pick ! (λ r.
+      split ! $ move ! (1 ∷ []) $ use1 W (some (λ (ws : Unit {0} × (Unit {0} × (Unit {0} × (List IndexRecord × Unit {0})))). ‵ (lasts sort.ended (κ, (ν ∷ [], (ν′ ∷ [], tt))) (d, (e, (n, (x, tt)))) ws) ⊛ raw (fact 𝓤 (ws .1 .1 .1 .0 ≡ last)))) (id⊢ 𝓤 _) $ pick ! (λ ws.
+      split ! $ move ! (1 ∷ []) $ heard ! (ws .1 .1 .1 .0 ≡ last) (λ e.
+      fsplit ! $ drop ! $ fsplit ! $ drop ! $ fsplit ! $ drop ! $ fsplit ! $ fsplit ! $ move ! (1 ∷ []) $ feqL ! (λ l.
+      move ! (2 ∷ []) $ split ! $ move ! (1 ∷ []) $ peeks ! unit (Is unit) (shows 𝓤 H A unit) r (w ∷ []) (λ is. drop ! $ split ! $ move ! (1 ∷ []) $ split ! $ move ! (1 ∷ []) $ split ! $
+      -- [ν′'s token; true; ν's token; κ's token; the last records; true]
+      rewrite ! 4 (λ (l : List IndexRecord). ‵ (finally R (x .name) l)) e refl $
+      at-once ! $ move ! (3 ∷ 2 ∷ []) $ frame ! $ frame ! $ frame ! $ says ! (ap only is, subst (λ (l : List IndexRecord). length l ≡ length (x .now)) e l) $ keep ! (1 ∷ []) $ done !))))))))
 
   abbrev Wrote : ℕ → ℕ → RefT (List ℕ) → List ℕ → Val → SProp 𝓤
   Wrote ν ν′ x l w = sep 𝓤 (A .lft (ν ∷ []) fullShare) (sep 𝓤 (A .lft (ν′ ∷ []) fullShare) (sep 𝓤 (sem 𝓤 H A (finally u8 (x .name) l)) (fact 𝓤 ((w ≡ vunit) × (length l ≡ length (x .now))))))
@@ -264,52 +266,61 @@ module _ {M : Type 1} (𝓤 : URA M) (H : Heap 𝓤) (A : Atoms 𝓤) (W : Given
         let n-fits : n < 2 ^ 64 = omega (arith, fit .few) in
         let hlong : length hs ≡ length os = begun-long (d .now) ys os in
         qed W ((‵ (flft κ₀ q₀) ⊛ ‵ (flft κ₁ q₁) ⊛ ‵ (flft κ₂ q₂) ⊛ ‵ ftrue) ∷ ‵ (owns (ShrSlice (named 0) κ₀ u8 ∷ MutSlice (named 1) κ₁ R ∷ MutSlice (named 2) κ₂ u8 ∷ []) a vals) ∷ []) ∵ enter ! C Λ code.function (dv ∷ sv (length ys) ∷ ov ∷ []) _ $
-        alloc1 ! (λ l₀. alloc1 ! (λ l₁. alloc1 ! (λ l₂. alloc1 ! (λ l₃. alloc1 ! (λ l₄. alloc1 ! (λ l₅. alloc1 ! (λ l₆. alloc1 ! (λ l₇. alloc1 ! (λ l₈. alloc1 ! (λ l₉. alloc1 ! (λ l₁₀. alloc1 ! (λ l₁₁. alloc1 ! (λ l₁₂. alloc1 ! (λ l₁₃. alloc1 ! (λ l₁₄. alloc1 ! (λ l₁₅. alloc0 ! $ params1 ! $
-        pass1 ! (init ! 28 refl (tt, (tt, (record { fits = d-room .0 }, tt)))) $ pass1 ! (init ! 26 refl (tt, (tt, (record { fits = room .0 }, tt)))) $ pass1 ! (init ! 24 refl (tt, (tt, (record { fits = o-room .0 }, tt)))) $ pass0 ! $
-        move ! (33 ∷ []) $ fsplit ! $ move ! (1 ∷ []) $ fsplit ! $ move ! (1 ∷ []) $ fsplit ! $ move ! (36 ∷ []) $ split ! $ move ! (1 ∷ []) $ split ! $ move ! (1 ∷ []) $ split ! $
+        alloc1 ! (λ l₀. alloc1 ! (λ l₁. alloc1 ! (λ l₂. alloc1 ! (λ l₃. alloc1 ! (λ l₄. alloc1 ! (λ l₅. alloc1 ! (λ l₆. alloc1 ! (λ l₇. alloc1 ! (λ l₈. alloc1 ! (λ l₉. alloc1 ! (λ l₁₀. alloc1 ! (λ l₁₁. alloc1 ! (λ l₁₂. alloc1 ! (λ l₁₃. alloc1 ! (λ l₁₄. alloc1 ! (λ l₁₅. alloc1 ! (λ l₁₆. alloc1 ! (λ l₁₇. alloc0 ! $ params1 ! $
+        pass1 ! (init ! 32 refl (tt, (tt, (record { fits = d-room .0 }, tt)))) $ pass1 ! (init ! 30 refl (tt, (tt, (record { fits = room .0 }, tt)))) $ pass1 ! (init ! 28 refl (tt, (tt, (record { fits = o-room .0 }, tt)))) $ pass0 ! $
+        move ! (37 ∷ []) $ fsplit ! $ move ! (1 ∷ []) $ fsplit ! $ move ! (1 ∷ []) $ fsplit ! $ move ! (40 ∷ []) $ split ! $ move ! (1 ∷ []) $ split ! $ move ! (1 ∷ []) $ split ! $
         -- [κ₂'s token; true; κ₁'s token; κ₀'s token; the bytes; true; the records; the file; the locals]
         move ! (6 ∷ 2 ∷ 3 ∷ 7 ∷ 4 ∷ 0 ∷ 1 ∷ 5 ∷ []) $ move ! (6 ∷ 7 ∷ []) $ drop ! $ drop ! $
         -- [the records; κ₁'s token; κ₀'s token; the file; the bytes; κ₂'s token; the locals]: `begin`
-        assigns ! (of-opd ! (load ! (from ! (fld ! refl (stop !))) (look-in ! 32 (sub ! 1 refl (whole !))))) (from ! (stop !)) (init ! 24 refl (tt, record { fits = room .0 })) $
-        assigns ! (addr ! (from ! (fld ! refl (hop ! (look-in ! 30 (sub ! 0 refl (whole !))) (stop !))))) (from ! (stop !)) (init ! 22 refl (tt, tt)) $
-        assigns ! (agg ! (and-then ! (load ! (from ! (stop !)) (look ! 22 refl)) (and-then ! (load ! (from ! (fld ! refl (stop !))) (look-in ! 30 (sub ! 1 refl (whole !)))) (no-more !)))) (from ! (stop !)) (init ! 20 refl (tt, (tt, (record { fits = o-room .0 }, tt)))) $
+        assigns ! (of-opd ! (load ! (from ! (fld ! refl (stop !))) (look-in ! 36 (sub ! 1 refl (whole !))))) (from ! (stop !)) (init ! 28 refl (tt, record { fits = room .0 })) $
+        assigns ! (addr ! (from ! (fld ! refl (hop ! (look-in ! 34 (sub ! 0 refl (whole !))) (stop !))))) (from ! (stop !)) (init ! 26 refl (tt, tt)) $
+        assigns ! (agg ! (and-then ! (load ! (from ! (stop !)) (look ! 26 refl)) (and-then ! (load ! (from ! (fld ! refl (stop !))) (look-in ! 34 (sub ! 1 refl (whole !)))) (no-more !)))) (from ! (stop !)) (init ! 24 refl (tt, (tt, (record { fits = o-room .0 }, tt)))) $
         move ! (3 ∷ []) $ use1 W (‵ Dir ⊛ ‵ Dir) (shr-slice-copy 𝓤 H A W (named 0) κ₀ u8 .twice d (dv ∷ [])) $ split ! $
         lft-new ! tt (λ ν. move ! (6 ∷ 7 ∷ []) $
         use2 W (later (some (λ (δ : GName). ‵ (MutSlice (named 1) (ν ∷ []) u8 .own (x′ δ os) (ov ∷ [])) ⊛ ‵ (LentAgain u8 κ₂ (ν ∷ []) q₂ γ′ b′ o′ δ os)))) (lends-again u8 κ₂ (ν ∷ []) q₂ γ′ b′ o′ 𝓤 H A W (named 2) (named 1) os) $ await ! tt $ pick ! (λ δ. split ! $
         move ! (7 ∷ 3 ∷ 2 ∷ 0 ∷ []) $ group ! 4 $
         calls-from ! (fmOf 𝓤 H (W .laws) 𝓣) _ (dv ∷ vint w64 (length ys) ∷ ov ∷ []) _ (begin-runs 𝓤 H A W mem run 𝓣 κ₀ q₀ ν d (length ys) (x′ δ os) ov (room .0) known-begin)
-        (and-then ! (load ! (from ! (stop !)) (look ! 33 refl)) (and-then ! (load ! (from ! (stop !)) (look ! 23 refl)) (and-then ! (load ! (from ! (stop !)) (look ! 19 refl)) (no-more !)))) (λ v.
+        (and-then ! (load ! (from ! (stop !)) (look ! 37 refl)) (and-then ! (load ! (from ! (stop !)) (look ! 27 refl)) (and-then ! (load ! (from ! (stop !)) (look ! 23 refl)) (no-more !)))) (λ v.
         use1 W (later (‵ (flft κ₀ q₀) ⊛ ‵ (flft (ν ∷ []) fullShare) ⊛ ‵ (finally u8 δ hs) ⊛ raw (fact 𝓤 (Is B answer (v ∷ []) × (length hs ≡ length os))))) (id⊢ 𝓤 _) $ await ! tt $ split ! $ move ! (1 ∷ []) $ split ! $ move ! (1 ∷ []) $ split ! $ move ! (1 ∷ []) $
         heard ! (Is B answer (v ∷ []) × (length hs ≡ length os)) (λ h.
         -- [the last bytes; ν's token; κ₀'s token; what the lender keeps; the file; the records; κ₁'s token; the locals]
-        land ! (from ! (stop !)) (init ! 29 refl (answer-typed W answer v (h .0))) $
+        land ! (from ! (stop !)) (init ! 33 refl (answer-typed W answer v (h .0))) $
         move ! (1 ∷ []) $ lft-end ! tt $ move ! (0 ∷ 3 ∷ 1 ∷ []) $
         use3 W (later (‵ (Bytes hs (length os)) ⊛ ‵ (flft κ₂ q₂))) (comes-back u8 κ₂ (ν ∷ []) q₂ γ′ b′ o′ 𝓤 H A W (named 2) (named 1) os δ hs o-room (h .1)) $ await ! tt $ split ! $
         -- [the bytes; κ₂'s token; κ₀'s token; the file; the records; κ₁'s token; the locals]: `entries_in`
         nothing ! $ calls-from ! (fmOf 𝓤 H (W .laws) 𝓣) (‵ ftrue) (v ∷ []) _ (entries-runs 𝓤 H A W mem run 𝓣 answer v (h .0) known-entries)
-        (and-then ! (load ! (from ! (stop !)) (look ! 29 refl)) (no-more !)) (λ w₁.
+        (and-then ! (load ! (from ! (stop !)) (look ! 33 refl)) (no-more !)) (λ w₁.
         use1 W (later (raw (fact 𝓤 (w₁ ≡ vint w64 n)))) (id⊢ 𝓤 _) $ await ! tt $ heard ! (w₁ ≡ vint w64 n) (λ e₁.
-        land ! (from ! (stop !)) (init ! 26 refl (subst (λ (u : Val). Holds (hasTy (tyInt w64) u) × WT u) (sym e₁) (tt, record { fits = n-fits }))) $ rewrite ! 26 (λ (u : Val). ‵ (fat fullShare (tyInt w64) l₅ 0 u)) e₁ refl $
-        -- `sort`
-        assigns ! (addr ! (from ! (fld ! refl (hop ! (look-in ! 32 (sub ! 0 refl (whole !))) (stop !))))) (from ! (stop !)) (init ! 16 refl (tt, tt)) $
-        assigns ! (agg ! (and-then ! (load ! (from ! (stop !)) (look ! 16 refl)) (and-then ! (load ! (from ! (fld ! refl (stop !))) (look-in ! 32 (sub ! 1 refl (whole !)))) (no-more !)))) (from ! (stop !)) (init ! 14 refl (tt, (tt, (record { fits = room .0 }, tt)))) $
+        land ! (from ! (stop !)) (init ! 30 refl (subst (λ (u : Val). Holds (hasTy (tyInt w64) u) × WT u) (sym e₁) (tt, record { fits = n-fits }))) $ rewrite ! 30 (λ (u : Val). ‵ (fat fullShare (tyInt w64) l₅ 0 u)) e₁ refl $
+        -- `sort`: the bytes are lent as they are, and the records to be written
+        assigns ! (addr ! (from ! (fld ! refl (hop ! (look-in ! 34 (sub ! 0 refl (whole !))) (stop !))))) (from ! (stop !)) (init ! 20 refl (tt, tt)) $
+        assigns ! (agg ! (and-then ! (load ! (from ! (stop !)) (look ! 20 refl)) (and-then ! (load ! (from ! (fld ! refl (stop !))) (look-in ! 34 (sub ! 1 refl (whole !)))) (no-more !)))) (from ! (stop !)) (init ! 18 refl (tt, (tt, (record { fits = o-room .0 }, tt)))) $
+        assigns ! (addr ! (from ! (fld ! refl (hop ! (look-in ! 36 (sub ! 0 refl (whole !))) (stop !))))) (from ! (stop !)) (init ! 16 refl (tt, tt)) $
+        assigns ! (agg ! (and-then ! (load ! (from ! (stop !)) (look ! 16 refl)) (and-then ! (load ! (from ! (fld ! refl (stop !))) (look-in ! 36 (sub ! 1 refl (whole !)))) (no-more !)))) (from ! (stop !)) (init ! 14 refl (tt, (tt, (record { fits = room .0 }, tt)))) $
         move ! (3 ∷ []) $ use1 W (‵ Dir ⊛ ‵ Dir) (shr-slice-copy 𝓤 H A W (named 0) κ₀ u8 .twice d (dv ∷ [])) $ split ! $
-        lft-new ! tt (λ ν₀. move ! (6 ∷ 7 ∷ []) $
-        use2 W (later (some (λ (δ₀ : GName). ‵ (MutSlice (named 1) (ν₀ ∷ []) R .own (x δ₀ ys) (sv (length ys) ∷ [])) ⊛ ‵ (LentAgain R κ₁ (ν₀ ∷ []) q₁ γ b o δ₀ ys)))) (lends-again R κ₁ (ν₀ ∷ []) q₁ γ b o 𝓤 H A W (named 1) (named 1) ys) $ await ! tt $ pick ! (λ δ₀. split ! $
-        move ! (7 ∷ 3 ∷ 2 ∷ 0 ∷ []) $ group ! 4 $
-        calls-from ! (fmOf 𝓤 H (W .laws) 𝓣) _ (dv ∷ vint w64 n ∷ sv (length ys) ∷ []) _ (sort-runs 𝓤 H A W mem run 𝓣 κ₀ q₀ ν₀ d n (x δ₀ ys) (sv (length ys)) n-fits (fit .within, fit .there) known-sort)
-        (and-then ! (load ! (from ! (stop !)) (look ! 33 refl)) (and-then ! (load ! (from ! (stop !)) (look ! 25 refl)) (and-then ! (load ! (from ! (stop !)) (look ! 13 refl)) (no-more !)))) (λ w₂.
-        use1 W (later (‵ (flft κ₀ q₀) ⊛ ‵ (flft (ν₀ ∷ []) fullShare) ⊛ ‵ (finally R δ₀ zs) ⊛ raw (fact 𝓤 ((w₂ ≡ vunit) × (length zs ≡ length ys))))) (id⊢ 𝓤 _) $ await ! tt $ split ! $ move ! (1 ∷ []) $ split ! $ move ! (1 ∷ []) $ split ! $ move ! (1 ∷ []) $
+        lft-new ! tt (λ ν₃. move ! (3 ∷ 4 ∷ []) $ rewrite ! 0 (λ (m : ℕ). ‵ (Bytes hs m)) (sym hlong) refl $
+        use2 W (later (some (λ (δ₃ : GName). ‵ (ShrSlice (named 1) (ν₃ ∷ []) u8 .own (x′ δ₃ hs) (ow (length hs) ∷ [])) ⊛ ‵ (LentShared u8 κ₂ (ν₃ ∷ []) q₂ γ′ b′ o′ hs)))) (lends-shared u8 κ₂ (ν₃ ∷ []) q₂ γ′ b′ o′ 𝓤 H A W (named 2) (named 1) hs) $ await ! tt $ pick ! (λ δ₃. split ! $
+        rewrite ! 0 (λ (m : ℕ). ‵ (ShrSlice (named 1) (ν₃ ∷ []) u8 .own (x′ δ₃ hs) (ow m ∷ []))) hlong refl $
+        -- [the bytes, lent; what their lender keeps; ν₃'s token; the file, twice; κ₀'s token; the records; κ₁'s token; the locals]
+        lft-new ! tt (λ ν₀. move ! (7 ∷ 8 ∷ []) $
+        use2 W (later (some (λ (δ₀ : GName). ‵ (MutSlice (named 2) (ν₀ ∷ []) R .own (x δ₀ ys) (sv (length ys) ∷ [])) ⊛ ‵ (LentAgain R κ₁ (ν₀ ∷ []) q₁ γ b o δ₀ ys)))) (lends-again R κ₁ (ν₀ ∷ []) q₁ γ b o 𝓤 H A W (named 1) (named 2) ys) $ await ! tt $ pick ! (λ δ₀. split ! $
+        move ! (8 ∷ 6 ∷ 5 ∷ 3 ∷ 2 ∷ 0 ∷ []) $ group ! 6 $
+        calls-from ! (fmOf 𝓤 H (W .laws) 𝓣) _ (dv ∷ ov ∷ vint w64 n ∷ sv (length ys) ∷ []) _ (sort-runs 𝓤 H A W mem run 𝓣 κ₀ q₀ ν₃ ν₀ d (x′ δ₃ hs) n (x δ₀ ys) ov (sv (length ys)) n-fits (fit .within, fit .there) known-sort)
+        (and-then ! (load ! (from ! (stop !)) (look ! 36 refl)) (and-then ! (load ! (from ! (stop !)) (look ! 16 refl)) (and-then ! (load ! (from ! (stop !)) (look ! 28 refl)) (and-then ! (load ! (from ! (stop !)) (look ! 12 refl)) (no-more !))))) (λ w₂.
+        use1 W (later (‵ (flft κ₀ q₀) ⊛ ‵ (flft (ν₃ ∷ []) fullShare) ⊛ ‵ (flft (ν₀ ∷ []) fullShare) ⊛ ‵ (finally R δ₀ zs) ⊛ raw (fact 𝓤 ((w₂ ≡ vunit) × (length zs ≡ length ys))))) (id⊢ 𝓤 _) $ await ! tt $ split ! $ move ! (1 ∷ []) $ split ! $ move ! (1 ∷ []) $ split ! $ move ! (1 ∷ []) $ split ! $ move ! (1 ∷ []) $
         heard ! ((w₂ ≡ vunit) × (length zs ≡ length ys)) (λ f.
-        -- [the last records; ν₀'s token; κ₀'s token; what the lender keeps; the file; the bytes; κ₂'s token; the locals]
-        land ! (from ! (stop !)) (init ! 19 refl (subst (λ (u : Val). Holds (hasTy tyUnit u) × WT u) (sym (f .0)) (tt, tt))) $
-        move ! (1 ∷ []) $ lft-end ! tt $ move ! (0 ∷ 3 ∷ 1 ∷ []) $
-        use3 W (later (‵ (Recs zs (length ys)) ⊛ ‵ (flft κ₁ q₁))) (comes-back R κ₁ (ν₀ ∷ []) q₁ γ b o 𝓤 H A W (named 1) (named 1) ys δ₀ zs room (f .1)) $ await ! tt $ split ! $
+        -- [the last records; ν₀'s token; ν₃'s token; κ₀'s token; what the records' lender keeps; and the bytes'; the file; the locals]
+        land ! (from ! (stop !)) (init ! 23 refl (subst (λ (u : Val). Holds (hasTy tyUnit u) × WT u) (sym (f .0)) (tt, tt))) $
+        move ! (1 ∷ []) $ lft-end ! tt $ move ! (0 ∷ 4 ∷ 1 ∷ []) $
+        use3 W (later (‵ (Recs zs (length ys)) ⊛ ‵ (flft κ₁ q₁))) (comes-back R κ₁ (ν₀ ∷ []) q₁ γ b o 𝓤 H A W (named 1) (named 2) ys δ₀ zs room (f .1)) $ await ! tt $ split ! $
+        move ! (2 ∷ []) $ lft-end ! tt $ move ! (0 ∷ 4 ∷ []) $
+        use2 W (later (‵ (Bytes hs (length hs)) ⊛ ‵ (flft κ₂ q₂))) (shared-back u8 κ₂ (ν₃ ∷ []) q₂ γ′ b′ o′ 𝓤 H A W (named 2) (named 1) hs (subst (Room u8) (sym hlong) o-room)) $ await ! tt $ split ! $
+        rewrite ! 0 (λ (m : ℕ). ‵ (Bytes hs m)) hlong refl $ move ! (2 ∷ 3 ∷ 4 ∷ 5 ∷ 0 ∷ 1 ∷ []) $
         -- [the records; κ₁'s token; κ₀'s token; the file; the bytes; κ₂'s token; the locals]: `write`
-        assigns ! (addr ! (from ! (fld ! refl (hop ! (look-in ! 32 (sub ! 0 refl (whole !))) (stop !))))) (from ! (stop !)) (init ! 12 refl (tt, tt)) $
-        assigns ! (agg ! (and-then ! (load ! (from ! (stop !)) (look ! 12 refl)) (and-then ! (load ! (from ! (fld ! refl (stop !))) (look-in ! 32 (sub ! 1 refl (whole !)))) (no-more !)))) (from ! (stop !)) (init ! 10 refl (tt, (tt, (record { fits = room .0 }, tt)))) $
-        assigns ! (addr ! (from ! (fld ! refl (hop ! (look-in ! 30 (sub ! 0 refl (whole !))) (stop !))))) (from ! (stop !)) (init ! 8 refl (tt, tt)) $
-        assigns ! (agg ! (and-then ! (load ! (from ! (stop !)) (look ! 8 refl)) (and-then ! (load ! (from ! (fld ! refl (stop !))) (look-in ! 30 (sub ! 1 refl (whole !)))) (no-more !)))) (from ! (stop !)) (init ! 6 refl (tt, (tt, (record { fits = o-room .0 }, tt)))) $
+        assigns ! (addr ! (from ! (fld ! refl (hop ! (look-in ! 36 (sub ! 0 refl (whole !))) (stop !))))) (from ! (stop !)) (init ! 12 refl (tt, tt)) $
+        assigns ! (agg ! (and-then ! (load ! (from ! (stop !)) (look ! 12 refl)) (and-then ! (load ! (from ! (fld ! refl (stop !))) (look-in ! 36 (sub ! 1 refl (whole !)))) (no-more !)))) (from ! (stop !)) (init ! 10 refl (tt, (tt, (record { fits = room .0 }, tt)))) $
+        assigns ! (addr ! (from ! (fld ! refl (hop ! (look-in ! 34 (sub ! 0 refl (whole !))) (stop !))))) (from ! (stop !)) (init ! 8 refl (tt, tt)) $
+        assigns ! (agg ! (and-then ! (load ! (from ! (stop !)) (look ! 8 refl)) (and-then ! (load ! (from ! (fld ! refl (stop !))) (look-in ! 34 (sub ! 1 refl (whole !)))) (no-more !)))) (from ! (stop !)) (init ! 6 refl (tt, (tt, (record { fits = o-room .0 }, tt)))) $
         lft-new ! tt (λ ν₁. move ! (1 ∷ 2 ∷ []) $ rewrite ! 0 (λ (m : ℕ). ‵ (Recs zs m)) (sym (f .1)) refl $
         use2 W (later (some (λ (δ₁ : GName). ‵ (ShrSlice (named 0) (ν₁ ∷ []) R .own (x δ₁ zs) (sv (length zs) ∷ [])) ⊛ ‵ (LentShared R κ₁ (ν₁ ∷ []) q₁ γ b o zs)))) (lends-shared R κ₁ (ν₁ ∷ []) q₁ γ b o 𝓤 H A W (named 1) (named 0) zs) $ await ! tt $ pick ! (λ δ₁. split ! $
         rewrite ! 0 (λ (m : ℕ). ‵ (ShrSlice (named 0) (ν₁ ∷ []) R .own (x δ₁ zs) (sv m ∷ []))) (f .1) refl $
@@ -318,11 +329,11 @@ module _ {M : Type 1} (𝓤 : URA M) (H : Heap 𝓤) (A : Atoms 𝓤) (W : Given
         rewrite ! 0 (λ (m : ℕ). ‵ (MutSlice (named 1) (ν₂ ∷ []) u8 .own (x′ δ₂ hs) (ow m ∷ []))) hlong refl $
         move ! (5 ∷ 3 ∷ 2 ∷ 0 ∷ []) $ group ! 4 $
         calls-from ! (fmOf 𝓤 H (W .laws) 𝓣) _ (sv (length ys) ∷ vint w64 n ∷ ov ∷ []) _ (write-runs 𝓤 H A W mem run 𝓣 ν₁ ν₂ (x δ₁ zs) n (x′ δ₂ hs) (sv (length ys)) ov n-fits (omega (arith, fit .within, f .1), omega (arith, fit .room, hlong)) known-write)
-        (and-then ! (load ! (from ! (stop !)) (look ! 9 refl)) (and-then ! (load ! (from ! (stop !)) (look ! 25 refl)) (and-then ! (load ! (from ! (stop !)) (look ! 5 refl)) (no-more !)))) (λ w₃.
+        (and-then ! (load ! (from ! (stop !)) (look ! 9 refl)) (and-then ! (load ! (from ! (stop !)) (look ! 29 refl)) (and-then ! (load ! (from ! (stop !)) (look ! 5 refl)) (no-more !)))) (λ w₃.
         use1 W (later (‵ (flft (ν₁ ∷ []) fullShare) ⊛ ‵ (flft (ν₂ ∷ []) fullShare) ⊛ ‵ (finally u8 δ₂ bs) ⊛ raw (fact 𝓤 ((w₃ ≡ vunit) × (length bs ≡ length hs))))) (id⊢ 𝓤 _) $ await ! tt $ split ! $ move ! (1 ∷ []) $ split ! $ move ! (1 ∷ []) $ split ! $ move ! (1 ∷ []) $
         heard ! ((w₃ ≡ vunit) × (length bs ≡ length hs)) (λ g.
         -- [the last bytes; ν₂'s token; ν₁'s token; what the lender of the bytes keeps; and of the records; κ₀'s token; the file; the locals]
-        land ! (from ! (stop !)) (store ! 19 refl (subst (λ (u : Val). Holds (hasTy tyUnit u) × WT u) (sym (g .0)) (tt, tt))) $
+        land ! (from ! (stop !)) (store ! 23 refl (subst (λ (u : Val). Holds (hasTy tyUnit u) × WT u) (sym (g .0)) (tt, tt))) $
         move ! (1 ∷ []) $ lft-end ! tt $ move ! (0 ∷ 3 ∷ 1 ∷ []) $
         use3 W (later (‵ (Bytes bs (length hs)) ⊛ ‵ (flft κ₂ q₂))) (comes-back u8 κ₂ (ν₂ ∷ []) q₂ γ′ b′ o′ 𝓤 H A W (named 2) (named 1) hs δ₂ bs (subst (Room u8) (sym hlong) o-room) (g .1)) $ await ! tt $ split ! $
         rewrite ! 0 (λ (m : ℕ). ‵ (Bytes bs m)) hlong refl $
@@ -330,10 +341,10 @@ module _ {M : Type 1} (𝓤 : URA M) (H : Heap 𝓤) (A : Atoms 𝓤) (W : Given
         use2 W (later (‵ (Recs zs (length zs)) ⊛ ‵ (flft κ₁ q₁))) (shared-back R κ₁ (ν₁ ∷ []) q₁ γ b o 𝓤 H A W (named 1) (named 0) zs (subst (Room R) (sym (f .1)) room)) $ await ! tt $ split ! $
         rewrite ! 0 (λ (m : ℕ). ‵ (Recs zs m)) (f .1) refl $
         -- [the records; κ₁'s token; the bytes; κ₂'s token; κ₀'s token; the file; the locals]
-        assigns ! (of-opd ! (load ! (from ! (stop !)) (look ! 28 refl))) (from ! (stop !)) (init ! 36 refl (answer-typed W answer v (h .0))) $
-        returns ! (look ! 36 refl) $ forget ! 36 refl $ forget ! 34 refl $ forget ! 32 refl $ forget ! 30 refl $ forget ! 28 refl $ forget ! 26 refl $ forget ! 24 refl $ forget ! 22 refl $ forget ! 20 refl $ forget ! 18 refl $ forget ! 16 refl $ forget ! 14 refl $ forget ! 12 refl $ forget ! 10 refl $ forget ! 8 refl $ forget ! 6 refl $
-        move ! (36 ∷ 37 ∷ []) $ free1 ! $ move ! (34 ∷ 35 ∷ []) $ free1 ! $ move ! (32 ∷ 33 ∷ []) $ free1 ! $ move ! (30 ∷ 31 ∷ []) $ free1 ! $ move ! (28 ∷ 29 ∷ []) $ free1 ! $ move ! (26 ∷ 27 ∷ []) $ free1 ! $ move ! (24 ∷ 25 ∷ []) $ free1 ! $ move ! (22 ∷ 23 ∷ []) $ free1 ! $ move ! (20 ∷ 21 ∷ []) $ free1 ! $ move ! (18 ∷ 19 ∷ []) $ free1 ! $ move ! (16 ∷ 17 ∷ []) $ free1 ! $ move ! (14 ∷ 15 ∷ []) $ free1 ! $ move ! (12 ∷ 13 ∷ []) $ free1 ! $ move ! (10 ∷ 11 ∷ []) $ free1 ! $ move ! (8 ∷ 9 ∷ []) $ free1 ! $ move ! (6 ∷ 7 ∷ []) $ free1 ! $ free0 ! $
-        by ! (exits v (h .0) (f .1) (g .1 ∙ hlong))))))))))))))))))))))))))))))))))
+        assigns ! (of-opd ! (load ! (from ! (stop !)) (look ! 32 refl))) (from ! (stop !)) (init ! 40 refl (answer-typed W answer v (h .0))) $
+        returns ! (look ! 40 refl) $ forget ! 40 refl $ forget ! 38 refl $ forget ! 36 refl $ forget ! 34 refl $ forget ! 32 refl $ forget ! 30 refl $ forget ! 28 refl $ forget ! 26 refl $ forget ! 24 refl $ forget ! 22 refl $ forget ! 20 refl $ forget ! 18 refl $ forget ! 16 refl $ forget ! 14 refl $ forget ! 12 refl $ forget ! 10 refl $ forget ! 8 refl $ forget ! 6 refl $
+        move ! (40 ∷ 41 ∷ []) $ free1 ! $ move ! (38 ∷ 39 ∷ []) $ free1 ! $ move ! (36 ∷ 37 ∷ []) $ free1 ! $ move ! (34 ∷ 35 ∷ []) $ free1 ! $ move ! (32 ∷ 33 ∷ []) $ free1 ! $ move ! (30 ∷ 31 ∷ []) $ free1 ! $ move ! (28 ∷ 29 ∷ []) $ free1 ! $ move ! (26 ∷ 27 ∷ []) $ free1 ! $ move ! (24 ∷ 25 ∷ []) $ free1 ! $ move ! (22 ∷ 23 ∷ []) $ free1 ! $ move ! (20 ∷ 21 ∷ []) $ free1 ! $ move ! (18 ∷ 19 ∷ []) $ free1 ! $ move ! (16 ∷ 17 ∷ []) $ free1 ! $ move ! (14 ∷ 15 ∷ []) $ free1 ! $ move ! (12 ∷ 13 ∷ []) $ free1 ! $ move ! (10 ∷ 11 ∷ []) $ free1 ! $ move ! (8 ∷ 9 ∷ []) $ free1 ! $ move ! (6 ∷ 7 ∷ []) $ free1 ! $ free0 ! $
+        by ! (exits v (h .0) (f .1) (g .1 ∙ hlong))))))))))))))))))))))))))))))))))))))
 
 module _ {M : Type 1} (𝓤 : URA M) (H : Heap 𝓤) (A : Atoms 𝓤) (W : Given 𝓤 H A) (mem : Memory → SProp 𝓤) (run : Routine → Fun 𝓤) (𝓣 : Tables 𝓤 H) (known-begin : Triple 𝓤 (𝓣 .C #begin) (Begin 𝓤 H A W mem run 𝓣)) (known-entries : Triple 𝓤 (𝓣 .C #entries-in) (EntriesIn 𝓤 H A W mem run 𝓣)) (known-sort : Triple 𝓤 (𝓣 .C #sort) (Sort 𝓤 H A W mem run 𝓣)) (known-write : Triple 𝓤 (𝓣 .C #write) (Write 𝓤 H A W mem run 𝓣)) where
   build-walks : Walks 𝓤 H A build.ended stayed (WpFn 𝓤 H (𝓣 .C) (𝓣 .Λ) code.function) (build.clauses 𝓤 H A mem run)
