@@ -19,6 +19,7 @@ use Rattle.refusal.specs.declared.Refusal.the-variants.{RecordBounds, Re
 use Rattle.refusal.specs.declared.Refusal.the-variants.{RenumberNodes, RenumberChild, RenumberRoot, RenumberLength, RenumberRoom}
 use Rattle.refusal.specs.declared.Refusal.the-variants.{DifferenceRoom, DifferenceGames, StreamSectors, StreamLength}
 use Rattle.refusal.specs.declared.Refusal.the-variants.{IndexHead, IndexVersion, IndexEntries, ReasonRoom, IndexRoom}
+use Rattle.refusal.specs.declared.Refusal.the-variants.{TextGrammar, TextNumber, TextField, TextBlocks, TextMissing}
 
 -- a row of the table: number, place, record
 abbrev pub row : ℕ → ℕ → ℕ → Row
@@ -80,6 +81,11 @@ rowOf IndexVersion = row 83 0 0
 rowOf IndexEntries = row 84 0 0
 rowOf ReasonRoom = row 85 0 0
 rowOf IndexRoom = row 86 0 0
+rowOf (TextGrammar byte) = row 90 0 byte
+rowOf (TextNumber byte) = row 91 0 byte
+rowOf (TextField byte) = row 92 0 byte
+rowOf (TextBlocks byte) = row 93 0 byte
+rowOf TextMissing = row 94 0 0
 
 -- the paper's number of a refusal
 abbrev pub numberOf : Refusal → ℕ
@@ -89,6 +95,6 @@ numberOf r = rowOf r .0
 abbrev pub placeOf : Refusal → ℕ
 placeOf r = rowOf r .1
 
--- its record: an entry, a record of a map's lump, a BLOCKMAP cell, a node or a picture's column
+-- its record: an entry, a record of a map's lump, a BLOCKMAP cell, a node, a picture's column or a text's byte
 abbrev pub recordOf : Refusal → ℕ
 recordOf r = rowOf r .2

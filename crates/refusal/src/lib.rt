@@ -110,6 +110,16 @@ pub enum Refusal {
     ReasonRoom,
     // 86: building an index, records or output too short
     IndexRoom,
+    // 90: a text map, a token that does not fit, at its first byte
+    TextGrammar(usize),
+    // 91: a text map, a number past its limits, at the value
+    TextNumber(usize),
+    // 92: a text map, a field without default missing, at the closing brace
+    TextField(usize),
+    // 93: a text map, more blocks of a kind than are allowed, at the block
+    TextBlocks(usize),
+    // 94: a text map, a number not below the count of its kind
+    TextMissing,
 }
 
 // What a check answers.
@@ -180,6 +190,11 @@ pub fn row_of(r: Refusal) -> Row
         Refusal::IndexEntries => Row(84, 0, 0),
         Refusal::ReasonRoom => Row(85, 0, 0),
         Refusal::IndexRoom => Row(86, 0, 0),
+        Refusal::TextGrammar(byte) => Row(90, 0, byte),
+        Refusal::TextNumber(byte) => Row(91, 0, byte),
+        Refusal::TextField(byte) => Row(92, 0, byte),
+        Refusal::TextBlocks(byte) => Row(93, 0, byte),
+        Refusal::TextMissing => Row(94, 0, 0),
     }
 }
 
