@@ -1,0 +1,3 @@
+-- Laws of digits. Assumes nothing.
+
+pub mod Digits
