@@ -1,0 +1,3 @@
+-- Laws of the names that a text map knows. Assumes nothing.
+
+pub mod Names

@@ -1,0 +1,84 @@
+-- Laws of a word among the known names: the letters of one row, and the rows of a scope. Assumes nothing.
+use Prim.Native.Nat.{ℕ, zero, suc, _+_, _-_, _*_, _≤_, _<_}
+use mathlib.Core.Bool.{Bool, true, false, not, _&&_, cond, and-false, and-true}
+use mathlib.Core.List.{List}
+use mathlib.Core.Logic.{⊎-elim}
+use mathlib.Core.Path.{_≡_, refl, sym, ap, _∙_}
+use native.Mathlib.Nat.{eq-or-lt-of-le, le-pred-of-lt}
+use native.Mathlib.Numerals.{add-one}
+use native.Mathlib.Omega.{arith}
+use lib.Dec.{eqb, ltb}
+use lib.ListN.{length}
+use Rattle.text_field.specs.Table.{table, entryAt, nameRoom, rowSize}
+use Rattle.text_field.specs.declared.Scope.{Scope}
+use Rattle.text_field.specs.declared.Scope.the-variants.{Top, Vertex, Linedef, Sidedef, Sector, Thing, Unknown}
+use Rattle.text_field.specs.Names.{every, sameAt, isName, nameIn, firstRow, rowCount}
+
+pub not-not : (b : Bool) → not (not b) ≡ b
+not-not true = refl
+not-not false = refl
+
+-- the rows of a scope stand in the table
+pub rows-inside : (scope : Scope) → firstRow scope + rowCount scope ≤ 91
+rows-inside Top = omega arith
+rows-inside Vertex = omega arith
+rows-inside Linedef = omega arith
+rows-inside Sidedef = omega arith
+rows-inside Sector = omega arith
+rows-inside Thing = omega arith
+rows-inside Unknown = omega arith
+
+pub length-table : length table ≡ 1638
+unfolding table
+length-table = refl
+
+module _ (test : ℕ → Bool) where
+  every-step : (n : ℕ) → every test (suc n) ≡ (every test n && test n)
+  unfolding every
+  every-step n = refl
+
+  pub every-none : true ≡ every test 0
+  unfolding every
+  every-none = refl
+
+  pub every-more : (k : ℕ) → true ≡ every test k → test k ≡ true → true ≡ every test (k + 1)
+  every-more k h e =
+      h ∙ sym (and-true (every test k)) ∙ ap (λ (b : Bool). every test k && b) (sym e) ∙ sym (ap (every test) (add-one k) ∙ every-step k)
+
+  pub every-stop : (k n : ℕ) → k < n → test k ≡ false → false ≡ every test n
+  every-stop k zero h e = absurd (omega arith)
+  every-stop k (suc n) h e =
+      ⊎-elim
+      (λ (q : k ≡ n). sym (and-false (every test n)) ∙ ap (λ (b : Bool). every test n && b) (sym e ∙ ap test q) ∙ sym (every-step n))
+      (λ (q : k < n). ap (λ (b : Bool). b && test n) (every-stop k n q e) ∙ sym (every-step n))
+      (eq-or-lt-of-le (le-pred-of-lt h))
+
+  pub every-done : (k n : ℕ) → true ≡ every test k → k ≤ n → n ≤ k → true ≡ every test n
+  every-done k n h low high = let e : k ≡ n = omega arith in h ∙ ap (every test) e
+
+-- a word with another letter
+pub name-other : (word : List ℕ) (exact : Bool) (i k : ℕ) → k < length word → sameAt word exact i k ≡ false → false ≡ isName word exact i
+name-other word exact i k h e =
+    let ends = ltb (length word) nameRoom && eqb (entryAt (rowSize * i + length word)) 32 in
+    sym (and-false ends) ∙ ap (λ (x : Bool). ends && x) (every-stop (sameAt word exact i) k (length word) h e)
+
+module _ (word : List ℕ) (exact : Bool) (first k end : ℕ) where
+  name-next : Bool → ℕ
+  name-next b = cond b (k + 1) (nameIn word exact first (k + 1) (end - (k + 1)))
+
+  name-step : k < end → nameIn word exact first k (end - k) ≡ name-next (isName word exact (first + k))
+  unfolding nameIn name-next
+  name-step h = let e : end - k ≡ suc (end - (k + 1)) = omega arith in ap (nameIn word exact first k) e
+
+  pub name-more : {b : Bool} → k < end → b ≡ isName word exact (first + k) → b ≡ false
+      → nameIn word exact first k (end - k) ≡ nameIn word exact first (k + 1) (end - (k + 1))
+  unfolding name-next
+  name-more h e t = name-step h ∙ ap name-next (sym e ∙ t)
+
+  pub name-stop : {b : Bool} → k < end → b ≡ isName word exact (first + k) → b ≡ true → nameIn word exact first k (end - k) ≡ k + 1
+  unfolding name-next
+  name-stop h e t = name-step h ∙ ap name-next (sym e ∙ t)
+
+  pub name-none : end ≤ k → nameIn word exact first k (end - k) ≡ 0
+  unfolding nameIn
+  name-none h = let e : end - k ≡ 0 = omega arith in ap (nameIn word exact first k) e

@@ -1,0 +1,33 @@
+-- `text_field::scope_of` meets its contract: what its calls answer. Assumes nothing.
+use borrow.Author.Needs.{needs}
+use Rattle.text_field.proofs.scope_of.Statement.{statement}
+use Rattle.text_field.proofs.scope_of.Tie as tie
+
+pick-requires : tie.Need-pick-requires
+pick-requires c κs = search needs
+
+pick-requires-2 : tie.Need-pick-requires-2
+pick-requires-2 c κs = search needs
+
+pick-requires-3 : tie.Need-pick-requires-3
+pick-requires-3 c κs = search needs
+
+pick-requires-4 : tie.Need-pick-requires-4
+pick-requires-4 c κs = search needs
+
+pick-requires-5 : tie.Need-pick-requires-5
+pick-requires-5 c κs = search needs
+
+returns : tie.Need-returns
+returns c = cc
+
+pub scope-of-spec : {M : Type 1} → statement M
+scope-of-spec =
+    tie.close
+    (tie.spec
+    pick-requires
+    pick-requires-2
+    pick-requires-3
+    pick-requires-4
+    pick-requires-5
+    returns)

@@ -1,0 +1,4 @@
+-- The names that a text map knows. Assumes nothing.
+
+pub mod Table
+pub mod Names

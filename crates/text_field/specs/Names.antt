@@ -1,0 +1,89 @@
+-- A word among the known names (02, W-206): identifiers ignore the case of letters. Assumes nothing.
+use Prim.Native.Nat.{ℕ, zero, suc, _+_, _-_, _*_}
+use mathlib.Core.Bool.{Bool, true, false, _&&_, cond}
+use mathlib.Core.List.{List}
+use lib.Dec.{eqb, ltb}
+use lib.ListN.{length, getD}
+use Rattle.text_token.specs.Bytes.{lowerAt}
+use Rattle.text_field.specs.declared.Scope.{Scope}
+use Rattle.text_field.specs.declared.Scope.the-variants.{Top, Vertex, Linedef, Sidedef, Sector, Thing, Unknown}
+use Rattle.text_field.specs.Table.{entryAt, nameRoom, rowSize}
+
+-- the test holds of 0 to `n - 1`
+unfoldable pub every : (ℕ → Bool) → ℕ → Bool
+every test zero = true
+every test (suc n) = every test n && test n
+
+-- byte `k` of a word, small unless it is compared as it stands
+abbrev pub letterAt : List ℕ → Bool → ℕ → ℕ
+letterAt word exact k = cond exact (getD word k 0) (lowerAt word k)
+
+-- byte `k` of the word is that of row `i`
+abbrev pub sameAt : List ℕ → Bool → ℕ → ℕ → Bool
+sameAt word exact i k = eqb (letterAt word exact k) (entryAt (rowSize * i + k))
+
+-- the word is the name of row `i`, which a space ends
+abbrev pub isName : List ℕ → Bool → ℕ → Bool
+isName word exact i =
+    (ltb (length word) nameRoom && eqb (entryAt (rowSize * i + length word)) 32) && every (sameAt word exact i) (length word)
+
+-- which of the rows from `first` on has the word as its name, counted from 1, where `k` rows were passed and `n` are left; 0 for none
+unfoldable pub nameIn : List ℕ → Bool → ℕ → ℕ → ℕ → ℕ
+nameIn word exact first k zero = 0
+nameIn word exact first k (suc n) = cond (isName word exact (first + k)) (k + 1) (nameIn word exact first (k + 1) n)
+
+-- the rows of the kinds of block, and of the namespaces whose linedefs have id 0 by default
+abbrev pub kindRows : ℕ
+kindRows = 5
+
+abbrev pub namespaceRow : ℕ
+namespaceRow = 88
+
+abbrev pub namespaceRows : ℕ
+namespaceRows = 3
+
+-- the first row of a scope's names, and how many it has: at the top the global name, in a block the fields of its kind
+abbrev pub firstRow : Scope → ℕ
+firstRow Top = 5
+firstRow Vertex = 6
+firstRow Linedef = 8
+firstRow Sidedef = 42
+firstRow Sector = 49
+firstRow Thing = 57
+firstRow Unknown = 88
+
+abbrev pub rowCount : Scope → ℕ
+rowCount Top = 1
+rowCount Vertex = 2
+rowCount Linedef = 34
+rowCount Sidedef = 7
+rowCount Sector = 8
+rowCount Thing = 31
+rowCount Unknown = 0
+
+-- which name of a scope the word is, counted from 1; 0 for an unknown one
+abbrev pub fieldNamed : Scope → List ℕ → ℕ
+fieldNamed scope word = nameIn word false (firstRow scope) 0 (rowCount scope)
+
+-- a kind's number: 1 to 5, 0 for the top and 6 for a block of another name
+abbrev pub scopeNumber : Scope → ℕ
+scopeNumber Top = 0
+scopeNumber Vertex = 1
+scopeNumber Linedef = 2
+scopeNumber Sidedef = 3
+scopeNumber Sector = 4
+scopeNumber Thing = 5
+scopeNumber Unknown = 6
+
+-- the kind of a number
+abbrev pub scopeOf : ℕ → Scope
+scopeOf n =
+    cond (eqb n 1) Vertex (cond (eqb n 2) Linedef (cond (eqb n 3) Sidedef (cond (eqb n 4) Sector (cond (eqb n 5) Thing Unknown))))
+
+-- the kind of block that a word names
+abbrev pub kindNamed : List ℕ → Scope
+kindNamed word = scopeOf (nameIn word false 0 0 kindRows)
+
+-- the namespace's bytes, case and all, are one of those whose linedefs have id 0 by default
+abbrev pub zeroIds : List ℕ → Bool
+zeroIds namespace = ltb 0 (nameIn namespace true namespaceRow 0 namespaceRows)

@@ -1,0 +1,194 @@
+-- The names of a text map (02, W-206; document 002, "Standardized Fields" and its last note): the kinds of block, the global name, and the
+-- fields of each kind in the document's order, each with what it holds and what it is where no value is given. Assumes nothing.
+use Prim.Native.Nat.{ℕ, _+_, _-_, _*_}
+use Prim.Native.Char.{Char, code}
+use Prim.Native.String.{String, [] as []ˢ, _∷_ as _∷ˢ_}
+use mathlib.Core.Bool.{Bool}
+use mathlib.Core.List.{List, [], _∷_, _++_}
+use lib.Dec.{eqb}
+use lib.IntN.{ℤ, pos, negsuc}
+use lib.ListN.{length, getD, take, replicate}
+
+-- the bytes of a text of ASCII
+abbrev pub bytes : String → List ℕ
+bytes []ˢ = []
+bytes (c ∷ˢ s) = code c ∷ bytes s
+
+-- what a field holds, as the letter of its row: w, d, s, f; a row that is no field has b, the name of a kind of block, or e, a name that
+-- is compared byte for byte
+abbrev pub whole : ℕ
+whole = 119
+
+abbrev pub decimal : ℕ
+decimal = 100
+
+abbrev pub string : ℕ
+string = 115
+
+abbrev pub flag : ℕ
+flag = 102
+
+abbrev pub blockName : ℕ
+blockName = 98
+
+abbrev pub exactName : ℕ
+exactName = 101
+
+-- what a field is where no value is given, as the letter of its row: ! for one that has no default; 0 for 0, false and no string; m for -1;
+-- l for 160; n for 0 or -1 by the namespace; and a space where the row is no field
+abbrev pub required : ℕ
+required = 33
+
+abbrev pub zeroValue : ℕ
+zeroValue = 48
+
+abbrev pub minusOne : ℕ
+minusOne = 109
+
+abbrev pub light : ℕ
+light = 108
+
+abbrev pub byNamespace : ℕ
+byNamespace = 110
+
+abbrev pub none : ℕ
+none = 32
+
+-- a name's room in a row, and the row's bytes
+abbrev pub nameRoom : ℕ
+nameRoom = 16
+
+abbrev pub rowSize : ℕ
+rowSize = 18
+
+-- a row: the name, spaces behind it up to its room, and the two letters
+abbrev pub row : String → ℕ → ℕ → List ℕ
+row name holds default = take nameRoom (bytes name ++ replicate nameRoom 32) ++ holds ∷ default ∷ []
+
+abbrev pub rows : List (List ℕ)
+rows =
+    -- the kinds of block
+    row "vertex" blockName none
+    ∷ row "linedef" blockName none
+    ∷ row "sidedef" blockName none
+    ∷ row "sector" blockName none
+    ∷ row "thing" blockName none
+    -- the one global name
+    ∷ row "namespace" string zeroValue
+    -- vertex
+    ∷ row "x" decimal required
+    ∷ row "y" decimal required
+    -- linedef
+    ∷ row "id" whole byNamespace
+    ∷ row "v1" whole required
+    ∷ row "v2" whole required
+    ∷ row "blocking" flag zeroValue
+    ∷ row "blockmonsters" flag zeroValue
+    ∷ row "twosided" flag zeroValue
+    ∷ row "dontpegtop" flag zeroValue
+    ∷ row "dontpegbottom" flag zeroValue
+    ∷ row "secret" flag zeroValue
+    ∷ row "blocksound" flag zeroValue
+    ∷ row "dontdraw" flag zeroValue
+    ∷ row "mapped" flag zeroValue
+    ∷ row "passuse" flag zeroValue
+    ∷ row "translucent" flag zeroValue
+    ∷ row "jumpover" flag zeroValue
+    ∷ row "blockfloaters" flag zeroValue
+    ∷ row "playercross" flag zeroValue
+    ∷ row "playeruse" flag zeroValue
+    ∷ row "monstercross" flag zeroValue
+    ∷ row "monsteruse" flag zeroValue
+    ∷ row "impact" flag zeroValue
+    ∷ row "playerpush" flag zeroValue
+    ∷ row "monsterpush" flag zeroValue
+    ∷ row "missilecross" flag zeroValue
+    ∷ row "repeatspecial" flag zeroValue
+    ∷ row "special" whole zeroValue
+    ∷ row "arg0" whole zeroValue
+    ∷ row "arg1" whole zeroValue
+    ∷ row "arg2" whole zeroValue
+    ∷ row "arg3" whole zeroValue
+    ∷ row "arg4" whole zeroValue
+    ∷ row "sidefront" whole required
+    ∷ row "sideback" whole minusOne
+    ∷ row "comment" string zeroValue
+    -- sidedef
+    ∷ row "offsetx" whole zeroValue
+    ∷ row "offsety" whole zeroValue
+    ∷ row "texturetop" string zeroValue
+    ∷ row "texturebottom" string zeroValue
+    ∷ row "texturemiddle" string zeroValue
+    ∷ row "sector" whole required
+    ∷ row "comment" string zeroValue
+    -- sector
+    ∷ row "heightfloor" whole zeroValue
+    ∷ row "heightceiling" whole zeroValue
+    ∷ row "texturefloor" string required
+    ∷ row "textureceiling" string required
+    ∷ row "lightlevel" whole light
+    ∷ row "special" whole zeroValue
+    ∷ row "id" whole zeroValue
+    ∷ row "comment" string zeroValue
+    -- thing
+    ∷ row "id" whole zeroValue
+    ∷ row "x" decimal required
+    ∷ row "y" decimal required
+    ∷ row "height" decimal zeroValue
+    ∷ row "angle" whole zeroValue
+    ∷ row "type" whole required
+    ∷ row "skill1" flag zeroValue
+    ∷ row "skill2" flag zeroValue
+    ∷ row "skill3" flag zeroValue
+    ∷ row "skill4" flag zeroValue
+    ∷ row "skill5" flag zeroValue
+    ∷ row "ambush" flag zeroValue
+    ∷ row "single" flag zeroValue
+    ∷ row "dm" flag zeroValue
+    ∷ row "coop" flag zeroValue
+    ∷ row "friend" flag zeroValue
+    ∷ row "dormant" flag zeroValue
+    ∷ row "class1" flag zeroValue
+    ∷ row "class2" flag zeroValue
+    ∷ row "class3" flag zeroValue
+    ∷ row "standing" flag zeroValue
+    ∷ row "strifeally" flag zeroValue
+    ∷ row "translucent" flag zeroValue
+    ∷ row "invisible" flag zeroValue
+    ∷ row "special" whole zeroValue
+    ∷ row "arg0" whole zeroValue
+    ∷ row "arg1" whole zeroValue
+    ∷ row "arg2" whole zeroValue
+    ∷ row "arg3" whole zeroValue
+    ∷ row "arg4" whole zeroValue
+    ∷ row "comment" string zeroValue
+    -- the namespaces whose linedefs have id 0 by default
+    ∷ row "Doom" exactName none
+    ∷ row "Heretic" exactName none
+    ∷ row "Strife" exactName none
+    ∷ []
+
+-- the bytes of several rows
+abbrev pub joined : List (List ℕ) → List ℕ
+joined [] = []
+joined (xs ∷ ls) = xs ++ joined ls
+
+-- the table
+unfoldable pub table : List ℕ
+table = joined rows
+
+-- byte `i` of the table, 0 past its end
+abbrev pub entryAt : ℕ → ℕ
+entryAt i = getD table i 0
+
+-- what the field of row `i` holds
+abbrev pub holdsOf : ℕ → ℕ
+holdsOf i = entryAt (rowSize * i + 16)
+
+-- what it is by default
+abbrev pub defaultOf : ℕ → ℕ
+defaultOf i = entryAt (rowSize * i + 17)
+
+-- the field of row `i` has no default
+abbrev pub isRequired : ℕ → Bool
+isRequired i = eqb (defaultOf i) required
