@@ -1,0 +1,3 @@
+-- Laws of the records of a text map. Assumes nothing.
+
+pub mod Whole

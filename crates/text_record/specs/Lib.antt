@@ -1,0 +1,4 @@
+-- The records of a text map. Assumes nothing.
+
+pub mod Fields
+pub mod Records
