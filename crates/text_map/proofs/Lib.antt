@@ -1,0 +1,4 @@
+-- Laws of the answers of a text map. Assumes nothing.
+
+pub mod ScopeNumbers
+pub mod Zeros

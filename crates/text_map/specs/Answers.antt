@@ -1,0 +1,100 @@
+-- What a text map answers (02, W-206): its namespace and counts; and the fields of a block, by its kind and number or from a place on.
+-- Assumes nothing.
+use Prim.Native.Nat.{ℕ}
+use mathlib.Core.Bool.{Bool, cond}
+use mathlib.Core.List.{List}
+use lib.IntN.{ℤ, pos, negsuc}
+use Rattle.refusal.specs.declared.Refusal.{Refusal}
+use Rattle.refusal.specs.declared.Refusal.the-variants.{TextMissing}
+use Rattle.refusal.specs.declared.Check.{Check}
+use Rattle.refusal.specs.declared.Check.the-variants.{Pass, Refused}
+use Rattle.refusal.specs.Checks.{unless, _andThen_}
+use Rattle.text_token.specs.Tokens.{bytesOf}
+use Rattle.text_field.specs.declared.Scope.{Scope}
+use Rattle.text_field.specs.Names.{zeroIds, firstRow, scopeNumber}
+use Rattle.text_reader.specs.declared.Asked.{Asked}
+use Rattle.text_reader.specs.declared.Asked.the-variants.{Nothing, Numbered, First, FirstOfAny}
+use Rattle.text_reader.specs.declared.Notes.{Notes}
+use Rattle.text_reader.specs.declared.Parse.{Parse}
+use Rattle.text_reader.specs.Blocks.{noPlaces}
+use Rattle.text_reader.specs.Texts.{Stand, textFrom}
+use Rattle.text_record.specs.declared.Places.{Places}
+use Rattle.text_record.specs.Fields.{valueAt, between, stringOr}
+use Rattle.text_map.specs.declared.TextSummary.{TextSummary}
+use Rattle.text_map.specs.declared.TextAnswer.{TextAnswer}
+use Rattle.text_map.specs.declared.TextAnswer.the-variants.{Summary, Refused as NoSummary}
+use Rattle.text_map.specs.declared.TextBlock.{TextBlock}
+use Rattle.text_map.specs.declared.BlockAnswer.{BlockAnswer}
+use Rattle.text_map.specs.declared.BlockAnswer.the-variants.{Block, Refused as NoBlock}
+use Rattle.text_map.specs.declared.BlockFields.{BlockFields}
+
+-- the places of the last namespace's string, both 0 where the text has none
+abbrev pub namespaceOf : List ℕ → Parse → Places
+namespaceOf text s = stringOr (valueAt text (s .notes .namespace))
+
+-- the summary of a text that was read to its end
+abbrev pub summaryBy : List ℕ → Parse → Check → TextAnswer
+summaryBy text s Pass = Summary (record { namespace = namespaceOf text s; counts = s .notes .counts })
+summaryBy text s (Refused r) = NoSummary r
+
+-- 90 to 93 of the whole text, or its namespace and how many blocks of each kind it has
+abbrev pub textAnswer : List ℕ → TextAnswer
+textAnswer text = let s = textFrom text Nothing 0 .parse in summaryBy text s (s .check)
+
+-- 90 to 93 of what was read, then 94 where the block that is asked for did not come
+abbrev pub blockCheck : Parse → Check
+blockCheck s = s .check andThen unless (s .notes .found) TextMissing
+
+-- a block's kind as its number, the place of its name, and the place behind it
+abbrev pub blockBy : Notes → Check → BlockAnswer
+blockBy n Pass = Block (record { kind = scopeNumber (n .kind); start = n .block; next = n .next })
+blockBy n (Refused r) = NoBlock r
+
+-- the block that is asked for
+abbrev pub blockAnswer : Stand → BlockAnswer
+blockAnswer s = blockBy (s .parse .notes) (blockCheck (s .parse))
+
+-- the row behind the table's last: from there on every default is 0
+abbrev pub noRow : ℕ
+noRow = 91
+
+-- what a block's record is read from: the check; the place behind the block; the namespace of what was read; the first row of the block's
+-- kind; and of each field the place of its last value. Where it is refused the record that is read from it is all 0
+abbrev pub fieldsBy : List ℕ → Parse → List ℕ → Check → BlockFields
+fieldsBy text s kept Pass = record {
+  check = Pass;
+  next = s .notes .next;
+  namespace = namespaceOf text s;
+  first = firstRow (s .notes .kind);
+  places = kept;
+}
+fieldsBy text s kept (Refused r) = record {
+  check = Refused r;
+  next = 0;
+  namespace = between 0 0;
+  first = noRow;
+  places = noPlaces;
+}
+
+abbrev pub blockFields : List ℕ → Stand → BlockFields
+blockFields text s = fieldsBy text (s .parse) (s .kept) (blockCheck (s .parse))
+
+-- block `number` of a kind, after the whole text was judged
+abbrev pub numbered : List ℕ → Scope → ℕ → Stand
+numbered text kind number = textFrom text (Numbered kind number) 0
+
+-- the first block of a kind among the statements from a place on, as if the text began there
+abbrev pub firstFrom : List ℕ → Scope → ℕ → Stand
+firstFrom text kind place = textFrom text (First kind) place
+
+-- the first block of any known kind among them
+abbrev pub nextFrom : List ℕ → ℕ → Stand
+nextFrom text place = textFrom text FirstOfAny place
+
+-- a linedef's id by default: 0 in the namespaces Doom, Heretic and Strife, else -1
+abbrev pub idBy : List ℕ → ℤ
+idBy namespace = cond (zeroIds namespace) (pos 0) (negsuc 0)
+
+-- by the namespace between two places of a text, as a summary and a block's fields give them
+abbrev pub idOf : List ℕ → Places → ℤ
+idOf text at = idBy (bytesOf text (at .start) (at .end))

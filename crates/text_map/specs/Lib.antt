@@ -1,0 +1,3 @@
+-- What a text map answers. Assumes nothing.
+
+pub mod Answers

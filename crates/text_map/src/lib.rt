@@ -1,0 +1,189 @@
+// What a text map answers (W-206): its namespace and counts; and a block, by its kind and number or from a place on. The definitions are in
+// specs/.
+ghost use mathlib.Core.Path.{_≡_};
+ghost use Prim.Native.Nat.{_≤_};
+ghost use Rattle.text_field.specs.Names.{scopeNumber};
+ghost use Rattle.text_field.specs.Table.{table};
+ghost use Rattle.text_token.specs.Tokens.{bytesOf};
+ghost use Rattle.text_map.specs.Answers.{namespaceOf, summaryBy, textAnswer, blockCheck, blockBy, blockAnswer};
+ghost use Rattle.text_map.specs.Answers.{fieldsBy, blockFields, numbered, firstFrom, nextFrom, idBy, idOf};
+use refusal::Check;
+use refusal::Refusal;
+use text_field::Scope;
+use text_reader::Asked;
+use text_reader::Counts;
+use text_reader::Parse;
+use text_record::Places;
+
+// The namespace's string, and how many blocks of each kind there are.
+pub struct TextSummary {
+    pub namespace: Places,
+    pub counts: Counts,
+}
+
+pub enum TextAnswer {
+    Summary(TextSummary),
+    Refused(Refusal),
+}
+
+// A block: its kind, 1 to 5, the place of its name, and the place behind it.
+pub struct TextBlock {
+    pub kind: u32,
+    pub start: usize,
+    pub next: usize,
+}
+
+pub enum BlockAnswer {
+    Block(TextBlock),
+    Refused(Refusal),
+}
+
+// What a block's record is read from: the place behind the block, the namespace of what was read, the first row of its kind, and of each
+// field the place of its last value. Where it is refused the record that is read from it is all 0.
+pub struct BlockFields {
+    pub check: Check,
+    pub next: usize,
+    pub namespace: Places,
+    pub first: usize,
+    pub places: [usize; 34],
+}
+
+// The whole text judged: 90 to 93, or its namespace and counts.
+pub fn judge_text(text: &[u8]) -> TextAnswer
+    ensures { λ r. ⌜ r ≡ textAnswer (now (text .entry)) ⌝ }
+{
+    let o = text_reader::read(text, Asked::Nothing, 0);
+    let s = o.parse;
+    summary_by(text, s)
+}
+
+fn summary_by(text: &[u8], s: Parse) -> TextAnswer
+    ensures { λ r. ⌜ r ≡ summaryBy (now (text .entry)) s (s .check) ⌝ }
+{
+    let check = s.check;
+    let notes = s.notes;
+    let counts = notes.counts;
+    match check {
+        Check::Pass => TextAnswer::Summary(TextSummary {
+            namespace: namespace_of(text, s),
+            counts,
+        }),
+        Check::Refused(r) => TextAnswer::Refused(r),
+    }
+}
+
+fn namespace_of(text: &[u8], s: Parse) -> Places
+    ensures { λ r. ⌜ r ≡ namespaceOf (now (text .entry)) s ⌝ }
+{
+    text_record::string_at(text, s.notes.namespace)
+}
+
+// 94 comes last.
+fn block_check(s: Parse) -> Check
+    ensures { λ r. ⌜ r ≡ blockCheck s ⌝ }
+{
+    let check = s.check;
+    refusal::then(check, refusal::pass_if(s.notes.found, Refusal::TextMissing))
+}
+
+// The first block of a known kind among the statements from a place on.
+pub fn next_block(text: &[u8], place: usize) -> BlockAnswer
+    ensures { λ r. ⌜ r ≡ blockAnswer (nextFrom (now (text .entry)) place) ⌝ }
+{
+    let o = text_reader::read(text, Asked::FirstOfAny, place);
+    let s = o.parse;
+    block_by(s)
+}
+
+fn block_by(s: Parse) -> BlockAnswer
+    ensures { λ r. ⌜ r ≡ blockBy (s .notes) (blockCheck s) ⌝ }
+{
+    let notes = s.notes;
+    let kind = notes.kind;
+    match block_check(s) {
+        Check::Pass => BlockAnswer::Block(TextBlock {
+            kind: kind_of(kind),
+            start: notes.block,
+            next: notes.next,
+        }),
+        Check::Refused(r) => BlockAnswer::Refused(r),
+    }
+}
+
+fn kind_of(kind: Scope) -> u32
+    ensures { λ r. ⌜ r ≡ scopeNumber kind ⌝ }
+{
+    text_field::scope_number(kind) as u32
+}
+
+// What the record of block `number` of a kind is read from, after the whole text was judged.
+pub fn fields_numbered(text: &[u8], kind: Scope, number: usize) -> BlockFields
+    ensures { λ r. ⌜ r ≡ blockFields (now (text .entry)) (numbered (now (text .entry)) kind number) ⌝ }
+    ensures { λ r. ⌜ r .first ≤ 91 ⌝ }
+{
+    let o = text_reader::read(text, Asked::Numbered(kind, number), 0);
+    let s = o.parse;
+    let kept = o.kept;
+    fields_by(text, s, kept)
+}
+
+// What the record of the first block of a kind among the statements from a place on is read from.
+pub fn fields_from(text: &[u8], kind: Scope, place: usize) -> BlockFields
+    ensures { λ r. ⌜ r ≡ blockFields (now (text .entry)) (firstFrom (now (text .entry)) kind place) ⌝ }
+    ensures { λ r. ⌜ r .first ≤ 91 ⌝ }
+{
+    let o = text_reader::read(text, Asked::First(kind), place);
+    let s = o.parse;
+    let kept = o.kept;
+    fields_by(text, s, kept)
+}
+
+fn fields_by(text: &[u8], s: Parse, kept: [usize; 34]) -> BlockFields
+    ensures { λ r. ⌜ r ≡ fieldsBy (now (text .entry)) s kept (blockCheck s) ⌝ }
+    ensures { λ r. ⌜ r .first ≤ 91 ⌝ }
+{
+    let notes = s.notes;
+    let kind = notes.kind;
+    match block_check(s) {
+        Check::Pass => BlockFields {
+            check: Check::Pass,
+            next: notes.next,
+            namespace: namespace_of(text, s),
+            first: text_field::first_row(kind),
+            places: kept,
+        },
+        Check::Refused(r) => BlockFields {
+            check: Check::Refused(r),
+            next: 0,
+            namespace: Places { start: 0, end: 0 },
+            first: text_field::ROWS,
+            places: [0; 34],
+        },
+    }
+}
+
+// A linedef's id by default, by the namespace of a summary or of a block's fields.
+pub fn id_of(text: &[u8], namespace: Places) -> i32
+    ensures { λ r. ⌜ r ≡ idOf (now (text .entry)) namespace ⌝ }
+{
+    id_by(text, namespace.start, namespace.end)
+}
+
+// The same for any two places: of bytes past the text's end there are none.
+pub fn id_by(text: &[u8], start: usize, end: usize) -> i32
+    ensures { λ r. ⌜ r ≡ idBy (bytesOf (now (text .entry)) start end) ⌝ }
+{
+    let rows = text_field::rows();
+    id_in(&rows, text_token::bytes_of(text, start, end))
+}
+
+fn id_in(rows: &[u8], namespace: &[u8]) -> i32
+    requires { ⌜ now rows ≡ table ⌝ }
+    ensures { λ r. ⌜ r ≡ idBy (now (namespace .entry)) ⌝ }
+{
+    if text_field::zero_ids(rows, namespace) {
+        0
+    } else {
+        -1
+    }
+}
