@@ -1,0 +1,5 @@
+-- What does not change a text map's answers. Assumes nothing.
+
+pub mod Tokens
+pub mod Answers
+pub mod Promises
