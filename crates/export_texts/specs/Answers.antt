@@ -1,0 +1,112 @@
+-- Answers on a text map: its summary, the next block, and a block's record by its number or from a place on (W-206). Where one is refused all
+-- its other fields are 0. Assumes nothing.
+use Prim.Native.Nat.{ℕ}
+use mathlib.Core.List.{List}
+use mathlib.Core.Path.{_≡_}
+use lib.IntN.{ℤ}
+use Rattle.text_token.specs.Tokens.{bytesOf}
+use Rattle.text_field.specs.declared.Scope.{Scope}
+use Rattle.text_field.specs.declared.Scope.the-variants.{Vertex, Linedef, Sidedef, Sector, Thing}
+use Rattle.text_reader.specs.declared.Counts.{Counts}
+use Rattle.text_record.specs.Records.{vertexOf, linedefOf, sidedefOf, sectorOf, thingOf}
+use Rattle.text_map.specs.declared.TextSummary.{TextSummary}
+use Rattle.text_map.specs.declared.TextAnswer.{TextAnswer}
+use Rattle.text_map.specs.declared.TextAnswer.the-variants.{Summary, Refused as NoSummary}
+use Rattle.text_map.specs.declared.TextBlock.{TextBlock}
+use Rattle.text_map.specs.declared.BlockAnswer.{BlockAnswer}
+use Rattle.text_map.specs.declared.BlockAnswer.the-variants.{Block, Refused as NoBlock}
+use Rattle.text_map.specs.declared.BlockFields.{BlockFields}
+use Rattle.text_map.specs.Answers.{textAnswer, blockAnswer, nextFrom, blockFields, numbered, firstFrom, idBy, idOf}
+use Rattle.status.specs.declared.Status.{Status}
+use Rattle.status.specs.Status.{accepted, refused, statusOf}
+use Rattle.export_texts.specs.declared.TextMapAnswer.{TextMapAnswer}
+use Rattle.export_texts.specs.declared.TextBlockAnswer.{TextBlockAnswer}
+use Rattle.export_texts.specs.declared.records.TextVertexAnswer.{TextVertexAnswer}
+use Rattle.export_texts.specs.declared.records.TextLinedefAnswer.{TextLinedefAnswer}
+use Rattle.export_texts.specs.declared.records.TextSidedefAnswer.{TextSidedefAnswer}
+use Rattle.export_texts.specs.declared.records.TextSectorAnswer.{TextSectorAnswer}
+use Rattle.export_texts.specs.declared.records.TextThingAnswer.{TextThingAnswer}
+
+-- the namespace's places and the counts
+abbrev pub summaryOut : TextAnswer → TextMapAnswer
+summaryOut (Summary s) = record {
+  status = accepted;
+  «namespace_start» = s .namespace .start;
+  «namespace_end» = s .namespace .end;
+  vertices = s .counts .vertices;
+  linedefs = s .counts .linedefs;
+  sidedefs = s .counts .sidedefs;
+  sectors = s .counts .sectors;
+  things = s .counts .things;
+}
+summaryOut (NoSummary r) = record {
+  status = refused r;
+  «namespace_start» = 0;
+  «namespace_end» = 0;
+  vertices = 0;
+  linedefs = 0;
+  sidedefs = 0;
+  sectors = 0;
+  things = 0;
+}
+
+abbrev pub TextJudged : List ℕ → TextMapAnswer → Type 0
+TextJudged text answer = answer ≡ summaryOut (textAnswer text)
+
+-- a block's kind, the place of its name and the place behind it
+abbrev pub blockOut : BlockAnswer → TextBlockAnswer
+blockOut (Block b) = record { status = accepted; kind = b .kind; start = b .start; next = b .next }
+blockOut (NoBlock r) = record { status = refused r; kind = 0; start = 0; next = 0 }
+
+-- the first block of a known kind from a place on
+abbrev pub BlockFound : List ℕ → ℕ → TextBlockAnswer → Type 0
+BlockFound text place answer = answer ≡ blockOut (blockAnswer (nextFrom text place))
+
+-- the record of a block, and the place behind it
+abbrev pub vertexOut : List ℕ → BlockFields → TextVertexAnswer
+vertexOut text f = record { status = statusOf (f .check); vertex = vertexOf text (f .places); next = f .next }
+
+-- of a linedef with its id's default
+abbrev pub linedefOut : List ℕ → ℤ → BlockFields → TextLinedefAnswer
+linedefOut text id f = record { status = statusOf (f .check); linedef = linedefOf text (f .places) (f .first) id; next = f .next }
+
+abbrev pub sidedefOut : List ℕ → BlockFields → TextSidedefAnswer
+sidedefOut text f = record { status = statusOf (f .check); sidedef = sidedefOf text (f .places) (f .first); next = f .next }
+
+abbrev pub sectorOut : List ℕ → BlockFields → TextSectorAnswer
+sectorOut text f = record { status = statusOf (f .check); sector = sectorOf text (f .places) (f .first); next = f .next }
+
+abbrev pub thingOut : List ℕ → BlockFields → TextThingAnswer
+thingOut text f = record { status = statusOf (f .check); thing = thingOf text (f .places) (f .first); next = f .next }
+
+-- block `number` of each kind, after the whole text was judged; a linedef's id is by the text's namespace
+abbrev pub VertexNumbered : List ℕ → ℕ → TextVertexAnswer → Type 0
+VertexNumbered text number answer = answer ≡ vertexOut text (blockFields text (numbered text Vertex number))
+
+abbrev pub LinedefNumbered : List ℕ → ℕ → TextLinedefAnswer → Type 0
+LinedefNumbered text number answer = let f = blockFields text (numbered text Linedef number) in answer ≡ linedefOut text (idOf text (f .namespace)) f
+
+abbrev pub SidedefNumbered : List ℕ → ℕ → TextSidedefAnswer → Type 0
+SidedefNumbered text number answer = answer ≡ sidedefOut text (blockFields text (numbered text Sidedef number))
+
+abbrev pub SectorNumbered : List ℕ → ℕ → TextSectorAnswer → Type 0
+SectorNumbered text number answer = answer ≡ sectorOut text (blockFields text (numbered text Sector number))
+
+abbrev pub ThingNumbered : List ℕ → ℕ → TextThingAnswer → Type 0
+ThingNumbered text number answer = answer ≡ thingOut text (blockFields text (numbered text Thing number))
+
+-- the first block of each kind among the statements from a place on; a linedef's id is by the namespace that is named by its places
+abbrev pub VertexFrom : List ℕ → ℕ → TextVertexAnswer → Type 0
+VertexFrom text place answer = answer ≡ vertexOut text (blockFields text (firstFrom text Vertex place))
+
+abbrev pub LinedefFrom : List ℕ → ℕ → ℕ → ℕ → TextLinedefAnswer → Type 0
+LinedefFrom text place start end answer = answer ≡ linedefOut text (idBy (bytesOf text start end)) (blockFields text (firstFrom text Linedef place))
+
+abbrev pub SidedefFrom : List ℕ → ℕ → TextSidedefAnswer → Type 0
+SidedefFrom text place answer = answer ≡ sidedefOut text (blockFields text (firstFrom text Sidedef place))
+
+abbrev pub SectorFrom : List ℕ → ℕ → TextSectorAnswer → Type 0
+SectorFrom text place answer = answer ≡ sectorOut text (blockFields text (firstFrom text Sector place))
+
+abbrev pub ThingFrom : List ℕ → ℕ → TextThingAnswer → Type 0
+ThingFrom text place answer = answer ≡ thingOut text (blockFields text (firstFrom text Thing place))
