@@ -1,7 +1,7 @@
 //! An independent reader of Doom map files.
 //!
-//! Written from paper 01 ("Specification of the build and its rules"), the requests of paper 02 and
-//! document 004 (field layouts) alone, in plain safe Rust, to be held against the proved library. Every
+//! Written from paper 01 ("Specification of the build and its rules"), the requests of paper 02, and
+//! documents 002 (text maps) and 004 (field layouts) alone, in plain safe Rust, to be held against the proved library. Every
 //! function answers the papers' refusal number, place and record; where the papers leave an order
 //! open, the list "Readings taken" of the design decides.
 //!
@@ -32,6 +32,10 @@ mod reference;
 mod refusal;
 mod renumber;
 mod sidedefs;
+mod text;
+mod text_record;
+mod text_token;
+mod text_value;
 mod wad;
 mod why;
 mod why_blockmap;
@@ -49,6 +53,10 @@ pub use record::{Node, Sector, Seg, Sidedef, Subsector, Vertex};
 pub use refusal::Refusal;
 pub use renumber::renumber;
 pub use sidedefs::{judge_sidedefs, Sidedefs};
+pub use text::{text_block, text_linedef, text_linedef_at, text_map, text_sector, text_sector_at, text_sidedef, text_sidedef_at};
+pub use text::{text_thing, text_thing_at, text_vertex, text_vertex_at, TextBlock, TextMap};
+pub use text_record::{TextLinedef, TextSector, TextSidedef, TextThing, TextVertex};
+pub use text_token::Quoted;
 pub use wad::{directory, entry, find_map, is_map_name, is_name, lump, name_of, Directory, Search};
 pub use why::why;
 

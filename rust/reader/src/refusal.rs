@@ -3,11 +3,11 @@
 /// A refusal of paper 01. Parts that its table does not name are 0.
 #[derive(Clone, Copy, Debug, PartialEq, Eq)]
 pub struct Refusal {
-    /// The number in the table of refusals, 1 to 86.
+    /// The number in the table of refusals, 1 to 94.
     pub number: u32,
     /// The map lump concerned, 0 (the marker) to 10 (BLOCKMAP).
     pub place: usize,
-    /// The entry, record, cell, node or column concerned.
+    /// The entry, record, cell, node or column concerned; of a text map the byte.
     pub record: usize,
 }
 
