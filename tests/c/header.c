@@ -1404,6 +1404,394 @@ static void records(void)
     try_sector();
 }
 
+/* ---- text maps ----
+ * Each field of each kind is seen with values of its own: numbers by its place among the fields, strings by their places in the text, and flags in
+ * six rounds, true where the round's bit of that place is set. */
+
+static char text[8192];
+static size_t text_len;
+static int round_of_flags;
+static size_t string_starts[64], string_ends[64];
+
+static void add(const char *words)
+{
+    memcpy(text + text_len, words, strlen(words));
+    text_len += strlen(words);
+}
+
+static const uint8_t *bytes_of_text(void)
+{
+    return (const uint8_t *)text;
+}
+
+static int number_of(int field)
+{
+    return (field % 2 == 0 ? -1000 : 1000) * (field + 1) - round_of_flags;
+}
+
+static int flag_of(int field)
+{
+    return ((field + 1) >> round_of_flags) & 1;
+}
+
+static void put_INT(const char *name, int field)
+{
+    text_len += (size_t)sprintf(text + text_len, "%s = %d;\n", name, number_of(field));
+}
+
+static void put_REAL(const char *name, int field)
+{
+    text_len += (size_t)sprintf(text + text_len, "%s = %d.25;\n", name, number_of(field));
+}
+
+static void put_FLAG(const char *name, int field)
+{
+    text_len += (size_t)sprintf(text + text_len, "%s = %s;\n", name, flag_of(field) ? "True" : "falsE");
+}
+
+static void put_TEXT(const char *name, int field)
+{
+    text_len += (size_t)sprintf(text + text_len, "%s = \"", name);
+    string_starts[field] = text_len;
+    text_len += (size_t)sprintf(text + text_len, "string %d \\\"", field);
+    string_ends[field] = text_len;
+    add("\";\n");
+}
+
+static double real_of(int field)
+{
+    const int number = number_of(field);
+    return number < 0 ? number - 0.25 : number + 0.25;
+}
+
+#define IS_INT(field) EXPECT(it.field == number_of(at))
+#define IS_REAL(field) EXPECT(it.field == real_of(at))
+#define IS_FLAG(field) EXPECT(it.field == flag_of(at))
+#define IS_TEXT(field) EXPECT(it.field##_start == string_starts[at] && it.field##_end == string_ends[at])
+#define ZERO_INT(field) EXPECT(it.field == 0)
+#define ZERO_REAL(field) EXPECT(it.field == 0.0)
+#define ZERO_FLAG(field) EXPECT(!it.field)
+#define ZERO_TEXT(field) EXPECT(it.field##_start == 0 && it.field##_end == 0)
+
+#define TEXT_AT(kind, field, bytes) _Static_assert(offsetof(struct meshpigeon_text_##kind, field) == (bytes), #kind "." #field)
+#define OFFSET_INT(kind, field, bytes) TEXT_AT(kind, field, bytes);
+#define OFFSET_REAL OFFSET_INT
+#define OFFSET_FLAG OFFSET_INT
+#define OFFSET_TEXT(kind, field, bytes)                                                                                            \
+    TEXT_AT(kind, field##_start, bytes);                                                                                           \
+    TEXT_AT(kind, field##_end, (bytes) + 8);
+
+#define TEXT_OFFSET(kind, form, field, name, bytes) OFFSET_##form(kind, field, bytes)
+#define TEXT_PUT(kind, form, field, name, bytes) put_##form(name, at++);
+#define TEXT_IS(kind, form, field, name, bytes)                                                                                    \
+    IS_##form(field);                                                                                                              \
+    at++;
+#define TEXT_ZERO(kind, form, field, name, bytes) ZERO_##form(field);
+
+#define TEXT_VERTEX_FIELDS(F)                                                                                                      \
+    F(vertex, REAL, x, "x", 0)                                                                                                     \
+    F(vertex, REAL, y, "y", 8)
+
+#define TEXT_LINEDEF_FIELDS(F)                                                                                                     \
+    F(linedef, INT, id, "id", 0)                                                                                                   \
+    F(linedef, INT, v1, "v1", 4)                                                                                                   \
+    F(linedef, INT, v2, "v2", 8)                                                                                                   \
+    F(linedef, FLAG, blocking, "blocking", 12)                                                                                     \
+    F(linedef, FLAG, blockmonsters, "blockmonsters", 13)                                                                           \
+    F(linedef, FLAG, twosided, "twosided", 14)                                                                                     \
+    F(linedef, FLAG, dontpegtop, "dontpegtop", 15)                                                                                 \
+    F(linedef, FLAG, dontpegbottom, "dontpegbottom", 16)                                                                           \
+    F(linedef, FLAG, secret, "secret", 17)                                                                                         \
+    F(linedef, FLAG, blocksound, "blocksound", 18)                                                                                 \
+    F(linedef, FLAG, dontdraw, "dontdraw", 19)                                                                                     \
+    F(linedef, FLAG, mapped, "mapped", 20)                                                                                         \
+    F(linedef, FLAG, passuse, "passuse", 21)                                                                                       \
+    F(linedef, FLAG, translucent, "translucent", 22)                                                                               \
+    F(linedef, FLAG, jumpover, "jumpover", 23)                                                                                     \
+    F(linedef, FLAG, blockfloaters, "blockfloaters", 24)                                                                           \
+    F(linedef, FLAG, playercross, "playercross", 25)                                                                               \
+    F(linedef, FLAG, playeruse, "playeruse", 26)                                                                                   \
+    F(linedef, FLAG, monstercross, "monstercross", 27)                                                                             \
+    F(linedef, FLAG, monsteruse, "monsteruse", 28)                                                                                 \
+    F(linedef, FLAG, impact, "impact", 29)                                                                                         \
+    F(linedef, FLAG, playerpush, "playerpush", 30)                                                                                 \
+    F(linedef, FLAG, monsterpush, "monsterpush", 31)                                                                               \
+    F(linedef, FLAG, missilecross, "missilecross", 32)                                                                             \
+    F(linedef, FLAG, repeatspecial, "repeatspecial", 33)                                                                           \
+    F(linedef, INT, special, "special", 36)                                                                                        \
+    F(linedef, INT, arg0, "arg0", 40)                                                                                              \
+    F(linedef, INT, arg1, "arg1", 44)                                                                                              \
+    F(linedef, INT, arg2, "arg2", 48)                                                                                              \
+    F(linedef, INT, arg3, "arg3", 52)                                                                                              \
+    F(linedef, INT, arg4, "arg4", 56)                                                                                              \
+    F(linedef, INT, sidefront, "sidefront", 60)                                                                                    \
+    F(linedef, INT, sideback, "sideback", 64)                                                                                      \
+    F(linedef, TEXT, comment, "comment", 72)
+
+#define TEXT_SIDEDEF_FIELDS(F)                                                                                                     \
+    F(sidedef, INT, offsetx, "offsetx", 0)                                                                                         \
+    F(sidedef, INT, offsety, "offsety", 4)                                                                                         \
+    F(sidedef, TEXT, texturetop, "texturetop", 8)                                                                                  \
+    F(sidedef, TEXT, texturebottom, "texturebottom", 24)                                                                           \
+    F(sidedef, TEXT, texturemiddle, "texturemiddle", 40)                                                                           \
+    F(sidedef, INT, sector, "sector", 56)                                                                                          \
+    F(sidedef, TEXT, comment, "comment", 64)
+
+#define TEXT_SECTOR_FIELDS(F)                                                                                                      \
+    F(sector, INT, heightfloor, "heightfloor", 0)                                                                                  \
+    F(sector, INT, heightceiling, "heightceiling", 4)                                                                              \
+    F(sector, TEXT, texturefloor, "texturefloor", 8)                                                                               \
+    F(sector, TEXT, textureceiling, "textureceiling", 24)                                                                          \
+    F(sector, INT, lightlevel, "lightlevel", 40)                                                                                   \
+    F(sector, INT, special, "special", 44)                                                                                         \
+    F(sector, INT, id, "id", 48)                                                                                                   \
+    F(sector, TEXT, comment, "comment", 56)
+
+#define TEXT_THING_FIELDS(F)                                                                                                       \
+    F(thing, INT, id, "id", 0)                                                                                                     \
+    F(thing, REAL, x, "x", 8)                                                                                                      \
+    F(thing, REAL, y, "y", 16)                                                                                                     \
+    F(thing, REAL, height, "height", 24)                                                                                           \
+    F(thing, INT, angle, "angle", 32)                                                                                              \
+    F(thing, INT, type, "type", 36)                                                                                                \
+    F(thing, FLAG, skill1, "skill1", 40)                                                                                           \
+    F(thing, FLAG, skill2, "skill2", 41)                                                                                           \
+    F(thing, FLAG, skill3, "skill3", 42)                                                                                           \
+    F(thing, FLAG, skill4, "skill4", 43)                                                                                           \
+    F(thing, FLAG, skill5, "skill5", 44)                                                                                           \
+    F(thing, FLAG, ambush, "ambush", 45)                                                                                           \
+    F(thing, FLAG, single, "single", 46)                                                                                           \
+    F(thing, FLAG, dm, "dm", 47)                                                                                                   \
+    F(thing, FLAG, coop, "coop", 48)                                                                                               \
+    F(thing, FLAG, friendly, "friend", 49)                                                                                         \
+    F(thing, FLAG, dormant, "dormant", 50)                                                                                         \
+    F(thing, FLAG, class1, "class1", 51)                                                                                           \
+    F(thing, FLAG, class2, "class2", 52)                                                                                           \
+    F(thing, FLAG, class3, "class3", 53)                                                                                           \
+    F(thing, FLAG, standing, "standing", 54)                                                                                       \
+    F(thing, FLAG, strifeally, "strifeally", 55)                                                                                   \
+    F(thing, FLAG, translucent, "translucent", 56)                                                                                 \
+    F(thing, FLAG, invisible, "invisible", 57)                                                                                     \
+    F(thing, INT, special, "special", 60)                                                                                          \
+    F(thing, INT, arg0, "arg0", 64)                                                                                                \
+    F(thing, INT, arg1, "arg1", 68)                                                                                                \
+    F(thing, INT, arg2, "arg2", 72)                                                                                                \
+    F(thing, INT, arg3, "arg3", 76)                                                                                                \
+    F(thing, INT, arg4, "arg4", 80)                                                                                                \
+    F(thing, TEXT, comment, "comment", 88)
+
+SIZE(text_answer, 80);
+AT(text_answer, status, 0);
+AT(text_answer, namespace_start, 24);
+AT(text_answer, namespace_end, 32);
+AT(text_answer, vertices, 40);
+AT(text_answer, linedefs, 48);
+AT(text_answer, sidedefs, 56);
+AT(text_answer, sectors, 64);
+AT(text_answer, things, 72);
+
+SIZE(text_block_answer, 48);
+AT(text_block_answer, status, 0);
+AT(text_block_answer, kind, 24);
+AT(text_block_answer, start, 32);
+AT(text_block_answer, next, 40);
+
+/* Everything of a kind: layout, a block with all fields by number and from every place before it, and nothing but the refusal otherwise. */
+#define TEXT_KIND(kind, FIELDS, bytes, READ_AT)                                                                                    \
+    _Static_assert(sizeof(struct meshpigeon_text_##kind) == (bytes), "size of text " #kind);                                       \
+    SIZE(text_##kind##_answer, 24 + (bytes) + 8);                                                                                  \
+    AT(text_##kind##_answer, status, 0);                                                                                           \
+    AT(text_##kind##_answer, kind, 24);                                                                                            \
+    AT(text_##kind##_answer, next, 24 + (bytes));                                                                                  \
+    FIELDS(TEXT_OFFSET)                                                                                                            \
+                                                                                                                                   \
+    static void text_##kind##_is_refused(meshpigeon_text_##kind##_answer answer, uint32_t number, size_t record)                   \
+    {                                                                                                                              \
+        const struct meshpigeon_text_##kind it = answer.kind;                                                                      \
+        EXPECT(status_is(answer.status, number, 0, record));                                                                       \
+        EXPECT(answer.next == 0);                                                                                                  \
+        FIELDS(TEXT_ZERO)                                                                                                          \
+    }                                                                                                                              \
+                                                                                                                                   \
+    static void text_##kind##_is_whole(meshpigeon_text_##kind##_answer answer, size_t next)                                        \
+    {                                                                                                                              \
+        const struct meshpigeon_text_##kind it = answer.kind;                                                                      \
+        int at = 0;                                                                                                                \
+        EXPECT(status_is(answer.status, 0, 0, 0));                                                                                 \
+        EXPECT(answer.next == next);                                                                                               \
+        FIELDS(TEXT_IS)                                                                                                            \
+    }                                                                                                                              \
+                                                                                                                                   \
+    static void try_text_##kind(void)                                                                                              \
+    {                                                                                                                              \
+        for (round_of_flags = 0; round_of_flags < 6; round_of_flags++) {                                                           \
+            int at = 0;                                                                                                            \
+            size_t start, next;                                                                                                    \
+            text_len = 0;                                                                                                          \
+            add("namespace = \"Doom\"; other { a = 1; } /* " #kind " { } */\n");                                                  \
+            start = text_len;                                                                                                      \
+            add(#kind "\n{\n");                                                                                                    \
+            FIELDS(TEXT_PUT)                                                                                                       \
+            add("}");                                                                                                              \
+            next = text_len;                                                                                                       \
+            add(" later = 0x1F;");                                                                                                 \
+            text_##kind##_is_whole(meshpigeon_text_##kind(bytes_of_text(), text_len, 0), next);                                    \
+            text_##kind##_is_whole(READ_AT(bytes_of_text(), text_len, 0), next);                                                   \
+            text_##kind##_is_whole(READ_AT(bytes_of_text(), text_len, start), next);                                               \
+            text_##kind##_is_whole(READ_AT(bytes_of_text(), next, start), next);                                                   \
+            text_##kind##_is_refused(meshpigeon_text_##kind(bytes_of_text(), text_len, 1), 94, 0);                                 \
+            text_##kind##_is_refused(READ_AT(bytes_of_text(), text_len, next), 94, 0);                                             \
+            text_##kind##_is_refused(READ_AT(bytes_of_text(), text_len, SIZE_MAX), 94, 0);                                         \
+            text_##kind##_is_refused(meshpigeon_text_##kind(bytes_of_text(), next - 1, 0), 90, next - 1);                          \
+            text_##kind##_is_refused(READ_AT(bytes_of_text(), next - 1, start), 90, next - 1);                                     \
+        }                                                                                                                          \
+        text_len = 0;                                                                                                              \
+        add(#kind " { }");                                                                                                         \
+        text_##kind##_is_refused(meshpigeon_text_##kind(bytes_of_text(), text_len, 0), 92, text_len - 1);                          \
+        text_##kind##_is_refused(READ_AT(bytes_of_text(), text_len, 0), 92, text_len - 1);                                         \
+        EXPECT(text_len == strlen(#kind " { }"));                                                                                  \
+    }
+
+#define TEXT_LINEDEF_AT(text, text_len, place) meshpigeon_text_linedef_at(text, text_len, place, 0, 0)
+TEXT_KIND(vertex, TEXT_VERTEX_FIELDS, 16, meshpigeon_text_vertex_at)
+TEXT_KIND(linedef, TEXT_LINEDEF_FIELDS, 88, TEXT_LINEDEF_AT)
+TEXT_KIND(sidedef, TEXT_SIDEDEF_FIELDS, 80, meshpigeon_text_sidedef_at)
+TEXT_KIND(sector, TEXT_SECTOR_FIELDS, 72, meshpigeon_text_sector_at)
+TEXT_KIND(thing, TEXT_THING_FIELDS, 104, meshpigeon_text_thing_at)
+
+#define STRING(words) (const uint8_t *)(words), strlen(words)
+
+/* A block with what it must have alone: everything else is the format's default. */
+static void text_defaults(void)
+{
+    const struct meshpigeon_text_linedef linedef = meshpigeon_text_linedef(STRING("linedef{v1=7;v2=8;sidefront=9;}"), 0).linedef;
+    const struct meshpigeon_text_sidedef sidedef = meshpigeon_text_sidedef(STRING("sidedef{sector=7;}"), 0).sidedef;
+    const struct meshpigeon_text_sector sector =
+        meshpigeon_text_sector(STRING("sector{texturefloor=\"a\";textureceiling=\"\";}"), 0).sector;
+    const struct meshpigeon_text_thing thing = meshpigeon_text_thing(STRING("thing{x=-0;y=-0.0;type=3;}"), 0).thing;
+    EXPECT(linedef.id == -1 && linedef.v1 == 7 && linedef.v2 == 8 && linedef.sidefront == 9 && linedef.sideback == -1);
+    EXPECT(!linedef.blocking && linedef.special == 0 && linedef.arg4 == 0 && linedef.comment_start == 0 && linedef.comment_end == 0);
+    EXPECT(sidedef.sector == 7 && sidedef.offsetx == 0 && sidedef.texturetop_start == 0 && sidedef.texturetop_end == 0);
+    EXPECT(sector.lightlevel == 160 && sector.id == 0 && sector.texturefloor_start == 21 && sector.texturefloor_end == 22);
+    EXPECT(sector.textureceiling_start == 40 && sector.textureceiling_end == 40);
+    EXPECT(thing.type == 3 && thing.angle == 0 && thing.height == 0.0 && !thing.friendly);
+    EXPECT(1 / thing.x > 0 && 1 / thing.y < 0);
+}
+
+/* A linedef's id by the namespace: of the whole text, and of the two places that are given. */
+static void text_namespaces(void)
+{
+    const char *const doom = "linedef{v1=1;v2=2;sidefront=3;}namespace=\"Doom\";";
+    const char *const other = "namespace=\"Doom\";linedef{v1=1;v2=2;sidefront=3;}namespace=\"doom\";";
+    const meshpigeon_text_answer whole = meshpigeon_text_map(STRING(doom));
+    EXPECT(meshpigeon_text_linedef(STRING(doom), 0).linedef.id == 0);
+    EXPECT(meshpigeon_text_linedef(STRING(other), 0).linedef.id == -1);
+    EXPECT(whole.namespace_start == 42 && whole.namespace_end == 46);
+    EXPECT(meshpigeon_text_linedef_at(STRING(doom), 0, 42, 46).linedef.id == 0);
+    EXPECT(meshpigeon_text_linedef_at(STRING(doom), 0, 42, 45).linedef.id == -1);
+    EXPECT(meshpigeon_text_linedef_at(STRING(doom), 0, 46, 42).linedef.id == -1);
+    EXPECT(meshpigeon_text_linedef_at(STRING(doom), 0, SIZE_MAX, SIZE_MAX).linedef.id == -1);
+    EXPECT(meshpigeon_text_linedef_at(STRING(doom), 0, 0, SIZE_MAX).linedef.id == -1);
+    EXPECT(meshpigeon_text_linedef_at((const uint8_t *)doom, 46, 0, 42, SIZE_MAX).status.number == 0);
+    EXPECT(meshpigeon_text_linedef_at((const uint8_t *)doom, 46, 0, 42, SIZE_MAX).linedef.id == 0);
+}
+
+static int is_summary(meshpigeon_text_answer a, size_t start, size_t end, size_t v, size_t l, size_t d, size_t s, size_t t)
+{
+    return status_is(a.status, 0, 0, 0) && a.namespace_start == start && a.namespace_end == end && a.vertices == v && a.linedefs == l &&
+           a.sidedefs == d && a.sectors == s && a.things == t;
+}
+
+static int text_refused(const char *words, uint32_t number, size_t record)
+{
+    const meshpigeon_text_answer a = meshpigeon_text_map(STRING(words));
+    return status_is(a.status, number, 0, record) && a.namespace_start == 0 && a.namespace_end == 0 && a.vertices == 0 && a.linedefs == 0 &&
+           a.sidedefs == 0 && a.sectors == 0 && a.things == 0;
+}
+
+static int is_block(meshpigeon_text_block_answer a, uint32_t kind, size_t start, size_t next)
+{
+    return status_is(a.status, 0, 0, 0) && a.kind == kind && a.start == start && a.next == next;
+}
+
+static int no_block(meshpigeon_text_block_answer a, uint32_t number, size_t record)
+{
+    return status_is(a.status, number, 0, record) && a.kind == 0 && a.start == 0 && a.next == 0;
+}
+
+#define VERTEX_TEXT "vertex{x=1;y=2;}"
+#define LINEDEF_TEXT "linedef{v1=1;v2=2;sidefront=3;}"
+#define SIDEDEF_TEXT "sidedef{sector=0;}"
+#define SECTOR_TEXT "sector{texturefloor=\"a\";textureceiling=\"b\";}"
+#define THING_TEXT "thing{x=1;y=2;type=3;}"
+
+static void text_summaries(void)
+{
+    EXPECT(is_summary(meshpigeon_text_map(STRING("")), 0, 0, 0, 0, 0, 0, 0));
+    EXPECT(is_summary(meshpigeon_text_map(STRING("NameSpace = \"a\\\"b\"; " THING_TEXT VERTEX_TEXT THING_TEXT SECTOR_TEXT SIDEDEF_TEXT
+                                                 LINEDEF_TEXT LINEDEF_TEXT LINEDEF_TEXT SIDEDEF_TEXT SIDEDEF_TEXT SIDEDEF_TEXT SECTOR_TEXT
+                                                     SECTOR_TEXT SECTOR_TEXT SECTOR_TEXT)),
+                      13, 17, 1, 3, 4, 5, 2));
+    EXPECT(text_refused("a", 90, 1));
+    EXPECT(text_refused("a = 01;", 90, 4));
+    EXPECT(text_refused("a = 2147483648;", 91, 4));
+    EXPECT(text_refused("a = 0.1234567;", 91, 4));
+    EXPECT(text_refused("vertex{x=true;", 90, 9));
+    EXPECT(text_refused("vertex{x=1;}", 92, 11));
+    EXPECT(text_refused("/* ", 90, 3));
+}
+
+static void text_blocks(void)
+{
+    const char *const all = "a=1;" VERTEX_TEXT LINEDEF_TEXT SIDEDEF_TEXT SECTOR_TEXT THING_TEXT "b{}";
+    const char *const kinds[] = {VERTEX_TEXT, LINEDEF_TEXT, SIDEDEF_TEXT, SECTOR_TEXT, THING_TEXT};
+    size_t place = 0, start = 4;
+    for (uint32_t kind = 1; kind <= 5; kind++) {
+        const size_t next = start + strlen(kinds[kind - 1]);
+        EXPECT(is_block(meshpigeon_text_block(STRING(all), place), kind, start, next));
+        EXPECT(is_block(meshpigeon_text_block(STRING(all), start), kind, start, next));
+        place = start = next;
+    }
+    EXPECT(no_block(meshpigeon_text_block(STRING(all), place), 94, 0));
+    EXPECT(no_block(meshpigeon_text_block(STRING(all), SIZE_MAX), 94, 0));
+    EXPECT(no_block(meshpigeon_text_block(STRING(all), 1), 90, 1));
+    EXPECT(no_block(meshpigeon_text_block(STRING("a=0x;" VERTEX_TEXT), 0), 90, 2));
+    EXPECT(no_block(meshpigeon_text_block(STRING("a=0x80000000;" VERTEX_TEXT), 0), 91, 2));
+    EXPECT(no_block(meshpigeon_text_block(STRING("vertex{y=2;}"), 0), 92, 11));
+    EXPECT(is_block(meshpigeon_text_block(STRING(VERTEX_TEXT "}"), 0), MESHPIGEON_TEXT_VERTEX, 0, 16));
+}
+
+/* One block of a kind more than there may be: at its name, and from the second block on there is none too many. */
+static void text_too_many(void)
+{
+    static uint8_t many[65536 * 16];
+    meshpigeon_text_vertex_answer last;
+    for (size_t at = 0; at < 65536; at++)
+        memcpy(many + 16 * at, VERTEX_TEXT, 16);
+    EXPECT(meshpigeon_text_map(many, 65535 * 16).vertices == 65535);
+    EXPECT(status_is(meshpigeon_text_map(many, sizeof many).status, 93, 0, 65535 * 16));
+    EXPECT(status_is(meshpigeon_text_thing(many, sizeof many, 0).status, 93, 0, 65535 * 16));
+    EXPECT(status_is(meshpigeon_text_thing_at(many, sizeof many, 0).status, 93, 0, 65535 * 16));
+    EXPECT(status_is(meshpigeon_text_thing_at(many, sizeof many, 16).status, 94, 0, 0));
+    last = meshpigeon_text_vertex(many, 65535 * 16, 65534);
+    EXPECT(status_is(last.status, 0, 0, 0) && last.vertex.x == 1.0 && last.vertex.y == 2.0 && last.next == 65535 * 16);
+    EXPECT(status_is(meshpigeon_text_vertex(many, 65535 * 16, 65535).status, 94, 0, 0));
+}
+
+static void text_maps(void)
+{
+    try_text_vertex();
+    try_text_linedef();
+    try_text_sidedef();
+    try_text_sector();
+    try_text_thing();
+    text_defaults();
+    text_namespaces();
+    text_summaries();
+    text_blocks();
+    text_too_many();
+}
+
 int main(void)
 {
     statuses();
@@ -1439,6 +1827,7 @@ int main(void)
     paintings();
     writings();
     records();
+    text_maps();
     if (failures != 0)
         return 1;
     puts("header: every function answers as it says");
