@@ -3,9 +3,9 @@
 use meshpigeon::Refusal;
 use std::collections::HashSet;
 
-const NUMBERS: [u32; 54] = [
+const NUMBERS: [u32; 59] = [
     1, 2, 3, 4, 5, 6, 7, 10, 11, 12, 20, 21, 22, 23, 24, 25, 26, 27, 28, 30, 31, 32, 40, 41, 42, 43, 44, 45, 46, 50, 51, 52, 53,
-    54, 55, 56, 57, 58, 60, 61, 70, 71, 72, 73, 74, 75, 76, 80, 81, 82, 83, 84, 85, 86,
+    54, 55, 56, 57, 58, 60, 61, 70, 71, 72, 73, 74, 75, 76, 80, 81, 82, 83, 84, 85, 86, 90, 91, 92, 93, 94,
 ];
 
 #[test]
@@ -50,6 +50,8 @@ fn the_whereabouts_are_lump_and_record() {
     assert_eq!(whereabouts(5, 0, 3).as_deref(), Some("entry 3"));
     assert_eq!(whereabouts(53, 0, 4).as_deref(), Some("column 4"));
     assert_eq!(whereabouts(42, 0, 8).as_deref(), Some("node 8"));
+    assert_eq!(whereabouts(91, 0, 120).as_deref(), Some("byte 120"));
+    assert_eq!(whereabouts(94, 0, 0), None);
     assert_eq!(whereabouts(1, 0, 0), None);
 }
 

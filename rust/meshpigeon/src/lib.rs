@@ -20,6 +20,7 @@ mod record;
 mod refusal;
 mod renumber;
 mod sidedefs;
+pub mod text;
 mod why;
 
 pub use differences::{differences, differences_with, DifferenceFile, DifferenceRefusal, Differences};

@@ -1,7 +1,8 @@
-//! The library's functions as include/meshpigeon.h declares them. The only module with `unsafe`: each wrapper lends the library a
+//! The library's functions as include/meshpigeon.h declares them. The only module with `unsafe`, with the one on text maps in it: each wrapper lends the library a
 //! pointer and a length of a live slice, which is all that the library asks.
 
 mod layout;
+pub(crate) mod text;
 
 use crate::game::{Linedef, Thing};
 use crate::record::{Node, Sector, Seg, Sidedef, Subsector, Vertex};

@@ -18,11 +18,11 @@ const fn sizes(hexen: bool) -> [usize; 9] {
 #[derive(Clone, Copy, Debug, PartialEq, Eq)]
 pub struct Refusal {
     /// The number in the table of refusals: 1 to 7, 10 to 12, 20 to 28, 30 to 32, 40 to 46, 50 to 58, 60, 61, 70 to 76, 80 to
-    /// 86.
+    /// 86, 90 to 94.
     pub number: u32,
     /// The map lump concerned, 0 (the marker) to 10 (BLOCKMAP); 0 where none is.
     pub place: usize,
-    /// The entry, record, cell, node or column concerned; 0 where none is.
+    /// The entry, record, cell, node or column concerned, or the byte of a text; 0 where none is.
     pub record: usize,
 }
 
@@ -42,7 +42,7 @@ impl Refusal {
 
     /// Whether the record part has a meaning for this number.
     pub fn names_record(&self) -> bool {
-        matches!(self.number, 5 | 6 | 23..=28 | 42 | 53 | 54)
+        matches!(self.number, 5 | 6 | 23..=28 | 42 | 53 | 54 | 90..=93)
     }
 
     /// Where the fault is, in a word or two, for the numbers that name a place or a record: `NODES`, `LINEDEFS 17`, `entry 3`.
@@ -51,6 +51,7 @@ impl Refusal {
             5 | 6 => "entry",
             42 => "node",
             53 | 54 => "column",
+            90..=93 => "byte",
             _ => self.lump()?,
         };
         Some(if self.names_record() { format!("{part} {}", self.record) } else { part.to_string() })
@@ -58,9 +59,9 @@ impl Refusal {
 
     /// Whether the caller's loan or question is at fault, and not the file: too few words, a short buffer, a number or a name that
     /// cannot be asked for, a record that cannot be written, an order that is no good one, maps that cannot be compared, an index that is
-    /// not the file's.
+    /// not the file's, a block that a text does not have.
     pub fn is_callers(&self) -> bool {
-        matches!(self.number, 7 | 10 | 30 | 41 | 45 | 55..=58 | 60 | 61 | 70..=76 | 80 | 82..=86)
+        matches!(self.number, 7 | 10 | 30 | 41 | 45 | 55..=58 | 60 | 61 | 70..=76 | 80 | 82..=86 | 94)
     }
 
     fn say_of_file(&self, out: &mut fmt::Formatter<'_>) -> fmt::Result {
@@ -204,6 +205,28 @@ impl Refusal {
         }
     }
 
+    fn say_of_text(&self, out: &mut fmt::Formatter<'_>) -> fmt::Result {
+        match self.number {
+            90 => write!(
+                out,
+                "the text does not go on as it must: a text map has assignments, a name, =, a value and ;, and blocks of them in braces; a value \
+                 is a number, a string in double quotes, true or false, and a known field takes its own kind of value only"
+            ),
+            91 => write!(
+                out,
+                "a number is over its limits: a whole number is -2,147,483,648 to 2,147,483,647, and a decimal has at most 15 digits, 6 of \
+                 them behind the point"
+            ),
+            92 => write!(
+                out,
+                "the block ends without a field that it must have: a vertex has x and y, a linedef v1, v2 and sidefront, a sidedef sector, a \
+                 sector texturefloor and textureceiling, a thing x, y and type"
+            ),
+            93 => write!(out, "there are too many blocks of this kind: a text map has at most 65,535 of each"),
+            _ => write!(out, "the text has no block of that kind with that number, or none from that place on"),
+        }
+    }
+
     fn say_of_picture(&self, out: &mut fmt::Formatter<'_>) -> fmt::Result {
         let record = self.record;
         match self.number {
@@ -269,6 +292,7 @@ impl fmt::Display for Refusal {
                 "the output is too short for the reason: a field has 16 bytes, and a list of choices one for each, at most as many \
                  as there are nodes"
             ),
+            90..=94 => self.say_of_text(out),
             number => write!(out, "refused with number {number}"),
         }
     }

@@ -230,7 +230,7 @@ record! {
         y "y" f64 = None;
         height "height" f64 = Some(0.0);
         angle "angle" i32 = Some(0);
-        kind "type" i32 = None;
+        r#type "type" i32 = None;
         skill1 "skill1" bool = Some(false);
         skill2 "skill2" bool = Some(false);
         skill3 "skill3" bool = Some(false);

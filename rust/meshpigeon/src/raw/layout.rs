@@ -60,3 +60,40 @@ layout! {
     NodeAnswer 56 { status 0, record 24 }
     SectorAnswer 56 { status 0, record 24 }
 }
+
+/// The blocks of a text map, whose records have other types by the names of a map's.
+mod texts {
+    use super::super::text::*;
+    use super::{offset_of, size_of};
+    use crate::text::{Linedef, Quoted, Sector, Sidedef, Thing, Vertex};
+
+    layout! {
+        TextAnswer 80 {
+            status 0, namespace_start 24, namespace_end 32, vertices 40, linedefs 48, sidedefs 56, sectors 64, things 72
+        }
+        TextBlockAnswer 48 { status 0, kind 24, start 32, next 40 }
+        Quoted 16 { start 0, end 8 }
+        Vertex 16 { x 0, y 8 }
+        Linedef 88 {
+            id 0, v1 4, v2 8, blocking 12, blockmonsters 13, twosided 14, dontpegtop 15, dontpegbottom 16, secret 17,
+            blocksound 18, dontdraw 19, mapped 20, passuse 21, translucent 22, jumpover 23, blockfloaters 24,
+            playercross 25, playeruse 26, monstercross 27, monsteruse 28, impact 29, playerpush 30, monsterpush 31,
+            missilecross 32, repeatspecial 33, special 36, arg0 40, arg1 44, arg2 48, arg3 52, arg4 56, sidefront 60,
+            sideback 64, comment 72
+        }
+        Sidedef 80 { offsetx 0, offsety 4, texturetop 8, texturebottom 24, texturemiddle 40, sector 56, comment 64 }
+        Sector 72 {
+            heightfloor 0, heightceiling 4, texturefloor 8, textureceiling 24, lightlevel 40, special 44, id 48, comment 56
+        }
+        Thing 104 {
+            id 0, x 8, y 16, height 24, angle 32, r#type 36, skill1 40, skill2 41, skill3 42, skill4 43, skill5 44,
+            ambush 45, single 46, dm 47, coop 48, friendly 49, dormant 50, class1 51, class2 52, class3 53, standing 54,
+            strifeally 55, translucent 56, invisible 57, special 60, arg0 64, arg1 68, arg2 72, arg3 76, arg4 80, comment 88
+        }
+        TextVertexAnswer 48 { status 0, record 24, next 40 }
+        TextLinedefAnswer 120 { status 0, record 24, next 112 }
+        TextSidedefAnswer 112 { status 0, record 24, next 104 }
+        TextSectorAnswer 104 { status 0, record 24, next 96 }
+        TextThingAnswer 136 { status 0, record 24, next 128 }
+    }
+}
