@@ -3,6 +3,7 @@
 use crate::{Explained, Kind, Record};
 use reader::{
     Accepted, DifferenceRefusal, Found, IndexRecord, IndexSearch, PairEntry, PairMap, PairRefusal, Picture, Refusal, Search,
+    TextMap,
 };
 
 /// One input with one question.
@@ -10,7 +11,7 @@ use reader::{
 pub struct Case {
     /// What the case is about, for reports.
     pub label: String,
-    /// The file, of a pair the patch, of two maps the new one's; NODES lump, SIDEDEFS lump, picture lump or record lump; of a picture to be written its cover.
+    /// The file, of a pair the patch, of two maps the new one's; NODES lump, SIDEDEFS lump, picture lump, record lump or text map; of a picture to be written its cover.
     pub bytes: Vec<u8>,
     /// What is asked of the bytes.
     pub question: Question,
@@ -142,6 +143,13 @@ pub enum Question {
         /// How often all the bytes come, one time after the other.
         times: usize,
     },
+    /// Everything of a text map: its summary, its blocks by number, and from these places on.
+    Text {
+        /// Some places, in the text or not.
+        places: Vec<usize>,
+        /// Start and end of the namespace that linedefs are read by, in the text or not.
+        namespace: (usize, usize),
+    },
     /// Judge a picture.
     JudgePicture,
     /// Paint a picture.
@@ -201,6 +209,8 @@ pub enum Expected {
     Count(usize),
     /// So many records that are listed of each lump, or this refusal with its file.
     Differences(Result<[usize; 8], DifferenceRefusal>),
+    /// A text map of this summary.
+    Text(TextMap),
     /// This lump of a pair, or this refusal with its file.
     PairEntry(Result<PairEntry, PairRefusal>),
     /// This map of a pair, or this refusal with its file.

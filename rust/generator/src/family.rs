@@ -4,12 +4,12 @@ use crate::flip::{flipped_map_case, flipped_picture_case, random_file_case, rand
 use crate::order::{pair_case, single_case};
 use crate::{damaged_picture_case, descent_case, directory_case, draw_case};
 use crate::{
-    differences_case, index_case, patch_case, picture_case, record_case, renumber_case, search_case, sidedefs_case, valid_case,
-    why_case, written_case, Case, Rng,
+    differences_case, index_case, patch_case, picture_case, record_case, renumber_case, search_case, sidedefs_case, text_case,
+    valid_case, why_case, written_case, Case, Rng,
 };
 
 /// How many families [`case`] goes through in turn.
-pub const FAMILIES: u64 = 34;
+pub const FAMILIES: u64 = 36;
 
 /// Case `index` under `seed`: always the same one. The families take turns, so that any run of
 /// a few thousand indices meets every damage and most pairs.
@@ -37,6 +37,7 @@ pub fn case(seed: u64, index: u64) -> Case {
         26..=28 => renumber_case(&mut rng),
         29..=31 => differences_case(&mut rng),
         32 | 33 => index_case(&mut rng),
+        34 | 35 => text_case(&mut rng),
         _ => patch_case(&mut rng),
     }
 }

@@ -1,5 +1,5 @@
-//! A deterministic generator of WAD files, maps, pictures, records, descents, orders of nodes, pairs of maps, name indexes and
-//! sidedefs in scraps, good and bad.
+//! A deterministic generator of WAD files, maps, pictures, records, descents, orders of nodes, pairs of maps, name indexes, text
+//! maps and sidedefs in scraps, good and bad.
 //!
 //! Everything is built from named fields, with what is known of the answer beside it:
 //!
@@ -10,6 +10,7 @@
 //! - [`renumber_case`] gives maps whose nodes are to be numbered anew, and [`with_order`] makes one of any map check's case;
 //! - [`differences_case`] gives two maps whose records are to be compared, and [`with_other`] makes one of any map check's case;
 //! - [`index_case`] gives files with a name index to be built, checked or looked into, and [`with_index`] makes one of any file's case;
+//! - [`text_case`] gives text maps, and a [`TextSpec`] can be written with other blanks, letters and unknown names;
 //! - [`limits`] lists both sides of every limit, each case built when asked for;
 //! - [`MapSpec`], [`Plan`], [`BlockmapSpec`], [`PictureSpec`] and [`Canvas`] build inputs by hand;
 //! - [`ordinary_map`], [`hexen_map_of`], [`largest_map`], [`largest_hexen_map_of`], [`directory_of`],
@@ -18,7 +19,9 @@
 //!   [`halving_nodes`], [`mixed_nodes`], [`deep_chain`], [`double_nodes`], [`deep_doublings`], [`sidedefs_of`],
 //!   [`bad_sidedef_of`], [`bad_seg_of`], [`bad_blockmap_of`], [`long_loop`], [`loop_behind_tree`], [`map_in_order`],
 //!   [`chain_in_order`], [`twice`], [`with_changes`], [`with_last_changed`], [`names_at_random`], [`names_ascending`],
-//!   [`names_descending`], [`names_alike`], [`with_its_index`] and [`with_a_wrong_index`] are the inputs of a benchmark;
+//!   [`names_descending`], [`names_alike`], [`with_its_index`], [`with_a_wrong_index`],
+//!   [`ordinary_text`], [`text_of_assignments`], [`text_of_one_block`], [`text_of_blocks`], [`text_of_vertices`], [`text_of_comments`],
+//!   [`text_of_one_string`] and [`text_of_one_word`] are the inputs of a benchmark;
 //! - [`shrink`] makes a failing case smaller.
 //!
 //! ```
@@ -37,6 +40,7 @@
 mod bench;
 mod bench_differences;
 mod bench_index;
+mod bench_text;
 mod blockmap;
 mod case;
 mod damage;
@@ -62,6 +66,7 @@ mod limit_map;
 mod limit_renumber;
 mod limit_run;
 mod limit_scraps;
+mod limit_text;
 mod limit_why;
 mod limit_why_blockmap;
 mod limit_why_graph;
@@ -83,6 +88,9 @@ mod sample;
 mod scraps;
 mod search;
 mod shrink;
+mod text;
+mod text_fault;
+mod text_value;
 mod valid;
 mod why;
 mod why_blockmap;
@@ -99,6 +107,10 @@ pub use bench::{
 pub use bench_differences::{twice, with_changes, with_last_changed};
 pub use bench_index::{
     names_alike, names_ascending, names_at_random, names_descending, wad_and_index, with_a_wrong_index, with_its_index,
+};
+pub use bench_text::{
+    ordinary_text, text_of_assignments, text_of_blocks, text_of_comments, text_of_one_block, text_of_one_string,
+    text_of_one_word, text_of_vertices,
 };
 pub use blockmap::{BlockmapSpec, Layout};
 pub use case::{Case, Expected, Question};
@@ -128,6 +140,8 @@ pub use sample::{samples, Sample};
 pub use scraps::{facing, map_around, scraps, sidedefs_case};
 pub use search::{halves, joined, named_entries, pair_in_vain, search_case, search_in_vain, search_to_the_first};
 pub use shrink::shrink;
+pub use text::{text_case, unknown_assignment, Blanks, Piece, TextSpec};
+pub use text_value::{decimal, Form};
 pub use valid::{any_plan, map_case, sound_plan, valid_case, verdict};
 pub use why::{why_case, with_reason, Explained, Printed};
 pub use written::{every_second, written_case, Canvas, Run};

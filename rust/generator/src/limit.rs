@@ -10,6 +10,7 @@ use crate::limit_map::map_limits;
 use crate::limit_renumber::renumber_limits;
 use crate::limit_run::run_limits;
 use crate::limit_scraps::scraps_limits;
+use crate::limit_text::text_limits;
 use crate::limit_why::why_limits;
 use crate::limit_why_blockmap::why_blockmap_limits;
 use crate::limit_why_graph::why_graph_limits;
@@ -48,6 +49,7 @@ pub fn limits() -> Vec<Build> {
     all.extend(renumber_limits());
     all.extend(differences_limits());
     all.extend(index_limits());
+    all.extend(text_limits());
     all
 }
 

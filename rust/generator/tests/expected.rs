@@ -6,7 +6,7 @@ use common::check;
 use generator::{
     all_picture_damages, case, damages, differences_case, index_case, pair_case, pair_count, patch_case, single_case,
 };
-use generator::{renumber_case, sidedefs_case, why_case, written_case, Expected, Question, Rng, PICTURE_DAMAGES};
+use generator::{renumber_case, sidedefs_case, text_case, why_case, written_case, Expected, Question, Rng, PICTURE_DAMAGES};
 use reader::{DifferenceFile, PairFile};
 use std::collections::{BTreeMap, BTreeSet};
 
@@ -74,7 +74,7 @@ fn cases_of_all_families() {
     let wanted = [0, 1, 2, 3, 4, 5, 6, 7, 10, 11, 12, 20, 21, 22, 23, 24, 25, 26, 27, 28, 30, 31, 32];
     let more = [
         40, 41, 42, 43, 44, 45, 46, 50, 51, 52, 53, 54, 55, 56, 57, 58, 60, 61, 70, 71, 72, 73, 74, 75, 76, 80, 82, 83, 84, 85,
-        86,
+        86, 90, 91, 92,
     ];
     assert!(wanted.iter().chain(&more).all(|number| met.contains_key(number)));
 }
@@ -182,6 +182,16 @@ fn every_number_of_an_index_is_met() {
         assert_eq!(met.keys().copied().collect::<Vec<u32>>(), wanted);
         assert!(met.iter().all(|(number, times)| *times > if (1..=6).contains(number) { 5 } else { 400 }), "{met:?}");
     }
+}
+
+#[test]
+fn every_number_of_a_small_text_is_met() {
+    let (mut rng, mut met) = (Rng::new(11), BTreeMap::new());
+    for _ in 0..40_000 {
+        *met.entry(check(&text_case(&mut rng))).or_insert(0) += 1;
+    }
+    assert_eq!(met.keys().copied().collect::<Vec<u32>>(), [0, 90, 91, 92]);
+    assert!(met.values().all(|&times| times > 1_000), "{met:?}");
 }
 
 #[test]

@@ -16,6 +16,7 @@ enum Answer {
     Count(usize),
     Lookup(IndexSearch),
     Differences(Result<[usize; 8], DifferenceRefusal>),
+    Text(TextMap),
     PairEntry(Result<PairEntry, PairRefusal>),
     PairMap(Result<PairMap, PairRefusal>),
 }
@@ -37,6 +38,7 @@ pub fn check(case: &Case) -> u32 {
         Expected::Count(count) => answer == Ok(Answer::Count(count)),
         Expected::Lookup(found) => answer == Ok(Answer::Lookup(found)),
         Expected::Differences(counts) => answer == Ok(Answer::Differences(counts)),
+        Expected::Text(map) => answer == Ok(Answer::Text(map)),
         Expected::PairEntry(entry) => answer == Ok(Answer::PairEntry(entry)),
         Expected::PairMap(map) => answer == Ok(Answer::PairMap(map)),
     };
@@ -71,6 +73,7 @@ fn ask(case: &Case) -> Result<Answer, Refusal> {
         Question::Descend { subsectors, x, y } => descend(bytes, *subsectors, *x, *y).map(Answer::Found),
         Question::DrawOrder { subsectors, x, y, words } => ask_order(bytes, *subsectors, (*x, *y), words),
         Question::Sidedefs { sectors, lengths, times } => ask_sidedefs(bytes, *sectors, lengths, *times),
+        Question::Text { .. } => text_map(bytes).map(Answer::Text),
         Question::JudgePicture => judge_picture(bytes).map(|_| Answer::Good),
         Question::PaintPicture { colour, cover } => ask_paint(bytes, colour, cover),
         Question::WritePicture { picture, colour, out } => ask_written(*picture, colour, bytes, out),
