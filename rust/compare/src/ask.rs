@@ -1,9 +1,10 @@
 //! One case asked of the library, and of the reader.
 
+use crate::text;
 use generator::{scraps, Case, Kind, Question, Record};
 
 /// A refusal's number, place and record.
-type Refused = (u32, usize, usize);
+pub(crate) type Refused = (u32, usize, usize);
 
 /// An answer with all its effects.
 #[derive(Clone, Debug, PartialEq, Eq)]
@@ -24,6 +25,8 @@ pub struct Outcome {
     pub list: Vec<u16>,
     /// The records of an index afterwards.
     pub records: Vec<([u8; 8], u16)>,
+    /// The answers on a text's blocks, by number and from places on.
+    pub blocks: Vec<Result<Vec<i64>, Refused>>,
     /// The colour buffer afterwards, or what was written to: a lump, or the output of a picture, a reason, new NODES or an index.
     pub first: Vec<u8>,
     /// The cover buffer afterwards.
@@ -31,14 +34,14 @@ pub struct Outcome {
 }
 
 impl Outcome {
-    fn new(numbers: Result<Vec<i64>, Refused>) -> Self {
-        let (part, words, list, records, first, second) = Default::default();
-        Self { numbers, file: 0, compared: 0, printed: 0, part, words, list, records, first, second }
+    pub(crate) fn new(numbers: Result<Vec<i64>, Refused>) -> Self {
+        let (part, words, list, records, blocks, first, second) = Default::default();
+        Self { numbers, file: 0, compared: 0, printed: 0, part, words, list, records, blocks, first, second }
     }
 }
 
 macro_rules! asker {
-    ($(#[$about:meta])* $name:ident, $side:ident, $judge_map:ident, $why:ident, $renumber:ident, $differences:ident, $index_build:ident,
+    ($(#[$about:meta])* $name:ident, $side:ident, $texts:ident, $judge_map:ident, $why:ident, $renumber:ident, $differences:ident, $index_build:ident,
      $draw_order:ident, $pair_judge_map:ident, $write_picture:ident, $part:expr, $pair_part:expr) => {
         $(#[$about])*
         pub fn $name(case: &Case) -> Outcome {
@@ -143,6 +146,7 @@ macro_rules! asker {
                     (0..*times).for_each(|_| scraps(bytes, lengths).for_each(|scrap| sidedefs.feed(scrap)));
                     Outcome::new(sidedefs.verdict().map(|()| Vec::new()).map_err(refused))
                 }
+                Question::Text { places, namespace } => text::asked::<text::$texts>(bytes, places, *namespace),
                 Question::JudgePicture => Outcome::new($side::judge_picture(bytes).map(|it| picture!(it)).map_err(refused)),
                 Question::PaintPicture { colour, cover } => {
                     let (mut colour, mut cover) = (colour.clone(), cover.clone());
@@ -250,7 +254,7 @@ macro_rules! write {
 
 asker! {
     /// Asks the proved library.
-    ask_library, meshpigeon, judge_map_with, why_with, renumber_with, differences_with, index_build_with, draw_order_with, pair_judge_map_with,
+    ask_library, meshpigeon, Library, judge_map_with, why_with, renumber_with, differences_with, index_build_with, draw_order_with, pair_judge_map_with,
     write_picture_with,
     |bytes, number| meshpigeon::lump(bytes, number).unwrap_or_default().to_vec(),
     |base, patch, name| meshpigeon::pair_lump(base, patch, name).map_or_else(|_| Vec::new(), |lump| lump.bytes.to_vec())
@@ -258,7 +262,7 @@ asker! {
 
 asker! {
     /// Asks the independent reader.
-    ask_reader, reader, judge_map, why, renumber, differences, index_build, draw_order, pair_judge_map, write_picture,
+    ask_reader, reader, Reader, judge_map, why, renumber, differences, index_build, draw_order, pair_judge_map, write_picture,
     |bytes, number| reader::lump(bytes, number).to_vec(),
     |base, patch, name| reader::pair_lump(base, patch, name).to_vec()
 }

@@ -10,9 +10,11 @@ mod index;
 mod reason;
 mod renumber;
 mod stream;
+mod text;
 
 pub use ask::{ask_library, ask_reader, Outcome};
 pub use stream::{fed, judged, stepped};
+pub use text::without_places;
 
 use generator::{Case, Expected, Question};
 use reader::{DifferenceFile, DifferenceRefusal, PairFile, PairRefusal};
@@ -31,7 +33,8 @@ pub fn fault(case: &Case) -> Option<String> {
         .or_else(|| reason::fault(case, &library))
         .or_else(|| renumber::fault(case, &library))
         .or_else(|| differences::fault(case, &library))
-        .or_else(|| index::fault(case, &library));
+        .or_else(|| index::fault(case, &library))
+        .or_else(|| text::fault(case, &library));
     if let Some(words) = more {
         return Some(words);
     }
@@ -57,6 +60,11 @@ pub fn fault(case: &Case) -> Option<String> {
             (&library.numbers, library.compared) == (&entry, it.compared)
         }
         Expected::Differences(it) => is_of_two(&library, it),
+        Expected::Text(it) => {
+            let counts = it.counts.iter().map(|&count| count as i64);
+            let places = [it.namespace.start as i64, it.namespace.end as i64];
+            library.numbers == Ok(places.into_iter().chain(counts).collect())
+        }
         Expected::PairEntry(it) => is_of_pair(&library, it.map(|it| (it.file, vec![it.offset as i64, it.size as i64]))),
         Expected::PairMap(it) => is_of_pair(&library, it.map(|it| (it.file, vec![it.map.depth as i64, it.map.marker as i64]))),
     };

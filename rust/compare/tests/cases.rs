@@ -1,7 +1,9 @@
 //! Library and reader on generated cases: 200,000 by default, any number by MESHPIGEON_CASES, from MESHPIGEON_SEED.
 
 use compare::fault;
-use generator::{all_picture_damages, case, differences_case, every_second, index_case, limits, renumber_case, shrink, why_case};
+use generator::{
+    all_picture_damages, case, differences_case, every_second, index_case, limits, renumber_case, shrink, text_case, why_case,
+};
 use generator::{with_index, with_order, with_other, with_reason, Canvas, Case, Question, Rng};
 use std::env;
 use std::thread;
@@ -65,6 +67,11 @@ fn differences_of_generated_maps_agree() {
 #[test]
 fn indexes_of_generated_files_agree() {
     hold_all(|seed, index| index_case(&mut Rng::of_case(seed, index)));
+}
+
+#[test]
+fn generated_texts_agree() {
+    hold_all(|seed, index| text_case(&mut Rng::of_case(seed, index)));
 }
 
 /// Whatever a file is asked at a limit, its index is built, checked or looked into too.
