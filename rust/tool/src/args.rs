@@ -97,6 +97,13 @@ pub enum Command {
         /// The count of sectors, good or not.
         sectors: usize,
     },
+    /// Print a text map.
+    Text {
+        /// The file.
+        file: OsString,
+        /// The map's name as given.
+        map: OsString,
+    },
     /// Say what changed between two files' maps.
     Diff {
         /// The old file.
@@ -165,7 +172,7 @@ struct Parts {
 }
 
 /// What may be asked for.
-const COMMANDS: &str = "judge, list, index, descend, order, picture, encode, sidedefs, renumber or diff";
+const COMMANDS: &str = "judge, list, index, descend, order, picture, encode, sidedefs, renumber, diff or text";
 
 /// Takes the arguments after the program's name apart.
 pub fn parse(arguments: Vec<OsString>) -> Result<Request, Misuse> {
@@ -193,6 +200,7 @@ pub fn parse(arguments: Vec<OsString>) -> Result<Request, Misuse> {
         Some("sidedefs") => sidedefs(&parts),
         Some("diff") => diff(&parts),
         Some("renumber") => renumber(&parts),
+        Some("text") => text(&parts),
         _ => misuse(format!("'{}' is no command: {COMMANDS}", shown(&name))),
     }?;
     fits(&name, &parts)?;
@@ -334,6 +342,11 @@ fn index(parts: &Parts) -> Result<Command, Misuse> {
         (None, Some(index)) => Ok(Command::Index { file, task: IndexTask::Check(index) }),
         _ => misuse(needs),
     }
+}
+
+fn text(parts: &Parts) -> Result<Command, Misuse> {
+    let [file, map] = words(parts, "text needs FILE MAP")?;
+    Ok(Command::Text { file, map })
 }
 
 fn descend(parts: &Parts) -> Result<Command, Misuse> {

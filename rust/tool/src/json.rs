@@ -29,6 +29,16 @@ impl Object {
         self.member(key, value.into().map(|count| count.to_string()))
     }
 
+    /// A decimal.
+    pub fn decimal(self, key: &str, value: f64) -> Self {
+        self.member(key, Some(value.to_string()))
+    }
+
+    /// True or false.
+    pub fn flag(self, key: &str, value: bool) -> Self {
+        self.member(key, Some(value.to_string()))
+    }
+
     /// A list of numbers.
     pub fn numbers<N: ToString>(self, key: &str, values: &[N]) -> Self {
         let values: Vec<String> = values.iter().map(N::to_string).collect();
@@ -98,6 +108,12 @@ mod tests {
         assert_eq!(object.close(), r#"{"some":[3,0,65535],"none":[]}"#);
         let object = Object::new().objects("some", Some(vec![Object::new(), Object::new().count("a", 1)])).objects("none", None);
         assert_eq!(object.close(), r#"{"some":[{},{"a":1}],"none":null}"#);
+    }
+
+    #[test]
+    fn decimals_and_flags_are_plain() {
+        let object = Object::new().decimal("a", -0.0).decimal("b", 64.0).decimal("c", 1e-6).flag("d", true).flag("e", false);
+        assert_eq!(object.close(), r#"{"a":-0,"b":64,"c":0.000001,"d":true,"e":false}"#);
     }
 
     #[test]

@@ -4,11 +4,15 @@ use crate::finding::Finding;
 use crate::name;
 use crate::pair::{Base, Judged, Lent, Opened};
 use crate::report::Report;
+use crate::text;
 use crate::verdict::{Outcome, Source, Subject, Verdict};
 use crate::wad::Wad;
 use crate::why::Why;
 use meshpigeon::{Accepted, Node, Refusal, Subsector};
 use std::ffi::{OsStr, OsString};
+
+/// What the library says of a map whose marker THINGS does not follow.
+const NO_THINGS: Refusal = Refusal { number: 12, place: 1, record: 0 };
 
 /// Judges the named maps of each file, or all of them where none is named; over a base, those of the pair.
 pub fn run(files: &[OsString], base: Option<&OsStr>, maps: &[OsString], report: &mut Report) {
@@ -38,10 +42,13 @@ fn judge_file(file: &OsStr, opened: &Opened, asked: &[Vec<u8>], lent: &mut Lent,
     }
 }
 
-/// The verdict on a map of a file, with its reason.
+/// The verdict on a map of a file, with its reason; of a text map, on its grammar alone.
 pub fn verdict(file: &str, opened: &Opened, map: &[u8], lent: &mut Lent) -> Verdict {
     let Judged { source, verdict, reason } = opened.judge(map, lent);
     let wad = opened.wad(source);
+    if let (Err(NO_THINGS), Some(text)) = (verdict, wad.textmap(map)) {
+        return text::verdict(file, map, source, text);
+    }
     let why = Why::of(reason, verdict.err(), wad, map);
     let outcome = outcome_of(wad, map, verdict);
     let game = if outcome.has_lumps() { wad.game(map) } else { None };

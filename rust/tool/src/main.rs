@@ -31,7 +31,10 @@ mod record;
 mod renumber;
 mod report;
 mod sidedefs;
+mod spot;
 mod svg;
+mod text;
+mod text_fields;
 mod verdict;
 mod wad;
 mod why;
@@ -70,6 +73,7 @@ fn run(request: &Request, report: &mut Report) {
         }
         Command::Encode { image, palette, offset, output } => encode::run(image, palette.as_deref(), *offset, output, report),
         Command::Sidedefs { sectors } => sidedefs::run(*sectors, report),
+        Command::Text { file, map } => text::run(file, map, report),
         Command::Diff { old, new, maps, records } => diff::run(old, new, maps, *records, report),
         Command::Index { file, task: IndexTask::Write(output) } => index::write(file, output, report),
         Command::Index { file, task: IndexTask::Check(index) } => index::check(file, index, report),

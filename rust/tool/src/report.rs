@@ -38,6 +38,7 @@ struct Tally {
     maps_accepted: usize,
     maps_refused: usize,
     maps_absent: usize,
+    texts_good: usize,
     files_refused: usize,
     files_without: usize,
     files_unread: usize,
@@ -126,7 +127,7 @@ impl Report {
 
     /// One line over all, where there were several files or maps.
     pub fn summary(&mut self, files: usize) {
-        let maps = self.tally.maps_accepted + self.tally.maps_refused + self.tally.maps_absent;
+        let maps = self.tally.maps_accepted + self.tally.maps_refused + self.tally.maps_absent + self.tally.texts_good;
         if !self.json && !self.quiet && (files > 1 || maps > 1) {
             self.text(&format!("{}: {}", counted(files, "file"), self.tally.words()));
         }
@@ -150,6 +151,7 @@ impl Report {
             (Outcome::Refused(..), Subject::File) => self.tally.files_refused += 1,
             (Outcome::Refused(refusal, _), _) if refusal.number == NOT_THERE => self.tally.maps_absent += 1,
             (Outcome::Refused(..), _) => self.tally.maps_refused += 1,
+            (Outcome::Text(_), _) => self.tally.texts_good += 1,
             (Outcome::NoMap, _) => self.tally.files_without += 1,
         }
         if verdict.is_refusal() {
@@ -164,6 +166,7 @@ impl Tally {
             (self.maps_accepted, "map", "accepted"),
             (self.maps_refused, "map", "refused"),
             (self.maps_absent, "map", "not there"),
+            (self.texts_good, "text map", "of good grammar"),
             (self.files_refused, "file", "refused"),
             (self.files_without, "file", "without a map"),
             (self.files_unread, "file", "not read"),

@@ -3,6 +3,8 @@
 use crate::finding::Finding;
 use crate::json::Object;
 use crate::name::shown;
+use crate::spot::Spot;
+use crate::text::Summary;
 use crate::why::Why;
 use meshpigeon::{Accepted, PairFile, PairRefusal, Refusal};
 
@@ -85,6 +87,8 @@ pub enum Outcome {
     Accepted(Accepted, usize, usize),
     /// A refusal, and what was found where it is about a number.
     Refused(Refusal, Option<Finding>),
+    /// A text map of good grammar, whose geometry nobody judged.
+    Text(Summary),
     /// The file is good and has no map.
     NoMap,
 }
@@ -101,7 +105,7 @@ impl Outcome {
         match self {
             Self::Accepted(..) => true,
             Self::Refused(refusal, _) => refusal.number >= LUMPS_ARE_THERE,
-            Self::NoMap => false,
+            Self::Text(_) | Self::NoMap => false,
         }
     }
 }
@@ -133,10 +137,13 @@ impl Verdict {
             Outcome::Accepted(..) => self.text().replacen("accepted", &painted("accepted", 32, colour), 1),
             Outcome::Refused(refusal, _) => {
                 let refused = painted(&format!("refused {}", refusal.number), 31, colour);
-                let at = refusal.whereabouts().map_or(String::new(), |place| format!(" at {place}"));
-                format!("{refused}{at}{}: {}", self.notes(), self.text())
+                let spot = self.spot();
+                let place = spot.map(Spot::place).or_else(|| refusal.whereabouts());
+                let at = place.map_or(String::new(), |place| format!(" at {place}"));
+                let below = spot.map(Spot::below).unwrap_or_default();
+                format!("{refused}{at}{}: {}{below}", self.notes(), self.text())
             }
-            Outcome::NoMap => self.text(),
+            Outcome::Text(_) | Outcome::NoMap => self.text(),
         };
         format!("{}: {outcome}", self.heading())
     }
@@ -150,7 +157,8 @@ impl Verdict {
         };
         let (refusal, found, accepted) = match &self.outcome {
             Outcome::Accepted(accepted, ..) => (None, None, Some(accepted)),
-            Outcome::Refused(refusal, found) => (Some(refusal), *found, None),
+            Outcome::Refused(refusal, found) => (Some(refusal), found.map(Finding::json), None),
+            Outcome::Text(summary) => (None, Some(summary.json()), None),
             Outcome::NoMap => (None, None, None),
         };
         let named = refusal.and_then(Refusal::lump);
@@ -159,9 +167,9 @@ impl Verdict {
             .text("map", map)
             .number("number", refusal.map(|it| i64::from(it.number)).or(accepted.map(|_| 0)))
             .count("place", refusal.filter(|_| named.is_some()).map(|it| it.place))
-            .text("lump", named.or(lump))
+            .text("lump", named.or(lump).or(self.spot().map(|_| "TEXTMAP")))
             .count("record", refusal.filter(|it| it.names_record()).map(|it| it.record))
-            .object("found", found.map(Finding::json))
+            .object("found", found)
             .object("reason", self.why.as_ref().map(Why::json))
             .count("depth", accepted.map(|it| it.depth))
             .count("marker", accepted.map(|it| it.marker))
@@ -169,6 +177,14 @@ impl Verdict {
             .text("from", self.source.name())
             .text("text", self.text().as_str())
             .close()
+    }
+
+    /// Where a text map is wrong.
+    fn spot(&self) -> Option<&Spot> {
+        match &self.why {
+            Some(Why::Spot(spot)) => Some(spot),
+            _ => None,
+        }
     }
 
     /// What was judged: `FILE`, `FILE:MAP01`.
@@ -212,6 +228,7 @@ impl Verdict {
                 None => self.sentence(*refusal),
             },
             Outcome::Refused(refusal, Some(found)) => format!("{}; {found}", self.sentence(*refusal)),
+            Outcome::Text(summary) => format!("{}{}", summary.words(), self.notes()),
             Outcome::NoMap => "no map".to_string(),
         }
     }

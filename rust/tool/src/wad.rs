@@ -11,6 +11,9 @@ use std::ops::Range;
 /// The smallest good file: a header, and no entry.
 const EMPTY: &[u8; 12] = b"PWAD\0\0\0\0\x0C\0\0\0";
 
+/// The lump that makes a map a text map, where it follows the marker.
+const TEXTMAP: &[u8] = b"TEXTMAP";
+
 /// Bytes of an entry, and where its parts begin.
 const ENTRY: usize = 16;
 const OFFSET: usize = 0;
@@ -144,6 +147,13 @@ impl Wad {
     /// The marker's entry number of the map of a name, if it is there.
     pub fn marker(&self, map: &[u8]) -> Option<usize> {
         meshpigeon::find_map(&self.bytes, map).marker.ok()
+    }
+
+    /// The TEXTMAP of the map of a name, if the map is there and is a text map.
+    pub fn textmap(&self, map: &[u8]) -> Option<&[u8]> {
+        let number = self.marker(map)? + 1;
+        let is_text = self.names().nth(number) == Some(TEXTMAP);
+        is_text.then(|| self.lump(number))
     }
 
     /// The game of the map of a name, if it is there.

@@ -2,6 +2,7 @@
 
 use crate::field::Offender;
 use crate::json::Object;
+use crate::spot::Spot;
 use crate::verdict::{counted, Game};
 use crate::wad::Wad;
 use meshpigeon::{Choice, Field, Node, Reason, Refusal};
@@ -21,6 +22,8 @@ pub enum Why {
     Loop(Vec<Choice>, usize),
     /// Accepted: the deepest route.
     Route(Vec<Choice>),
+    /// 90 to 93: where in a text map.
+    Spot(Spot),
 }
 
 impl Why {
@@ -50,7 +53,7 @@ impl Why {
         match self {
             Self::Field(_, _, said) => said.clone(),
             Self::Loop(way, node) => format!("{sentence}; from the root {}: node {node} comes a second time", spoken(way)),
-            Self::Route(_) => sentence,
+            Self::Route(_) | Self::Spot(_) => sentence,
         }
     }
 
@@ -65,6 +68,7 @@ impl Why {
             }
             Self::Loop(way, node) => object.text("way", letters(way).as_str()).count("node", *node),
             Self::Route(route) => object.text("route", letters(route).as_str()),
+            Self::Spot(spot) => spot.json(),
         }
     }
 }

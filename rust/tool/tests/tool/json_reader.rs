@@ -1,10 +1,12 @@
-//! A small reader of JSON objects: numbers, strings, null, and objects and lists in them.
+//! A small reader of JSON objects: numbers, strings, true, false, null, and objects and lists in them.
 
 /// A member's value.
 #[derive(Clone, Debug, PartialEq)]
 pub enum Value {
     Null,
     Number(i64),
+    Decimal(f64),
+    Flag(bool),
     Text(String),
     Object(Members),
     List(Vec<Value>),
@@ -56,6 +58,9 @@ fn value(rest: &mut Rest) -> Value {
     }
     match word.as_str() {
         "null" => Value::Null,
+        "true" => Value::Flag(true),
+        "false" => Value::Flag(false),
+        decimal if decimal.contains('.') => Value::Decimal(decimal.parse().expect("a decimal")),
         number => Value::Number(number.parse().expect("a number")),
     }
 }

@@ -20,5 +20,6 @@ mod renumber;
 mod samples;
 mod sidedefs;
 mod support;
+mod text;
 mod usage;
 mod why;
