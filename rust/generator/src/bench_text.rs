@@ -18,25 +18,25 @@ pub fn text_of_assignments(n: usize) -> Vec<u8> {
     text
 }
 
-/// The same assignments in one block, a vertex: its coordinates come at the end.
+/// The same assignments in one block, a linedef, which has what it must have at its end.
 pub fn text_of_one_block(n: usize) -> Vec<u8> {
-    let mut text = b"vertex{".to_vec();
+    let end = b"v1=1;v2=2;sidefront=3;}\n";
+    let mut text = b"linedef{".to_vec();
     assignments(&mut text, n);
-    text.truncate(text.len() - 17);
-    text.extend_from_slice(b"x=1.25;y=-20.5;}\n");
+    text.truncate(text.len() - end.len());
+    text.extend_from_slice(end);
     text
 }
 
-/// Lines of 16 bytes with a remainder at the end.
+/// A quarter of a million lines of 16 bytes for each part, and blanks behind them.
 fn assignments(text: &mut Vec<u8>, n: usize) {
     for at in 0..n * 250_000 {
-        text.extend_from_slice(b"v");
-        text.extend_from_slice(format!("{:04} = {:<6};\n", at % 10_000, at).as_bytes());
+        text.extend_from_slice(format!("v{:04} = {at:<6};\n", at % 10_000).as_bytes());
     }
     text.resize(quarters(n), b' ');
 }
 
-/// Blocks of all five kinds in turn, 65,535 of each at the most: a fifth of them for each part of four.
+/// Blocks of all five kinds in turn, together as many as there may be of one kind.
 pub fn text_of_blocks(n: usize) -> Vec<u8> {
     let mut text = String::from("namespace = \"Doom\";\n");
     for at in 0..MOST_BLOCKS * n / 4 / 5 {
@@ -104,15 +104,17 @@ fn put_thing(text: &mut String, at: usize) {
 
 /// Nothing but comments, of both forms.
 pub fn text_of_comments(n: usize) -> Vec<u8> {
-    let mut text = b"/* a comment * of some words */\n// and one to the line's end; =\n".repeat(quarters(n) / 64);
+    let comments = b"/* a comment * of some words */\n// and one to the line's end; =\n";
+    let mut text = comments.repeat(quarters(n) / comments.len());
     text.resize(quarters(n), b' ');
     text
 }
 
 /// One string, with backslashes in it.
 pub fn text_of_one_string(n: usize) -> Vec<u8> {
+    let words = b"some words \\\" of it; ";
     let mut text = b"a = \"".to_vec();
-    text.extend(b"some words \\\" of it; ".repeat(quarters(n) / 22 - 2));
+    text.extend(words.repeat(quarters(n) / words.len() - 1));
     text.resize(quarters(n) - 2, b'z');
     text.extend_from_slice(b"\";");
     text

@@ -7,6 +7,7 @@ use generator::*;
 use reader::{descend, directory, draw_order, find_map, judge_map, judge_picture, map_game, Accepted, Found, Refusal, Search};
 use reader::{differences, index_build, index_check, index_find, IndexRecord, IndexSearch};
 use reader::{judge_sidedefs, pair_find, pair_judge_map, renumber, why, write_picture, PairFile, Picture};
+use reader::{text_linedef, text_map, text_vertex, Quoted, TextMap, TextVertex};
 
 #[test]
 fn both_sides_of_every_limit() {
@@ -207,4 +208,25 @@ fn halving_passes_one_node_a_level() {
         }
     }
     assert!(met.iter().all(|met| *met));
+}
+
+#[test]
+fn texts_of_a_benchmark_are_good_and_as_long_as_they_say() {
+    let summed = |text: &[u8]| text_map(text).map(|map| map.counts);
+    for n in [1, 4] {
+        let part = MOST_BYTES / 4 * n;
+        for text in [text_of_assignments(n), text_of_comments(n), text_of_one_string(n), text_of_one_word(n)] {
+            assert_eq!((text_map(&text), text.len()), (Ok(TextMap { namespace: Quoted::default(), counts: [0; 5] }), part));
+        }
+        let one = text_of_one_block(n);
+        assert_eq!((summed(&one), one.len()), (Ok([0, 1, 0, 0, 0]), part));
+        assert_eq!(text_linedef(&one, 0).map(|(linedef, next)| (linedef.sidefront, next)), Ok((3, part - 1)));
+        assert_eq!(one.iter().filter(|&&byte| byte == b'=').count(), 250_000 * n + 3);
+        assert_eq!(summed(&text_of_blocks(n)), Ok([65_535 * n / 4 / 5; 5]));
+        assert_eq!(summed(&text_of_vertices(n)), Ok([65_535 * n / 4, 0, 0, 0, 0]));
+    }
+    assert_eq!(text_vertex(&text_of_vertices(4), 65_534).map(|it| it.0), Ok(TextVertex { x: 32_640.0, y: -8_128.5 }));
+    let ordinary = ordinary_text(4);
+    assert!((300_000..900_000).contains(&ordinary.len()), "{}", ordinary.len());
+    assert_eq!(summed(&ordinary), Ok([2_000, 2_000, 2_500, 500, 1_000]));
 }

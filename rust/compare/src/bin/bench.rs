@@ -266,6 +266,57 @@ fn reader_lookup(input: &[u8]) -> usize {
     reader::index_find(wad, index, b"A0000\0\0\0").compared
 }
 
+/// How many blocks a text has in all.
+fn library_text(text: &[u8]) -> usize {
+    let map = meshpigeon::text::map(text).expect("a good text");
+    map.vertices + map.linedefs + map.sidedefs + map.sectors + map.things
+}
+
+fn reader_text(text: &[u8]) -> usize {
+    reader::text_map(text).expect("a good text").counts.iter().sum()
+}
+
+/// All blocks of a text in one pass: the sum of a number of each.
+fn library_blocks(text: &[u8]) -> usize {
+    use meshpigeon::text::{block, Kind, Linedef, Quoted, Sector, Sidedef, Thing, Vertex};
+    let (mut place, mut sum) = (0, 0);
+    while let Ok(it) = block(text, place) {
+        sum += match it.kind {
+            Kind::Vertex => Vertex::read_at(text, it.start).expect("a vertex").0.x as usize,
+            Kind::Linedef => Linedef::read_at(text, it.start, Quoted::default()).expect("a linedef").0.v1 as usize,
+            Kind::Sidedef => Sidedef::read_at(text, it.start).expect("a sidedef").0.sector as usize,
+            Kind::Sector => Sector::read_at(text, it.start).expect("a sector").0.lightlevel as usize,
+            Kind::Thing => Thing::read_at(text, it.start).expect("a thing").0.r#type as usize,
+        };
+        place = it.next;
+    }
+    sum
+}
+
+fn reader_blocks(text: &[u8]) -> usize {
+    let (mut place, mut sum) = (0, 0);
+    while let Ok(it) = reader::text_block(text, place) {
+        sum += match it.kind {
+            1 => reader::text_vertex_at(text, it.start).expect("a vertex").0.x as usize,
+            2 => reader::text_linedef_at(text, it.start, reader::Quoted::default()).expect("a linedef").0.v1 as usize,
+            3 => reader::text_sidedef_at(text, it.start).expect("a sidedef").0.sector as usize,
+            4 => reader::text_sector_at(text, it.start).expect("a sector").0.lightlevel as usize,
+            _ => reader::text_thing_at(text, it.start).expect("a thing").0.r#type as usize,
+        };
+        place = it.next;
+    }
+    sum
+}
+
+/// A vertex by its number; the whole text is read for it.
+fn library_numbered(text: &[u8]) -> usize {
+    meshpigeon::text::Vertex::read(text, 8_000).expect("a vertex").1
+}
+
+fn reader_numbered(text: &[u8]) -> usize {
+    reader::text_vertex(text, 8_000).expect("a vertex").1
+}
+
 /// The rows of one lump: in a map with little else, whose check is mostly this lump's; in one piece; and in scraps.
 const IN_A_MAP: &str = "65,535 sidedefs in a map";
 const IN_ONE_PIECE: &str = "65,535 sidedefs in one piece";
@@ -594,6 +645,31 @@ fn inputs() -> Vec<Input> {
             library: library_lookup,
             reader: reader_lookup,
         },
+        Input { name: "text map of ordinary size", sized: given::ordinary_text, library: library_text, reader: reader_text },
+        Input { name: "the same, all blocks read", sized: given::ordinary_text, library: library_blocks, reader: reader_blocks },
+        Input {
+            name: "text: a million assignments",
+            sized: given::text_of_assignments,
+            library: library_text,
+            reader: reader_text,
+        },
+        Input { name: "text: a block of a million", sized: given::text_of_one_block, library: library_text, reader: reader_text },
+        Input { name: "text: 65,535 blocks", sized: given::text_of_blocks, library: library_text, reader: reader_text },
+        Input {
+            name: "text: 65,535 blocks, all read",
+            sized: given::text_of_blocks,
+            library: library_blocks,
+            reader: reader_blocks,
+        },
+        Input {
+            name: "text: one of 65,535 vertices",
+            sized: given::text_of_vertices,
+            library: library_numbered,
+            reader: reader_numbered,
+        },
+        Input { name: "text: 16 MiB of comments", sized: given::text_of_comments, library: library_text, reader: reader_text },
+        Input { name: "text: a string of 16 MiB", sized: given::text_of_one_string, library: library_text, reader: reader_text },
+        Input { name: "text: a word of 16 MiB", sized: given::text_of_one_word, library: library_text, reader: reader_text },
         Input {
             name: "hostile BLOCKMAP of 16 MiB",
             sized: |n| given::hostile_blockmap_of(given::MOST_BYTES * n / 4),
