@@ -1,5 +1,5 @@
 //! The small files of samples/: one good map of each game, one whose names have rubbish behind them, one whose nodes turn back, one whose nodes
-//! are shared, one with a bad reference, one picture, and the image that it can be made of.
+//! are shared, one with a bad reference, one picture, the image that it can be made of, and one text map.
 
 use crate::name::length_of;
 use crate::{hexen_rooms, rooms, Content, EntryPlan, PictureSpec, Plan, Post, MAP_NAME};
@@ -29,6 +29,43 @@ const PAINTS: [(u8, u8, [u8; 3]); 8] = [
     (b' ', 0, [0, 0, 0]),
 ];
 
+/// A room of 256 by 128 with a player in it.
+const ROOM: &str = r#"namespace = "Doom";
+
+// One room.
+vertex { x = 0.0; y = 0.0; }
+vertex { x = 0.0; y = 128.0; }
+vertex { x = 256.0; y = 128.0; }
+vertex { x = 256.0; y = 0.0; }
+
+linedef { v1 = 0; v2 = 1; sidefront = 0; blocking = true; }
+linedef { v1 = 1; v2 = 2; sidefront = 1; blocking = true; }
+linedef { v1 = 2; v2 = 3; sidefront = 2; blocking = true; }
+linedef { v1 = 3; v2 = 0; sidefront = 3; blocking = true; }
+
+sidedef { sector = 0; texturemiddle = "STARTAN3"; }
+sidedef { sector = 0; texturemiddle = "STARTAN3"; }
+sidedef { sector = 0; texturemiddle = "STARTAN3"; }
+sidedef { sector = 0; texturemiddle = "STARTAN3"; comment = "the \"east\" wall"; }
+
+sector
+{
+    heightceiling = 128;
+    texturefloor = "FLOOR4_8";
+    textureceiling = "CEIL3_5";
+}
+
+thing
+{
+    x = 64.5;
+    y = 64;
+    type = 1;
+    skill1 = true; skill2 = true; skill3 = true; skill4 = true; skill5 = true;
+    single = true; coop = true;
+    user_note = "unknown names are skipped";
+}
+"#;
+
 /// All samples.
 pub fn samples() -> Vec<Sample> {
     vec![
@@ -40,6 +77,7 @@ pub fn samples() -> Vec<Sample> {
         ("reference.wad", bad_reference()),
         ("picture.wad", picture()),
         ("pigeon.pam", image()),
+        ("text.wad", text()),
     ]
 }
 
@@ -90,6 +128,17 @@ fn picture() -> Vec<u8> {
     plan.entries = vec![
         EntryPlan::new(*b"PLAYPAL\0", Content::Bytes(palette())),
         EntryPlan::new(*b"PIGEON\0\0", Content::Bytes(pigeon().encode())),
+    ];
+    plan.wad()
+}
+
+/// One room as a text map.
+fn text() -> Vec<u8> {
+    let mut plan = Plan::new(rooms(), MAP_NAME);
+    plan.entries = vec![
+        EntryPlan::new(MAP_NAME, Content::Bytes(Vec::new())),
+        EntryPlan::new(*b"TEXTMAP\0", Content::Bytes(ROOM.as_bytes().to_vec())),
+        EntryPlan::new(*b"ENDMAP\0\0", Content::Bytes(Vec::new())),
     ];
     plan.wad()
 }

@@ -9,8 +9,9 @@ fn folder() -> Folder {
 
 #[test]
 fn each_sample_is_what_its_name_says() {
-    let said = folder()
-        .run(&["judge", "accepted.wad", "hexen.wad", "leftover.wad", "loop.wad", "picture.wad", "reference.wad", "shared.wad"]);
+    let names =
+        ["accepted", "hexen", "leftover", "loop", "picture", "reference", "shared", "text"].map(|name| format!("{name}.wad"));
+    let said = folder().run(&[vec!["judge".to_string()], names.to_vec()].concat());
     let lines: Vec<&str> = said.out.lines().collect();
     assert_eq!(lines[0], format!("accepted.wad:MAP01: {GOOD}"));
     assert_eq!(lines[1], "hexen.wad:MAP01: accepted (Hexen), depth 2, 3 nodes, 4 subsectors");
@@ -19,7 +20,10 @@ fn each_sample_is_what_its_name_says() {
     assert_eq!(lines[4], "picture.wad: no map");
     assert!(lines[5].starts_with("reference.wad:MAP01: refused 23 at LINEDEFS 5: "), "{said:?}");
     assert!(lines[6].starts_with("shared.wad:MAP01: refused 32 at NODES: "), "{said:?}");
-    assert_eq!(lines[7..], ["7 files: 3 maps accepted, 3 maps refused, 1 file without a map"]);
+    let counts = "4 vertices, 4 linedefs, 4 sidedefs, 1 sector, 1 thing, namespace \"Doom\"; its geometry is not judged";
+    assert_eq!(lines[7], format!("text.wad:MAP01: a text map: its grammar is good, {counts}"));
+    let all = "8 files: 3 maps accepted, 3 maps refused, 1 text map of good grammar, 1 file without a map";
+    assert_eq!(lines[8..], [all]);
     assert_eq!((said.status, said.err.as_str()), (1, ""));
 }
 
