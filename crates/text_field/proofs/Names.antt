@@ -9,10 +9,10 @@ use native.Mathlib.Numerals.{add-one}
 use native.Mathlib.Omega.{arith}
 use lib.Dec.{eqb, ltb}
 use lib.ListN.{length}
-use Rattle.text_field.specs.Table.{table, entryAt, nameRoom, rowSize}
+use Rattle.text_field.specs.Table.{table}
 use Rattle.text_field.specs.declared.Scope.{Scope}
 use Rattle.text_field.specs.declared.Scope.the-variants.{Top, Vertex, Linedef, Sidedef, Sector, Thing, Unknown}
-use Rattle.text_field.specs.Names.{every, sameAt, isName, nameIn, firstRow, rowCount}
+use Rattle.text_field.specs.Names.{every, sameAt, longAs, isName, nameIn, firstRow, rowCount}
 
 pub not-not : (b : Bool) → not (not b) ≡ b
 not-not true = refl
@@ -59,8 +59,8 @@ module _ (test : ℕ → Bool) where
 -- a word with another letter
 pub name-other : (word : List ℕ) (exact : Bool) (i k : ℕ) → k < length word → sameAt word exact i k ≡ false → false ≡ isName word exact i
 name-other word exact i k h e =
-    let ends = ltb (length word) nameRoom && eqb (entryAt (rowSize * i + length word)) 32 in
-    sym (and-false ends) ∙ ap (λ (x : Bool). ends && x) (every-stop (sameAt word exact i) k (length word) h e)
+    let long = longAs i (length word) in
+    sym (and-false long) ∙ ap (λ (x : Bool). long && x) (every-stop (sameAt word exact i) k (length word) h e)
 
 module _ (word : List ℕ) (exact : Bool) (first k end : ℕ) where
   name-next : Bool → ℕ

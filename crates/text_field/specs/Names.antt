@@ -1,6 +1,6 @@
 -- A word among the known names (02, W-206): identifiers ignore the case of letters. Assumes nothing.
 use Prim.Native.Nat.{ℕ, zero, suc, _+_, _-_, _*_}
-use mathlib.Core.Bool.{Bool, true, false, _&&_, cond}
+use mathlib.Core.Bool.{Bool, true, false, not, _&&_, cond}
 use mathlib.Core.List.{List}
 use lib.Dec.{eqb, ltb}
 use lib.ListN.{length, getD}
@@ -22,10 +22,13 @@ letterAt word exact k = cond exact (getD word k 0) (lowerAt word k)
 abbrev pub sameAt : List ℕ → Bool → ℕ → ℕ → Bool
 sameAt word exact i k = eqb (letterAt word exact k) (entryAt (rowSize * i + k))
 
--- the word is the name of row `i`, which a space ends
+-- the name of row `i` has `n` letters: a space stands behind them, and is not the last of them
+abbrev pub longAs : ℕ → ℕ → Bool
+longAs i n = (ltb n nameRoom && eqb (entryAt (rowSize * i + n)) 32) && not (eqb (entryAt (rowSize * i + (n - 1))) 32)
+
+-- the word is the name of row `i`
 abbrev pub isName : List ℕ → Bool → ℕ → Bool
-isName word exact i =
-    (ltb (length word) nameRoom && eqb (entryAt (rowSize * i + length word)) 32) && every (sameAt word exact i) (length word)
+isName word exact i = longAs i (length word) && every (sameAt word exact i) (length word)
 
 -- which of the rows from `first` on has the word as its name, counted from 1, where `k` rows were passed and `n` are left; 0 for none
 unfoldable pub nameIn : List ℕ → Bool → ℕ → ℕ → ℕ → ℕ

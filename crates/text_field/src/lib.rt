@@ -1,7 +1,7 @@
 // The names that a text map knows, as one constant table, and a word's place in it (W-206). The definitions are in specs/.
 ghost use mathlib.Core.Bool.{cond};
 ghost use mathlib.Core.Path.{_≡_};
-ghost use Prim.Native.Nat.{_+_, _*_, _≤_, _<_};
+ghost use Prim.Native.Nat.{_+_, _-_, _*_, _≤_, _<_};
 ghost use lib.ListN.{length};
 ghost use Rattle.text_token.specs.Bytes.{lower};
 ghost use Rattle.text_field.specs.Table.{table, entryAt, holdsOf, defaultOf, isRequired, nameRoom, rowSize};
@@ -322,10 +322,28 @@ fn is_spelled(rows: &[u8], word: &[u8], exact: bool, i: usize) -> bool
     if NAME_ROOM <= word.len() {
         return false;
     }
-    if rows[ROW_SIZE * i + word.len()] != 32 {
+    if row_byte(rows, i, word.len()) != 32 {
+        return false;
+    }
+    if row_byte(rows, i, one_less(word.len())) == 32 {
         return false;
     }
     is_same(rows, word, exact, i)
+}
+
+// Byte `k` of row `i`.
+fn row_byte(rows: &[u8], i: usize, k: usize) -> u8
+    requires { ⌜ now rows ≡ table ⌝ }
+    requires { ⌜ (i < 91) × (k < 16) ⌝ }
+    ensures { λ r. ⌜ r ≡ entryAt (rowSize * i + k) ⌝ }
+{
+    rows[ROW_SIZE * i + k]
+}
+
+fn one_less(n: usize) -> usize
+    ensures { λ r. ⌜ (r ≡ n - 1) × (r ≤ n) ⌝ }
+{
+    if n == 0 { 0 } else { n - 1 }
 }
 
 fn is_same(rows: &[u8], word: &[u8], exact: bool, i: usize) -> bool

@@ -16,8 +16,8 @@ use Rattle.text_value.specs.declared.Reading.the-variants.{NoValue}
 use Rattle.text_value.specs.Numbers.{zeroDigit, plusSign, minusSign, digitsFrom, digitsEnd, hexOk, hexEnd, smallX, wholeOk, decimalOk, isSign, behindSign}
 use Rattle.text_value.specs.Values.{isTrue, isFalse, wholeRead, digitsRead, numberRead, wordRead}
 use Rattle.text_field.specs.declared.Scope.{Scope}
-use Rattle.text_field.specs.Table.{entryAt, rowSize, nameRoom}
-use Rattle.text_field.specs.Names.{every, isName, nameIn, firstRow, rowCount, fieldNamed, kindNamed, scopeOf, kindRows}
+use Rattle.text_field.specs.Table.{entryAt, rowSize}
+use Rattle.text_field.specs.Names.{every, longAs, isName, nameIn, firstRow, rowCount, fieldNamed, kindNamed, scopeOf, kindRows}
 use Rattle.text_reader.specs.Steps.{identifierOk}
 use Rattle.text_same.specs.Tokens.{SameLetters}
 use Rattle.text_same.proofs.Readings.{cond-both, SameReading, same-flag, same-none}
@@ -25,8 +25,7 @@ use Rattle.text_same.proofs.Readings.{cond-both, SameReading, same-flag
 -- the same name of the table
 module _ {v w : List ℕ} (s : SameLetters v w) where
   is-name : (i : ℕ) → isName v false i ≡ isName w false i
-  is-name i =
-      λ j. (ltb (s .long j) nameRoom && eqb (entryAt (rowSize * i + s .long j)) 32) && every (λ k. eqb (s .letters k j) (entryAt (rowSize * i + k))) (s .long j)
+  is-name i = λ j. longAs i (s .long j) && every (λ k. eqb (s .letters k j) (entryAt (rowSize * i + k))) (s .long j)
 
   name-in : (first passed n : ℕ) → nameIn v false first passed n ≡ nameIn w false first passed n
   unfolding nameIn
