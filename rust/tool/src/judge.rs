@@ -38,7 +38,11 @@ fn judge_file(file: &OsStr, opened: &Opened, asked: &[Vec<u8>], lent: &mut Lent,
         report.verdict(&Verdict::plain(file.to_string(), subject, Source::File, outcome));
     }
     for map in maps {
-        report.verdict(&verdict(&file, opened, &map, lent));
+        let verdict = verdict(&file, opened, &map, lent);
+        report.verdict(&verdict);
+        if verdict.is_text() {
+            report.unjudged();
+        }
     }
 }
 

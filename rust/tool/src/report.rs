@@ -62,10 +62,15 @@ impl Report {
         self.worsen(DIFFERS);
     }
 
-    /// A verdict.
+    /// A map whose geometry nobody judged: it may not pass for an accepted one.
+    pub fn unjudged(&mut self) {
+        self.worsen(self.refused);
+    }
+
+    /// A verdict. Of a quiet report only what was accepted, or is no map, is left out.
     pub fn verdict(&mut self, verdict: &Verdict) {
         self.count(verdict);
-        if self.quiet && !verdict.is_refusal() {
+        if self.quiet && !verdict.is_refusal() && !verdict.is_text() {
             return;
         }
         let line = if self.json { verdict.json() } else { verdict.line(self.colour) };

@@ -126,6 +126,11 @@ impl Verdict {
         Self::plain(file.to_string(), Subject::Map(map), Source::File, Outcome::Refused(refusal, None))
     }
 
+    /// Whether it is on a text map of good grammar.
+    pub fn is_text(&self) -> bool {
+        matches!(self.outcome, Outcome::Text(_))
+    }
+
     /// Whether it is a refusal.
     pub fn is_refusal(&self) -> bool {
         matches!(self.outcome, Outcome::Refused(..))

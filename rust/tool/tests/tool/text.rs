@@ -78,15 +78,15 @@ fn json_has_every_field() {
 #[test]
 fn judge_says_that_a_text_map_is_one() {
     let folder = with(SQUARE).and("b.wad", &good());
-    folder.run(&["judge", "a.wad"]).is(0, &[SUMMARY]);
+    folder.run(&["judge", "a.wad"]).is(1, &[SUMMARY]);
     let doom = format!("b.wad:MAP01: {GOOD}");
     let all = "2 files: 1 map accepted, 1 text map of good grammar";
-    folder.run(&["judge", "a.wad", "b.wad"]).is(0, &[SUMMARY, &doom, all]);
-    folder.run(&["judge", "--quiet", "a.wad", "b.wad"]).is(0, &[]);
+    folder.run(&["judge", "a.wad", "b.wad"]).is(1, &[SUMMARY, &doom, all]);
+    folder.run(&["judge", "--quiet", "a.wad", "b.wad"]).is(1, &[SUMMARY]);
     let said = folder.run(&["judge", "--base", "a.wad", "b.wad", "--map", "MAP01"]);
     assert!(said.out.starts_with("b.wad:MAP01: accepted (of the patch)"), "{said:?}");
     let said = folder.run(&["judge", "--base", "b.wad", "a.wad"]);
-    said.is(0, &[&format!("{SUMMARY} (of the patch)")]);
+    said.is(1, &[&format!("{SUMMARY} (of the patch)")]);
 }
 
 /// The lines that are said of a refused text, by both commands.
