@@ -3,6 +3,7 @@
 use Prim.Native.Nat.{ℕ, _+_, _*_, _<_}
 use mathlib.Core.List.{List}
 use mathlib.Core.Path.{_≡_, refl, sym, _∙_, subst}
+use native.Mathlib.Omega.{arith}
 use lib.Dec.{leb}
 use lib.ListN.{length}
 use Rattle.refusal.specs.declared.Check.the-variants.{Pass}
@@ -11,14 +12,13 @@ use Rattle.refusal.specs.Checks.{unless, each}
 use Rattle.refusal.proofs.Checks.{andThen-pass, each-pass}
 use Rattle.picture.specs.Layout.{heightOf, tableEnd, columnOffset, startAt, lengthAt, postEnd, endRow}
 use Rattle.picture.specs.Judging.{postsCheck, columnCheck}
-use Rattle.picture.specs.Inner.{pastEmpty}
+use Rattle.picture.specs.Inner.{Over}
 use Rattle.canvas.specs.Pixels.{overPost, overPosts, overColumn}
 use Rattle.canvas.specs.Inner.{Stroke, Strokes, Both}
-use Rattle.picture.proofs.Inner.{past-holds}
+use Rattle.picture.proofs.Inner.{over-holds}
 use Rattle.picture.proofs.Posts.{pass-inside}
 use Rattle.canvas.proofs.Posts.{Next, next-of, posts-ended}
-use Rattle.canvas.proofs.Inner.{both-none, both-as, both-then, overFirst}
-use Rattle.canvas.proofs.Inner.{first-none, stroke-none, stroke-then, strokes-more}
+use Rattle.canvas.proofs.Inner.{both-none, both-as, both-then, overFirst, first-none, stroke-none, stroke-then, strokes-more}
 
 module _ (lump : List ℕ) (from width column : ℕ) where
   -- one plane, with `most` posts left to look at
@@ -82,15 +82,15 @@ module _ (lump : List ℕ) (from width column : ℕ) where
   post-empty : (by : ℕ → ℕ) (at : ℕ) → lengthAt lump at ≡ 0 → (row v : ℕ) → v ≡ overPost by lump at row v
   post-empty by at z row v = subst (λ (n : ℕ). v ≡ overFirst by lump at n row v) (sym z) (first-none by lump at row v)
 
-  pub painting-past : {colour₀ cover₀ colour cover : List ℕ} {row at to : ℕ} → (row ≡ 255 → ⊥)
-      → Painting colour₀ cover₀ colour cover at → to ≡ pastEmpty (length lump) lump row at
-      → Painting colour₀ cover₀ colour cover to
-  painting-past {colour₀} {cover₀} {colour} {cover} {row} {at} {to} n p e =
-      past-holds lump row (Painting colour₀ cover₀ colour cover)
+  pub painting-over : {colour₀ cover₀ colour cover : List ℕ} {at to : ℕ} → Painting colour₀ cover₀ colour cover at
+      → Over lump at to → Painting colour₀ cover₀ colour cover to
+  painting-over {colour₀} {cover₀} {colour} {cover} p o =
+      over-holds lump (Painting colour₀ cover₀ colour cover)
       (λ x post q.
-      painting-more q (λ k. n (sym (post .start) ∙ k)) refl
+      let next : x + 4 ≡ postEnd lump x = omega (arith, post .none) in
+      painting-more q (post .starts) next
       (both-none colour cover (λ by plane. stroke-none plane (post-empty by x (post .none)))))
-      at to e p
+      o p
 
 -- ---- columns
 

@@ -5,7 +5,7 @@ use mathlib.Core.List.{List}
 use mathlib.Core.Path.{_≡_}
 use lib.ListN.{length, getD, drop}
 use Rattle.picture.specs.Layout.{heightOf}
-use Rattle.canvas.specs.Pixels.{byColour, byCover}
+use Rattle.canvas.specs.Pixels.{byColour, byCover, overColumn}
 
 -- two planes that a picture with rows of `width` fits into
 pub record Room (lump : List ℕ) (width : ℕ) (colour cover : List ℕ) : Type 0 where
@@ -33,3 +33,7 @@ pub record Strokes (area width count : ℕ) (f : ℕ → ℕ → ℕ → ℕ) (o
 pub record Both (P : (ℕ → ℕ) → List ℕ → List ℕ → Type 0) (colour cover colour' cover' : List ℕ) : Type 0 where
   pub on-colour : P byColour colour colour'
   pub on-cover : P byCover cover cover'
+
+-- both planes with all columns of the picture painted
+abbrev pub AllColumns : List ℕ → ℕ → List ℕ → List ℕ → List ℕ → List ℕ → Type 0
+AllColumns lump width = Both (λ by. Strokes (heightOf lump * width) width width (overColumn by lump))

@@ -7,14 +7,15 @@ ghost use Rattle.refusal.specs.declared.Check.the-variants.{Pass};
 ghost use Rattle.refusal.specs.Checks.{_andThen_, each};
 ghost use Rattle.picture.specs.Layout.{heightOf, postEnd, endRow};
 ghost use Rattle.picture.specs.Judging.{pictureHeaderCheck, postsCheck, columnCheck};
+ghost use Rattle.picture.specs.Inner.{Notes, Block};
 ghost use Rattle.canvas.specs.Buffers.{roomCheck, paintCheck};
 ghost use Rattle.layout.specs.Buffers.{bufferAfter};
-ghost use Rattle.canvas.specs.Pixels.{Painted, byColour, byCover, overPost, overPosts, overColumn, planeOf};
-ghost use Rattle.canvas.specs.Inner.{Room, Stroke, Strokes, Both};
+ghost use Rattle.canvas.specs.Pixels.{Painted, byColour, byCover, overPost, overPosts, planeOf};
+ghost use Rattle.canvas.specs.Inner.{Room, Stroke, Both, AllColumns};
 use picture::PictureVerdict;
 use picture::height_of;
 use picture::judge_header;
-use picture::skip_empty;
+use picture::skip_posts;
 use picture::width_of;
 use refusal::Check;
 use refusal::Refusal;
@@ -70,15 +71,46 @@ fn clear(plane: &mut [u8], count: usize)
     }
 }
 
-// Paints every column.
+// Paints every column. A short lump has few slots for notes, and to clear more would take longer than to paint it.
 fn paint_columns(lump: &[u8], width: usize, colour: &mut [u8], cover: &mut [u8])
     requires { ⌜ (8 + 4 * width ≤ length (now lump)) × (each (columnCheck (now lump) width (heightOf (now lump))) width ≡ Pass) ⌝ }
     requires { ⌜ Room (now lump) width (now colour) (now cover) ⌝ }
-    ensures { λ _. ⌜ Both (λ by. Strokes (heightOf (now (lump .entry)) * width) width width (overColumn by (now (lump .entry)))) (now (colour .entry)) (now (cover .entry)) (now (colour .exit)) (now (cover .exit)) ⌝ }
+    ensures { λ _. ⌜ AllColumns (now (lump .entry)) width (now (colour .entry)) (now (cover .entry)) (now (colour .exit)) (now (cover .exit)) ⌝ }
+{
+    if lump.len() <= 65536 {
+        paint_short(lump, width, colour, cover);
+        return;
+    }
+    paint_long(lump, width, colour, cover);
+}
+
+fn paint_short(lump: &[u8], width: usize, colour: &mut [u8], cover: &mut [u8])
+    requires { ⌜ (8 + 4 * width ≤ length (now lump)) × (each (columnCheck (now lump) width (heightOf (now lump))) width ≡ Pass) ⌝ }
+    requires { ⌜ Room (now lump) width (now colour) (now cover) ⌝ }
+    ensures { λ _. ⌜ AllColumns (now (lump .entry)) width (now (colour .entry)) (now (cover .entry)) (now (colour .exit)) (now (cover .exit)) ⌝ }
+{
+    let mut notes = [0u8; 256];
+    paint_each(lump, width, colour, cover, &mut notes);
+}
+
+fn paint_long(lump: &[u8], width: usize, colour: &mut [u8], cover: &mut [u8])
+    requires { ⌜ (8 + 4 * width ≤ length (now lump)) × (each (columnCheck (now lump) width (heightOf (now lump))) width ≡ Pass) ⌝ }
+    requires { ⌜ Room (now lump) width (now colour) (now cover) ⌝ }
+    ensures { λ _. ⌜ AllColumns (now (lump .entry)) width (now (colour .entry)) (now (cover .entry)) (now (colour .exit)) (now (cover .exit)) ⌝ }
+{
+    let mut notes = [0u8; 65536];
+    paint_each(lump, width, colour, cover, &mut notes);
+}
+
+fn paint_each(lump: &[u8], width: usize, colour: &mut [u8], cover: &mut [u8], notes: &mut [u8])
+    requires { ⌜ (8 + 4 * width ≤ length (now lump)) × (each (columnCheck (now lump) width (heightOf (now lump))) width ≡ Pass) ⌝ }
+    requires { ⌜ Room (now lump) width (now colour) (now cover) ⌝ }
+    requires { ⌜ Notes (Block (now lump)) (now notes) ⌝ }
+    ensures { λ _. ⌜ AllColumns (now (lump .entry)) width (now (colour .entry)) (now (cover .entry)) (now (colour .exit)) (now (cover .exit)) ⌝ }
 {
     for column in 0..width {
         let offset = endian::u32_at(lump, 8 + 4 * column) as usize;
-        paint_posts(lump, offset, width, column, colour, cover);
+        paint_posts(lump, offset, width, column, colour, cover, notes);
     }
 }
 
@@ -90,10 +122,13 @@ fn paint_posts(
     column: usize,
     colour: &mut [u8],
     cover: &mut [u8],
+    notes: &mut [u8],
 )
     requires { ⌜ (column < width) × (postsCheck (length (now lump)) (now lump) (heightOf (now lump)) column from 0 ≡ Pass) ⌝ }
     requires { ⌜ Room (now lump) width (now colour) (now cover) ⌝ }
+    requires { ⌜ Notes (Block (now lump)) (now notes) ⌝ }
     ensures { λ _. ⌜ Both (λ by. Stroke (heightOf (now (lump .entry)) * width) width column (overPosts by (length (now (lump .entry))) (now (lump .entry)) from)) (now (colour .entry)) (now (cover .entry)) (now (colour .exit)) (now (cover .exit)) ⌝ }
+    ensures { λ _. ⌜ Notes (Block (now (lump .entry))) (now (notes .exit)) ⌝ }
 {
     let mut at = from;
     loop {
@@ -102,7 +137,7 @@ fn paint_posts(
             return;
         }
         let next = paint_post(lump, at, width, column, colour, cover);
-        at = skip_empty(lump, next, start);
+        at = skip_posts(lump, next, start, notes);
     }
 }
 

@@ -3,14 +3,14 @@
 use Prim.Native.Nat.{ℕ, zero, suc, _+_, _≤_}
 use mathlib.Core.Bool.{Bool, true, false, _&&_, cond}
 use mathlib.Core.List.{List}
-use mathlib.Core.Path.{_≡_, refl, sym, subst}
+use mathlib.Core.Path.{_≡_, refl, sym, ap, _∙_, subst}
 use native.Mathlib.Omega.{arith}
 use borrow.Author.Tests.{eq-eqb, eqb-true, le-leb, leb-true}
 use lib.Dec.{leb, eqb}
 use lib.ListN.{length}
 use Rattle.refusal.proofs.Checks.{both}
 use Rattle.picture.specs.Layout.{startAt, lengthAt, postEnd}
-use Rattle.picture.specs.Inner.{emptyAt, pastEmpty}
+use Rattle.picture.specs.Inner.{emptyAt, pastEmpty, Stepped, NoPixels, Over, here, past}
 
 module _ (lump : List ℕ) (row : ℕ) where
   -- a post of length 0 at `row`
@@ -28,38 +28,25 @@ module _ (lump : List ℕ) (row : ℕ) where
 
   -- ---- a loop over them
 
-  -- the posts from `at` on decide where it ends
-  pub record Past (at end : ℕ) : Type 0 where
-    pub most : ℕ
-    pub enough : length lump ≤ at + most
-    pub same : pastEmpty most lump row at ≡ end
-
-  pub past-first : (from : ℕ) → Past from (pastEmpty (length lump) lump row from)
-  past-first from = record { most = length lump; enough = omega arith; same = refl }
-
-  more : (at end most : ℕ) → length lump ≤ at + most → pastEmpty most lump row at ≡ end → Empty at → Past (at + 4) end
+  pub past-none : (at : ℕ) → pastEmpty 0 lump row at ≡ at
   unfolding pastEmpty
-  more at end zero h s e = absurd (omega (arith, e .inside))
-  more at end (suc most) h s e =
+  past-none at = refl
+
+  pub past-more : (most at : ℕ) → Empty at → pastEmpty (suc most) lump row at ≡ pastEmpty most lump row (at + 4)
+  unfolding pastEmpty
+  past-more most at e =
       let p : postEnd lump at ≡ at + 4 = omega (arith, e .none) in
       let inside : postEnd lump at ≤ length lump = omega (arith, e .inside) in
-      record {
-        most = most;
-        enough = omega arith;
-        same = rw p at (simp (le-leb _ _ inside, eq-eqb _ _ (e .start), eq-eqb _ _ (e .none)) at s);
-      }
+      simp (le-leb _ _ inside, eq-eqb _ _ (e .start), eq-eqb _ _ (e .none)) (ap (pastEmpty most lump row) p)
 
-  pub past-more : {at end : ℕ} → Past at end → Empty at → Past (at + 4) end
-  past-more {at} {end} p = more at end (p .most) (p .enough) (p .same)
-
-  done : (at end most : ℕ) (b : Bool) → pastEmpty most lump row at ≡ end → emptyAt lump row at ≡ b → (Empty at → ⊥) → at ≡ end
+  done : (most at : ℕ) (b : Bool) → emptyAt lump row at ≡ b → (Empty at → ⊥) → pastEmpty most lump row at ≡ at
   unfolding pastEmpty
-  done at end zero b s e n = s
-  done at end (suc most) true s e n = absurd (n (empty-of at e))
-  done at end (suc most) false s e n = simp e at s
+  done zero at b e n = refl
+  done (suc most) at true e n = absurd (n (empty-of at e))
+  done (suc most) at false e n = simp e
 
-  pub past-done : {at end : ℕ} → Past at end → (Empty at → ⊥) → at ≡ end
-  past-done {at} {end} p = done at end (p .most) (emptyAt lump row at) (p .same) refl
+  pub past-done : (most at : ℕ) → (Empty at → ⊥) → pastEmpty most lump row at ≡ at
+  past-done most at = done most at (emptyAt lump row at) refl
 
   -- ---- what stays true
 
@@ -74,9 +61,38 @@ module _ (lump : List ℕ) (row : ℕ) where
   holds P step (suc most) at p =
       by-test P _ at (emptyAt lump row at) (λ e. holds P step most (postEnd lump at) (step at (empty-of at e) p)) p
 
-  pub past-holds : (P : ℕ → Type 0) → ((at : ℕ) → Empty at → P at → P (postEnd lump at)) → (from to : ℕ)
-      → to ≡ pastEmpty (length lump) lump row from → P from → P to
-  past-holds P step from to e p = subst P (sym e) (holds P step (length lump) from p)
+  pub past-holds : (P : ℕ → Type 0) → ((at : ℕ) → Empty at → P at → P (postEnd lump at)) → (most from to : ℕ)
+      → to ≡ pastEmpty most lump row from → P from → P to
+  past-holds P step most from to e p = subst P (sym e) (holds P step most from p)
 
-  pub past-on : (from to : ℕ) → to ≡ pastEmpty (length lump) lump row from → from ≤ to
-  past-on from to e = past-holds (λ x. from ≤ x) (λ at post h. omega arith) from to e (omega arith)
+  pub past-on : (most from to : ℕ) → to ≡ pastEmpty most lump row from → from ≤ to
+  past-on most from to e = past-holds (λ x. from ≤ x) (λ at post h. omega arith) most from to e (omega arith)
+
+  pub stepped-none : (at : ℕ) → Stepped lump row at at
+  stepped-none at = record { most = 0; same = sym (past-none at) }
+
+  -- ---- posts of length 0 at any row
+
+  -- those at `row` are such posts, as `row` is no end byte
+  pub over-past : (most from to : ℕ) → (row ≡ 255 → ⊥) → to ≡ pastEmpty most lump row from → Over lump from to
+  over-past most from to n e =
+      past-holds (Over lump from)
+      (λ at post o.
+      let p : postEnd lump at ≡ at + 4 = omega (arith, post .none) in
+      rw p (past at o record { inside = post .inside; starts = λ k. n (sym (post .start) ∙ k); none = post .none }))
+      most from to e here
+
+module _ (lump : List ℕ) where
+  pub over-holds : (P : ℕ → Type 0) → ((at : ℕ) → NoPixels lump at → P at → P (at + 4)) → {from to : ℕ}
+      → Over lump from to → P from → P to
+  over-holds P step here p = p
+  over-holds P step (past at o e) p = step at e (over-holds P step o p)
+
+  pub over-then : {from at to : ℕ} → Over lump from at → Over lump at to → Over lump from to
+  over-then {from} o = λ next. over-holds (Over lump from) (λ at e o. past at o e) next o
+
+  pub over-on : {from to : ℕ} → Over lump from to → from ≤ to
+  over-on {from} o = over-holds (λ x. from ≤ x) (λ at e h. omega arith) o (omega arith)
+
+  pub over-inside : {from to : ℕ} → from ≤ length lump → Over lump from to → to ≤ length lump
+  over-inside h o = over-holds (λ x. x ≤ length lump) (λ at e k. e .inside) o h

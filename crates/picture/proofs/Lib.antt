@@ -3,3 +3,5 @@
 pub mod Checks
 pub mod Inner
 pub mod Posts
+pub mod Ends
+pub mod Slots

@@ -72,9 +72,9 @@ module _ (lump : List ℕ) (height column : ℕ) where
 
   -- ---- posts of length 0
 
-  pub rest-past : {row from to : ℕ} {answer : Check} → row < 255 → row ≤ height → Rest from row answer
-      → to ≡ pastEmpty (length lump) lump row from → Rest to row answer
-  rest-past {row} {from} {to} {answer} low fits r e = past-holds lump row (λ x. Rest x row answer) step from to e r
+  pub rest-past : (most : ℕ) {row from to : ℕ} {answer : Check} → row < 255 → row ≤ height → Rest from row answer
+      → to ≡ pastEmpty most lump row from → Rest to row answer
+  rest-past most {row} {from} {to} {answer} low fits r e = past-holds lump row (λ x. Rest x row answer) step most from to e r
     where
       step : (at : ℕ) → Empty lump row at → Rest at row answer → Rest (postEnd lump at) row answer
       step at post r =

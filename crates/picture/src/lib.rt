@@ -4,14 +4,16 @@ ghost use Rattle.picture.specs.Judging.{pictureCheck, answerOf};
 
 mod columns;
 mod header;
+mod notes;
+mod skipping;
 
-pub use columns::skip_empty;
 pub use header::height_of;
 pub use header::judge_header;
 pub use header::size_ok;
 pub use header::width_of;
 use refusal::Check;
 use refusal::Refusal;
+pub use skipping::skip_posts;
 
 // A picture's header: its size in pixels, and the offsets of its origin.
 #[repr(C)]
