@@ -298,19 +298,6 @@ pub fn bad_blockmap_of(bytes: usize) -> Vec<u8> {
     Plan::wad_of(map)
 }
 
-/// 320 columns that share about four million empty posts.
-pub fn hostile_picture() -> Vec<u8> {
-    hostile_picture_of(4_000_000)
-}
-
-/// 320 columns that share `posts` empty posts.
-pub fn hostile_picture_of(posts: usize) -> Vec<u8> {
-    let mut picture = PictureSpec::blank(320, 200);
-    picture.data = vec![0; 4 * posts];
-    picture.data.push(255);
-    picture.encode()
-}
-
 /// A picture like a sprite: columns of their own, most rows painted, some gaps.
 pub fn picture(width: u16, height: u16) -> Vec<u8> {
     let mut rng = Rng::new(6);

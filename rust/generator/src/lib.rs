@@ -15,7 +15,8 @@
 //! - [`MapSpec`], [`Plan`], [`BlockmapSpec`], [`PictureSpec`] and [`Canvas`] build inputs by hand;
 //! - [`ordinary_map`], [`hexen_map_of`], [`largest_map`], [`largest_hexen_map_of`], [`directory_of`],
 //!   [`littered_directory_of`], [`search_to_the_first`], [`search_in_vain`], [`pair_of`], [`pair_in_vain`], [`chain`], [`balanced`],
-//!   [`doublings`], [`shared_subsector`], [`hostile_blockmap`], [`hostile_picture`], [`picture`], [`pixels`], [`checkered`],
+//!   [`doublings`], [`shared_subsector`], [`hostile_blockmap`], [`hostile_picture`], [`staggered_picture_of`],
+//!   [`busy_picture_of`], [`badly_ended_picture_of`], [`shared_runs`], [`picture`], [`pixels`], [`checkered`],
 //!   [`halving_nodes`], [`mixed_nodes`], [`deep_chain`], [`double_nodes`], [`deep_doublings`], [`sidedefs_of`],
 //!   [`bad_sidedef_of`], [`bad_seg_of`], [`bad_blockmap_of`], [`long_loop`], [`loop_behind_tree`], [`map_in_order`],
 //!   [`chain_in_order`], [`twice`], [`with_changes`], [`with_last_changed`], [`names_at_random`], [`names_ascending`],
@@ -40,6 +41,7 @@
 mod bench;
 mod bench_differences;
 mod bench_index;
+mod bench_pictures;
 mod bench_text;
 mod blockmap;
 mod case;
@@ -100,13 +102,16 @@ mod written;
 pub use bench::{
     bad_blockmap_of, bad_seg_of, bad_sidedef_of, balanced, chain, chain_in_order, checkered, child_at_the_end, deep_chain,
     deep_doublings, directory_of, double_nodes, doublings, halving_nodes, hexen_map_of, hostile_blockmap, hostile_blockmap_of,
-    hostile_picture, hostile_picture_of, largest_hexen_map_of, largest_map, largest_map_of, littered_directory_of, long_loop,
-    loop_behind_tree, map_in_order, map_of, mixed_nodes, order_and_file, ordinary_map, pair_of, picture, pixels,
-    repeat_at_the_end, shared_subsector, sidedefs_of, twice_as_long, FACED, MOST_BYTES,
+    largest_hexen_map_of, largest_map, largest_map_of, littered_directory_of, long_loop, loop_behind_tree, map_in_order, map_of,
+    mixed_nodes, order_and_file, ordinary_map, pair_of, picture, pixels, repeat_at_the_end, shared_subsector, sidedefs_of,
+    twice_as_long, FACED, MOST_BYTES,
 };
 pub use bench_differences::{twice, with_changes, with_last_changed};
 pub use bench_index::{
     names_alike, names_ascending, names_at_random, names_descending, wad_and_index, with_a_wrong_index, with_its_index,
+};
+pub use bench_pictures::{
+    badly_ended_picture_of, busy_picture_of, hostile_picture, hostile_picture_of, shared_runs, staggered_picture_of,
 };
 pub use bench_text::{
     ordinary_text, text_of_assignments, text_of_blocks, text_of_comments, text_of_one_block, text_of_one_string,

@@ -89,7 +89,9 @@ fn hostile_inputs_are_good() {
     let hostile = hostile_blockmap();
     assert!((MOST_BYTES - 1..=MOST_BYTES).contains(&hostile.len()));
     assert_eq!(judged(&hostile).depth, 0);
-    assert!(judge_picture(&hostile_picture_of(10_000)).is_ok());
+    let pictures = [hostile_picture_of(10_000), staggered_picture_of(10_000), busy_picture_of(10_000)];
+    assert_eq!(pictures.map(|lump| judge_picture(&lump).is_ok()), [true; 3]);
+    assert_eq!(judge_picture(&badly_ended_picture_of(10_000)).map_err(|it| it.number), Err(54));
     assert_eq!(judge_picture(&picture(320, 200)).map(|it| (it.width, it.height)), Ok((320, 200)));
 }
 

@@ -101,6 +101,17 @@ fn reader_picture(lump: &[u8]) -> usize {
     reader::paint_picture(lump, &mut colour, &mut cover).expect("a good picture").width
 }
 
+/// The refusal of a picture with a bad column.
+fn library_bad_picture(lump: &[u8]) -> usize {
+    let (mut colour, mut cover) = (vec![0; 64_000], vec![0; 64_000]);
+    meshpigeon::paint_picture(lump, &mut colour, &mut cover).expect_err("a bad column").number as usize
+}
+
+fn reader_bad_picture(lump: &[u8]) -> usize {
+    let (mut colour, mut cover) = (vec![0; 64_000], vec![0; 64_000]);
+    reader::paint_picture(lump, &mut colour, &mut cover).expect_err("a bad column").number as usize
+}
+
 /// The picture of these pixels, so many across, and an output that is long enough. Half of the bytes are colours, half the cover.
 fn canvas<const WIDTH: usize>(pixels: &[u8]) -> (reader::Picture, &[u8], &[u8], Vec<u8>) {
     let (colour, cover) = given::halves(pixels);
@@ -681,6 +692,24 @@ fn inputs() -> Vec<Input> {
             sized: |n| given::hostile_picture_of(1_048_000 * n),
             library: library_picture,
             reader: reader_picture,
+        },
+        Input {
+            name: "hostile picture, four residues",
+            sized: |n| given::staggered_picture_of(1_048_000 * n),
+            library: library_picture,
+            reader: reader_picture,
+        },
+        Input {
+            name: "hostile picture, busy",
+            sized: |n| given::busy_picture_of(1_048_000 * n),
+            library: library_picture,
+            reader: reader_picture,
+        },
+        Input {
+            name: "hostile picture, last bad (54)",
+            sized: |n| given::badly_ended_picture_of(1_048_000 * n),
+            library: library_bad_picture,
+            reader: reader_bad_picture,
         },
     ]
 }
