@@ -1,6 +1,6 @@
 -- Not for the reader of promises: what only contracts of inner functions cite, the one pass over BLOCKMAP's lists and what it
 -- leaves for the cells. Assumes nothing.
-use Prim.Native.Nat.{ℕ, zero, suc, _-_, _≤_}
+use Prim.Native.Nat.{ℕ, zero, suc, min, _-_, _≤_, _<_}
 use mathlib.Core.Bool.{Bool, true, false, _&&_, cond}
 use mathlib.Core.List.{List}
 use mathlib.Core.Path.{_≡_}
@@ -29,5 +29,5 @@ NotedFrom lump linedefs from top notes =
 
 -- the same for every place that a cell's offset and the word after it can reach
 pub record Noted (lump : List ℕ) (linedefs : ℕ) (notes : List ℕ) : Type 0 where
-  pub places : length notes ≡ 65537
+  pub places : min (wordsOf lump) 65536 < length notes
   pub noted : (i : ℕ) → i ≤ 65536 → i ≤ wordsOf lump → getD notes i 0 ≡ bit (endsWell lump linedefs (wordsOf lump - i))

@@ -15,6 +15,9 @@ use refusal::Refusal;
 // As many places as a 16-bit offset and the word after it can reach.
 const PLACES: usize = 65537;
 
+// A lump of fewer words is noted in as many places: clearing all of them would take longer than the whole check of a small map.
+const FEW: usize = 1024;
+
 // 28: the header, then the cells in turn.
 pub fn judge_blockmap(lump: &[u8], linedefs: usize) -> Check
     ensures { λ r. ⌜ r ≡ blockmapCheck (now (lump .entry)) linedefs ⌝ }
@@ -62,10 +65,36 @@ fn judge_lists(lump: &[u8], linedefs: usize) -> Check
     requires { ⌜ headerOk (now lump) ≡ true ⌝ }
     ensures { λ r. ⌜ r ≡ each (cellCheck (now (lump .entry)) linedefs) (cellsOf (now (lump .entry))) ⌝ }
 {
-    let cells = cells_of(lump);
+    if lump.len() / 2 < FEW {
+        return judge_few(lump, linedefs);
+    }
+    judge_many(lump, linedefs)
+}
+
+fn judge_few(lump: &[u8], linedefs: usize) -> Check
+    requires { ⌜ (headerOk (now lump) ≡ true) × (wordsOf (now lump) < 1024) ⌝ }
+    ensures { λ r. ⌜ r ≡ each (cellCheck (now (lump .entry)) linedefs) (cellsOf (now (lump .entry))) ⌝ }
+{
+    let mut notes = [0u8; FEW];
+    judge_noting(lump, linedefs, &mut notes)
+}
+
+fn judge_many(lump: &[u8], linedefs: usize) -> Check
+    requires { ⌜ headerOk (now lump) ≡ true ⌝ }
+    ensures { λ r. ⌜ r ≡ each (cellCheck (now (lump .entry)) linedefs) (cellsOf (now (lump .entry))) ⌝ }
+{
     let mut notes = [0u8; PLACES];
-    note_lists(lump, linedefs, &mut notes);
-    judge_cells(lump, cells, linedefs, &notes)
+    judge_noting(lump, linedefs, &mut notes)
+}
+
+// The same over notes that are long enough.
+fn judge_noting(lump: &[u8], linedefs: usize, notes: &mut [u8]) -> Check
+    requires { ⌜ (headerOk (now lump) ≡ true) × (min (wordsOf (now lump)) 65536 < length (now notes)) ⌝ }
+    ensures { λ r. ⌜ r ≡ each (cellCheck (now (lump .entry)) linedefs) (cellsOf (now (lump .entry))) ⌝ }
+{
+    let cells = cells_of(lump);
+    note_lists(lump, linedefs, notes);
+    judge_cells(lump, cells, linedefs, notes)
 }
 
 fn judge_cells(lump: &[u8], cells: usize, linedefs: usize, notes: &[u8]) -> Check
@@ -99,7 +128,7 @@ fn cell_ok(lump: &[u8], cells: usize, linedefs: usize, notes: &[u8], i: usize) -
 
 // Notes for every place that an offset can reach whether the words from there on end a list well.
 fn note_lists(lump: &[u8], linedefs: usize, notes: &mut [u8])
-    requires { ⌜ length (now notes) ≡ 65537 ⌝ }
+    requires { ⌜ min (wordsOf (now lump)) 65536 < length (now notes) ⌝ }
     ensures { λ _. ⌜ Noted (now (lump .entry)) linedefs (now (notes .exit)) ⌝ }
 {
     let top = smaller(lump.len() / 2, 65536);

@@ -1,31 +1,9 @@
--- `blockmap::judge_lists` meets its contract: a good header says that the cells' offsets lie inside. Assumes nothing.
-use mathlib.Core.Path.{ap, _∙_}
-use native.Mathlib.Omega.{arith}
-use denote.Ref.{now}
-use Rattle.refusal.specs.Checks.{each}
-use Rattle.blockmap.specs.Blockmap.{cellCheck}
-use Rattle.blockmap.proofs.Lists.{header-long, header-inside}
+-- `blockmap::judge_lists` meets its contract, by either way. Assumes nothing.
 use borrow.Author.Needs.{needs}
 use Rattle.blockmap.proofs.judge_lists.Statement.{statement}
 use Rattle.blockmap.proofs.judge_lists.Tie as tie
 
-cells-of-requires : tie.Need-cells-of-requires
-cells-of-requires c κs = header-long (now (c .before .args .lump)) (c .before .pre)
-
-judge-cells-requires : tie.Need-judge-cells-requires
-judge-cells-requires c κs =
-    let e = c .before .before .before .before .before .before in
-    let inside = header-inside (now (e .args .lump)) (e .pre) in
-    let cells = c .before .before .before .before .cells-of .ensures .0 in
-    ((cells, omega arith), c .before .before .note-lists .ensures)
-
-returns : tie.Need-returns
-returns c =
-    let e = c .before .before .before .before .before .before .before in
-    c .judge-cells .ensures ∙ ap (each (cellCheck (now (e .args .lump)) (e .args .linedefs))) (c .before .before .before .before .before .cells-of .ensures .0)
-
 pub judge-lists-spec : {M : Type 1} → statement M
 judge-lists-spec =
     tie.close
-    (tie.spec cells-of-requires (λ c. search needs) (λ c κs. search needs) (λ c. search needs)
-    judge-cells-requires returns)
+    (tie.spec (λ c κs. search needs) (λ c. search needs) (λ c κs. search needs) (λ c. search needs))

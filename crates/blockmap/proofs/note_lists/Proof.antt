@@ -15,7 +15,7 @@ returns c =
     let below = c .before .before .note-below in
     let top = c .before .before .before .before .before .smaller .ensures in
     record {
-      places = below .kept .1 .1 .1 .1 .0 ∙ e .pre;
+      places = rw (below .kept .1 .1 .1 .1 .0) (e .pre);
       noted = λ (i : ℕ) (low : i ≤ 65536) (inside : i ≤ wordsOf (now (e .args .lump))). below .ensures i zero-le (omega arith);
     }
 
