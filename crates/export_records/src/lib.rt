@@ -17,7 +17,10 @@ use linedef::Linedef;
 use record::Sector;
 use record::Sidedef;
 use record::Vertex;
+use refusal::Check;
 use status::Status;
+use status::nothing_refused;
+use status::refused;
 use status::status_of;
 use thing::Thing;
 
@@ -46,7 +49,10 @@ pub extern "C" fn meshpigeon_read_thing(lump: &[u8], index: usize, hexen: bool) 
 pub extern "C" fn meshpigeon_write_thing(lump: &mut [u8], index: usize, thing: Thing) -> Status
     ensures { λ r. ⌜ RecordWrittenIf (thingFieldsOk thing) (now (lump .entry)) (thingSize (thing .hexen)) index (thingBytes (thing .hexen) thing) r (now (lump .exit)) ⌝ }
 {
-    status_of(Thing::write(lump, index, thing))
+    match Thing::write(lump, index, thing) {
+        Check::Pass => nothing_refused(),
+        Check::Refused(r) => refused(r),
+    }
 }
 
 #[repr(C)]
@@ -78,7 +84,10 @@ pub extern "C" fn meshpigeon_write_linedef(
 ) -> Status
     ensures { λ r. ⌜ RecordWrittenIf (linedefFieldsOk linedef) (now (lump .entry)) (linedefSize (linedef .hexen)) index (linedefBytes (linedef .hexen) linedef) r (now (lump .exit)) ⌝ }
 {
-    status_of(Linedef::write(lump, index, linedef))
+    match Linedef::write(lump, index, linedef) {
+        Check::Pass => nothing_refused(),
+        Check::Refused(r) => refused(r),
+    }
 }
 
 #[repr(C)]
@@ -110,7 +119,10 @@ pub extern "C" fn meshpigeon_write_sidedef(
 ) -> Status
     ensures { λ r. ⌜ RecordWritten (now (lump .entry)) sidedefSize index (sidedefBytes sidedef) r (now (lump .exit)) ⌝ }
 {
-    status_of(Sidedef::write(lump, index, sidedef))
+    match Sidedef::write(lump, index, sidedef) {
+        Check::Pass => nothing_refused(),
+        Check::Refused(r) => refused(r),
+    }
 }
 
 #[repr(C)]
@@ -138,7 +150,10 @@ pub extern "C" fn meshpigeon_read_vertex(lump: &[u8], index: usize) -> VertexAns
 pub extern "C" fn meshpigeon_write_vertex(lump: &mut [u8], index: usize, vertex: Vertex) -> Status
     ensures { λ r. ⌜ RecordWritten (now (lump .entry)) vertexSize index (vertexBytes vertex) r (now (lump .exit)) ⌝ }
 {
-    status_of(Vertex::write(lump, index, vertex))
+    match Vertex::write(lump, index, vertex) {
+        Check::Pass => nothing_refused(),
+        Check::Refused(r) => refused(r),
+    }
 }
 
 #[repr(C)]
@@ -166,7 +181,10 @@ pub extern "C" fn meshpigeon_read_seg(lump: &[u8], index: usize) -> SegAnswer
 pub extern "C" fn meshpigeon_write_seg(lump: &mut [u8], index: usize, seg: Seg) -> Status
     ensures { λ r. ⌜ RecordWritten (now (lump .entry)) segSize index (segBytes seg) r (now (lump .exit)) ⌝ }
 {
-    status_of(Seg::write(lump, index, seg))
+    match Seg::write(lump, index, seg) {
+        Check::Pass => nothing_refused(),
+        Check::Refused(r) => refused(r),
+    }
 }
 
 #[repr(C)]
@@ -198,7 +216,10 @@ pub extern "C" fn meshpigeon_write_subsector(
 ) -> Status
     ensures { λ r. ⌜ RecordWritten (now (lump .entry)) subsectorSize index (subsectorBytes subsector) r (now (lump .exit)) ⌝ }
 {
-    status_of(Subsector::write(lump, index, subsector))
+    match Subsector::write(lump, index, subsector) {
+        Check::Pass => nothing_refused(),
+        Check::Refused(r) => refused(r),
+    }
 }
 
 #[repr(C)]
@@ -226,7 +247,10 @@ pub extern "C" fn meshpigeon_read_node(lump: &[u8], index: usize) -> NodeAnswer
 pub extern "C" fn meshpigeon_write_node(lump: &mut [u8], index: usize, node: Node) -> Status
     ensures { λ r. ⌜ RecordWritten (now (lump .entry)) nodeSize index (nodeBytes node) r (now (lump .exit)) ⌝ }
 {
-    status_of(Node::write(lump, index, node))
+    match Node::write(lump, index, node) {
+        Check::Pass => nothing_refused(),
+        Check::Refused(r) => refused(r),
+    }
 }
 
 #[repr(C)]
@@ -254,5 +278,8 @@ pub extern "C" fn meshpigeon_read_sector(lump: &[u8], index: usize) -> SectorAns
 pub extern "C" fn meshpigeon_write_sector(lump: &mut [u8], index: usize, sector: Sector) -> Status
     ensures { λ r. ⌜ RecordWritten (now (lump .entry)) sectorSize index (sectorBytes sector) r (now (lump .exit)) ⌝ }
 {
-    status_of(Sector::write(lump, index, sector))
+    match Sector::write(lump, index, sector) {
+        Check::Pass => nothing_refused(),
+        Check::Refused(r) => refused(r),
+    }
 }

@@ -1,6 +1,5 @@
--- `export_records::meshpigeon_write_node` meets its contract, from those of the two functions that it calls.
--- Assumes nothing.
-use mathlib.Core.Path.{ap, _∙_}
+-- `export_records::meshpigeon_write_node` meets its contract, by what the write answered. Assumes nothing.
+use mathlib.Core.Path.{sym, ap, _∙_}
 use Rattle.status.specs.Status.{statusOf}
 use borrow.Author.Needs.{needs}
 use Rattle.export_records.proofs.meshpigeon_write_node.Statement.{statement}
@@ -8,9 +7,22 @@ use Rattle.export_records.proofs.meshpigeon_write_node.Tie as tie
 
 returns : tie.Need-returns
 returns c =
-    let write = c .before .before .before .write in
-    record { answers = c .status-of .ensures ∙ ap statusOf (write .ensures .answers); leaves = write .ensures .leaves }
+    let write = c .before .before .before .before .before .write in
+    record {
+      answers = c .nothing-refused .ensures ∙ ap statusOf (sym (c .before .enum-told .given .1) ∙ write .ensures .answers);
+      leaves = write .ensures .leaves;
+    }
+
+returns-2 : tie.Need-returns-2
+returns-2 c =
+    let write = c .before .before .before .before .before .before .write in
+    record {
+      answers = c .refused .ensures ∙ ap statusOf (sym (c .before .before .r .given .1) ∙ write .ensures .answers);
+      leaves = write .ensures .leaves;
+    }
 
 pub meshpigeon-write-node-spec : {M : Type 1} → statement M
 meshpigeon-write-node-spec =
-    tie.close (tie.spec (λ c κs. search needs) (λ c κs. search needs) (λ c. search needs) returns)
+    tie.close
+    (tie.spec (λ c κs. search needs) (λ c. search needs) (λ c κs. search needs) (λ c. search needs) (λ c κs. search needs)
+    (λ c. search needs) returns (λ c. search needs) returns-2)
