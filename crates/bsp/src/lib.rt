@@ -94,12 +94,17 @@ fn root_word(count: usize) -> usize
     if count == 0 { SUBSECTOR_BIT } else { count - 1 }
 }
 
+// Both children are read before the choice is known: they come with the line, and the choice waits for none of them.
 fn chosen_child(nodes: &[u8], x: i16, y: i16, node: usize) -> usize
     requires { ⌜ nodeSize * node + nodeSize ≤ length (now nodes) ⌝ }
     ensures { λ r. ⌜ r ≡ chosen (now (nodes .entry)) x y node ⌝ }
 {
-    let choice = side::side_at(nodes, x, y, node);
-    child_of(nodes, node, choice)
+    let right = child_of(nodes, node, Choice::Right);
+    let left = child_of(nodes, node, Choice::Left);
+    match side::side_at(nodes, x, y, node) {
+        Choice::Right => right,
+        Choice::Left => left,
+    }
 }
 
 // The word of a node's child.
