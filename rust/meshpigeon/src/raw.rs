@@ -21,6 +21,7 @@ pub(crate) struct Status {
 
 impl Status {
     /// The refusal, or nothing.
+    #[inline]
     pub(crate) fn check(self) -> Result<(), Refusal> {
         match self.number {
             0 => Ok(()),
@@ -363,7 +364,8 @@ pub(crate) fn write_picture(picture: Picture, colour: &[u8], cover: &[u8], out: 
     unsafe { meshpigeon_write_picture(picture, colour, colour_len, cover, cover_len, out, out_len) }.checked()
 }
 
-/// Each kind with its functions; a read of the two that games have in forms of their own is told the game.
+/// Each kind with its functions; a read of the two that games have in forms of their own is told the game. They are inlined, so that a
+/// record is copied once on its way: a copy that is read back at once in other pieces than it was written in takes as long as a dozen.
 macro_rules! kinds {
     ($($kind:ident $read:ident $write:ident $c_read:ident $c_write:ident $answer:ident $(of $hexen:ident)?;)*) => {$(
         #[repr(C)]
@@ -377,11 +379,13 @@ macro_rules! kinds {
             fn $c_write(lump: BytesMut, lump_len: usize, index: usize, record: $kind) -> Status;
         }
 
+        #[inline]
         pub(crate) fn $read(lump: &[u8], index: usize $(, $hexen: bool)?) -> Result<$kind, Refusal> {
             let answer = unsafe { $c_read(lump.as_ptr(), lump.len(), index $(, $hexen)?) };
             answer.status.check().map(|()| answer.record)
         }
 
+        #[inline]
         pub(crate) fn $write(lump: &mut [u8], index: usize, record: $kind) -> Result<(), Refusal> {
             unsafe { $c_write(lump.as_mut_ptr(), lump.len(), index, record) }.check()
         }

@@ -19,11 +19,13 @@ macro_rules! record {
             pub const PLACE: usize = $place;
 
             #[doc = concat!("Record `index` of ", $lump, "; 60 where it is not wholly inside.")]
+            #[inline]
             pub fn read(lump: &[u8], index: usize) -> Result<Self, Refusal> {
                 raw::$read(lump, index)
             }
 
             #[doc = concat!("Replaces record `index` of ", $lump, "; 60, and nothing written, where it is not wholly inside.")]
+            #[inline]
             pub fn write(self, lump: &mut [u8], index: usize) -> Result<(), Refusal> {
                 raw::$write(lump, index, self)
             }
