@@ -49,6 +49,14 @@ pub fn bad_seg_of(scale: usize) -> Vec<u8> {
     Plan::wad_of(map)
 }
 
+/// A file with a small map, of 848 bytes where `quarters` is 4.
+pub fn little_map(quarters: usize) -> Vec<u8> {
+    let lines = 2 * quarters;
+    let tree = Sizes::tree(quarters / 2);
+    let sizes = Sizes { things: 1, linedefs: lines, sidedefs: lines, vertices: lines, segs: lines, sectors: 3, ..tree };
+    Plan::wad_of(MapSpec::plain(sizes, &mut Rng::new(7)))
+}
+
 fn ordinary_of(hexen: bool, scale: usize) -> Vec<u8> {
     Plan::wad_of(ordinary_spec(hexen, scale))
 }
@@ -349,13 +357,18 @@ pub fn sidedefs_of(count: usize) -> Vec<u8> {
 
 /// A NODES lump that halves the plane in turn, `levels` times, 1 to 14, over 2 to the power `levels` subsectors.
 pub fn halving_nodes(levels: u32) -> Vec<u8> {
-    encode(&halved(levels))
+    encode(&halved((1 << levels) - 1))
 }
 
 /// The same with every second line, by chance, a little slanting: a processor cannot foretell which kind of line comes next.
 pub fn mixed_nodes(levels: u32) -> Vec<u8> {
+    mixed_nodes_of((1 << levels) - 1)
+}
+
+/// The same of any count of nodes, up to 32,766.
+pub fn mixed_nodes_of(count: usize) -> Vec<u8> {
     let mut rng = Rng::new(1);
-    let mut nodes = halved(levels);
+    let mut nodes = halved(count);
     for node in &mut nodes {
         if rng.once_in(2) {
             (node.dx, node.dy) = (node.dx.max(1), node.dy.max(1));
@@ -392,8 +405,7 @@ pub fn deep_chain(nodes: usize) -> Vec<u8> {
     encode(&(0..nodes).map(node).collect::<Vec<_>>())
 }
 
-fn halved(levels: u32) -> Vec<Node> {
-    let count = (1usize << levels) - 1;
+fn halved(count: usize) -> Vec<Node> {
     let mut nodes = vec![Node::default(); count];
     let area = [i32::from(i16::MIN), i32::from(i16::MIN), 65_536, 65_536];
     halve(&mut nodes, 0, area);

@@ -16,8 +16,8 @@
 //! - [`ordinary_map`], [`hexen_map_of`], [`largest_map`], [`largest_hexen_map_of`], [`directory_of`],
 //!   [`littered_directory_of`], [`search_to_the_first`], [`search_in_vain`], [`pair_of`], [`pair_in_vain`], [`chain`], [`balanced`],
 //!   [`doublings`], [`shared_subsector`], [`hostile_blockmap`], [`hostile_picture`], [`staggered_picture_of`],
-//!   [`busy_picture_of`], [`badly_ended_picture_of`], [`shared_runs`], [`picture`], [`pixels`], [`checkered`],
-//!   [`halving_nodes`], [`mixed_nodes`], [`deep_chain`], [`double_nodes`], [`deep_doublings`], [`sidedefs_of`],
+//!   [`busy_picture_of`], [`badly_ended_picture_of`], [`shared_runs`], [`picture`], [`pixels`], [`checkered`], [`halving_nodes`],
+//!   [`mixed_nodes`], [`mixed_nodes_of`], [`little_map`], [`deep_chain`], [`double_nodes`], [`deep_doublings`], [`sidedefs_of`],
 //!   [`bad_sidedef_of`], [`bad_seg_of`], [`bad_blockmap_of`], [`long_loop`], [`loop_behind_tree`], [`map_in_order`],
 //!   [`chain_in_order`], [`twice`], [`with_changes`], [`with_last_changed`], [`names_at_random`], [`names_ascending`],
 //!   [`names_descending`], [`names_alike`], [`with_its_index`], [`with_a_wrong_index`],
@@ -102,9 +102,9 @@ mod written;
 pub use bench::{
     bad_blockmap_of, bad_seg_of, bad_sidedef_of, balanced, chain, chain_in_order, checkered, child_at_the_end, deep_chain,
     deep_doublings, directory_of, double_nodes, doublings, halving_nodes, hexen_map_of, hostile_blockmap, hostile_blockmap_of,
-    largest_hexen_map_of, largest_map, largest_map_of, littered_directory_of, long_loop, loop_behind_tree, map_in_order, map_of,
-    mixed_nodes, order_and_file, ordinary_map, pair_of, picture, pixels, repeat_at_the_end, shared_subsector, sidedefs_of,
-    twice_as_long, FACED, MOST_BYTES,
+    largest_hexen_map_of, largest_map, largest_map_of, littered_directory_of, little_map, long_loop, loop_behind_tree,
+    map_in_order, map_of, mixed_nodes, mixed_nodes_of, order_and_file, ordinary_map, pair_of, picture, pixels, repeat_at_the_end,
+    shared_subsector, sidedefs_of, twice_as_long, FACED, MOST_BYTES,
 };
 pub use bench_differences::{twice, with_changes, with_last_changed};
 pub use bench_index::{

@@ -39,6 +39,19 @@ fn reader_map(wad: &[u8]) -> usize {
     reader::judge_map(wad, &given::MAP_NAME, &mut words).expect("a good map").depth
 }
 
+/// A small map so many times, over words that are lent once.
+const TIMES: usize = 1_000;
+
+fn library_little(wad: &[u8]) -> usize {
+    let mut words = [0; 64];
+    (0..TIMES).map(|_| meshpigeon::judge_map_with(black_box(wad), &given::MAP_NAME, &mut words).expect("a good map").depth).sum()
+}
+
+fn reader_little(wad: &[u8]) -> usize {
+    let mut words = [0; 64];
+    (0..TIMES).map(|_| reader::judge_map(black_box(wad), &given::MAP_NAME, &mut words).expect("a good map").depth).sum()
+}
+
 /// The refusal of a map with a shared child.
 fn library_shared(wad: &[u8]) -> usize {
     let mut words = vec![0; meshpigeon::MOST_WORDS];
@@ -143,6 +156,39 @@ fn library_descents(nodes: &[u8]) -> usize {
 fn reader_descents(nodes: &[u8]) -> usize {
     points().map(|(x, y)| reader::descend(nodes, 32_767, x, y).map_or(0, |it| it.count)).sum()
 }
+
+/// One point so many times: a processor can foretell every choice.
+fn library_descent(nodes: &[u8]) -> usize {
+    (0..TIMES).map(|_| meshpigeon::descend(black_box(nodes), 32_767, 77, -77).map_or(0, |it| it.count)).sum()
+}
+
+fn reader_descent(nodes: &[u8]) -> usize {
+    (0..TIMES).map(|_| reader::descend(black_box(nodes), 32_767, 77, -77).map_or(0, |it| it.count)).sum()
+}
+
+/// How often each record of a lump is written into another.
+const COPIES: usize = 100;
+
+/// Both sides' ways to write the records of a lump, [`COPIES`] times each: how many writes there were.
+macro_rules! written {
+    ($kind:ident, $library:ident, $reader:ident) => {
+        written! { meshpigeon::$kind, $library }
+        written! { reader::$kind, $reader }
+    };
+    ($kind:path, $side:ident) => {
+        fn $side(lump: &[u8]) -> usize {
+            use $kind as Kind;
+            let records: Vec<Kind> =
+                (0..lump.len() / Kind::SIZE).map(|at| Kind::read(lump, at).expect("a record inside")).collect();
+            let mut out = vec![0; lump.len()];
+            let mut pass = || records.iter().enumerate().filter(|(at, it)| it.write(black_box(&mut out), *at).is_ok()).count();
+            (0..COPIES).map(|_| pass()).sum()
+        }
+    };
+}
+
+written! { Sidedef, library_sidedefs_written, reader_sidedefs_written }
+written! { Node, library_nodes_written, reader_nodes_written }
 
 /// How many subsectors are drawn, or the refusal's number.
 fn library_order(nodes: &[u8]) -> usize {
@@ -344,6 +390,7 @@ fn scraps_to_whole(rows: &[Row]) -> Option<String> {
 fn inputs() -> Vec<Input> {
     vec![
         Input { name: "map of ordinary size", sized: |n| given::map_of(n), library: library_map, reader: reader_map },
+        Input { name: "map of 848 bytes, 1,000 ×", sized: given::little_map, library: library_little, reader: reader_little },
         Input { name: "largest map in 16 MiB", sized: given::largest_map_of, library: library_map, reader: reader_map },
         Input { name: "Hexen map of ordinary size", sized: |n| given::hexen_map_of(n), library: library_map, reader: reader_map },
         Input {
@@ -442,6 +489,36 @@ fn inputs() -> Vec<Input> {
             sized: |n| given::mixed_nodes([0, 12, 13, 13, 14][n]),
             library: library_descents,
             reader: reader_descents,
+        },
+        Input {
+            name: "a million descents, 1,799 nodes",
+            sized: |n| given::mixed_nodes_of(1_799 * n / 4),
+            library: library_descents,
+            reader: reader_descents,
+        },
+        Input {
+            name: "a descent on 1,799 nodes, 1,000 ×",
+            sized: |n| given::mixed_nodes_of(1_799 * n / 4),
+            library: library_descent,
+            reader: reader_descent,
+        },
+        Input {
+            name: "chain of 1,799, 1,000 descents",
+            sized: |n| given::deep_chain(1_799 * n / 4),
+            library: library_descent,
+            reader: reader_descent,
+        },
+        Input {
+            name: "10,000 sidedefs written",
+            sized: |n| given::sidedefs_of(25 * n),
+            library: library_sidedefs_written,
+            reader: reader_sidedefs_written,
+        },
+        Input {
+            name: "10,000 nodes written",
+            sized: |n| given::mixed_nodes_of(25 * n),
+            library: library_nodes_written,
+            reader: reader_nodes_written,
         },
         Input {
             name: "draw order of 16,383 nodes",
