@@ -46,7 +46,7 @@ fn a_text_without_blocks_or_namespace_says_so() {
                 geometry is not judged";
     for text in ["", "// nothing\n", "vertex = 1;"] {
         with(text).run(&["text", "a.wad", "MAP01"]).is(0, &[said]);
-        with(text).run(&["judge", "a.wad"]).is(0, &[said]);
+        with(text).run(&["judge", "a.wad"]).is(1, &[said]);
     }
 }
 
