@@ -7,7 +7,7 @@ use lib.IntN.{ℤ}
 use Rattle.text_token.specs.Tokens.{bytesOf}
 use Rattle.text_field.specs.declared.Scope.{Scope}
 use Rattle.text_field.specs.declared.Scope.the-variants.{Vertex, Linedef, Sidedef, Sector, Thing}
-use Rattle.text_reader.specs.declared.Counts.{Counts}
+use Rattle.text_block.specs.declared.Counts.{Counts}
 use Rattle.text_record.specs.Records.{vertexOf, linedefOf, sidedefOf, sectorOf, thingOf}
 use Rattle.text_map.specs.declared.TextSummary.{TextSummary}
 use Rattle.text_map.specs.declared.TextAnswer.{TextAnswer}

@@ -7,7 +7,7 @@ use native.Mathlib.Omega.{arith}
 use lib.IntN.{ℤ, pos}
 use lib.ListN.{length, getD, replicate, List·getD-eq-default}
 use Rattle.text_field.specs.Table.{table, defaultOf}
-use Rattle.text_reader.specs.Blocks.{noPlaces}
+use Rattle.text_block.specs.Blocks.{noPlaces}
 use Rattle.text_record.specs.Fields.{valueAt, defaultWhole, wholeOr, decimalOr, stringOr, flagOr, between, zeroPoint, wholeField, decimalField, stringField, flagField}
 use Rattle.text_map.specs.Answers.{noRow}
 

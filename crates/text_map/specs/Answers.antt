@@ -12,11 +12,11 @@ use Rattle.refusal.specs.Checks.{unless, _andThen_}
 use Rattle.text_token.specs.Tokens.{bytesOf}
 use Rattle.text_field.specs.declared.Scope.{Scope}
 use Rattle.text_field.specs.Names.{zeroIds, firstRow, scopeNumber}
-use Rattle.text_reader.specs.declared.Asked.{Asked}
-use Rattle.text_reader.specs.declared.Asked.the-variants.{Nothing, Numbered, First, FirstOfAny}
-use Rattle.text_reader.specs.declared.Notes.{Notes}
-use Rattle.text_reader.specs.declared.Parse.{Parse}
-use Rattle.text_reader.specs.Blocks.{noPlaces}
+use Rattle.text_block.specs.declared.Asked.{Asked}
+use Rattle.text_block.specs.declared.Asked.the-variants.{Nothing, Numbered, First, FirstOfAny}
+use Rattle.text_step.specs.declared.Notes.{Notes}
+use Rattle.text_step.specs.declared.Parse.{Parse}
+use Rattle.text_block.specs.Blocks.{noPlaces}
 use Rattle.text_reader.specs.Texts.{Stand, textFrom}
 use Rattle.text_record.specs.declared.Places.{Places}
 use Rattle.text_record.specs.Fields.{valueAt, between, stringOr}

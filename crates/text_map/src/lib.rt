@@ -9,11 +9,11 @@ ghost use Rattle.text_map.specs.Answers.{namespaceOf, summaryBy, textAns
 ghost use Rattle.text_map.specs.Answers.{fieldsBy, blockFields, numbered, firstFrom, nextFrom, idBy, idOf};
 use refusal::Check;
 use refusal::Refusal;
+use text_block::Asked;
+use text_block::Counts;
 use text_field::Scope;
-use text_reader::Asked;
-use text_reader::Counts;
-use text_reader::Parse;
 use text_record::Places;
+use text_step::Parse;
 
 // The namespace's string, and how many blocks of each kind there are.
 pub struct TextSummary {

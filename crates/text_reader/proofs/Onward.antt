@@ -4,7 +4,7 @@ use mathlib.Core.Bool.{true, false, not, _&&_, and-eq-true-iff, true≢false}
 use mathlib.Core.List.{List}
 use mathlib.Core.Path.{_≡_, refl, sym, ap, _∙_}
 use native.Mathlib.Omega.{arith}
-use borrow.Author.Tests.{leb-false, eqb-true}
+use borrow.Author.Tests.{eqb-true}
 use lib.Dec.{eqb}
 use lib.ListN.{length}
 use Rattle.refusal.specs.declared.Refusal.{Refusal}
@@ -17,18 +17,13 @@ use Rattle.text_value.specs.declared.Reading.{Reading}
 use Rattle.text_value.specs.Values.{tokenRead}
 use Rattle.text_field.specs.declared.Scope.{Scope}
 use Rattle.text_field.specs.Names.{kindNamed}
-use Rattle.text_reader.specs.declared.Asked.{Asked}
-use Rattle.text_reader.specs.declared.Wanted.{Wanted}
-use Rattle.text_reader.specs.declared.Wanted.the-variants.{Statement, Equals, Value, Semicolon, NoMore}
-use Rattle.text_reader.specs.declared.Counts.{Counts}
-use Rattle.text_reader.specs.declared.Parse.{Parse}
-use Rattle.text_reader.specs.Blocks.{countOf, isFull, allGiven}
-use Rattle.text_reader.specs.Steps.{goesOn, refusedWith, isTop, identifierOk, isIdentifier, closedBlock, onStatement, openedBlock, onEquals, heldBy, valueCheck, judged, onValue, onSemicolon, stepBy}
+use Rattle.text_block.specs.declared.Asked.{Asked}
+use Rattle.text_block.specs.declared.Wanted.{Wanted}
+use Rattle.text_block.specs.declared.Wanted.the-variants.{Statement, Equals, Value, Semicolon, NoMore}
+use Rattle.text_step.specs.declared.Parse.{Parse}
+use Rattle.text_block.specs.Blocks.{isFull, allGiven}
+use Rattle.text_step.specs.Steps.{goesOn, refusedWith, isTop, identifierOk, isIdentifier, closedBlock, onStatement, openedBlock, onEquals, heldBy, valueCheck, judged, onValue, onSemicolon, stepBy}
 use Rattle.text_reader.specs.Texts.{isMore}
-
--- a kind that is not full has fewer blocks than the most
-pub isFull-few : (c : Counts) (kind : Scope) → isFull c kind ≡ false → countOf c kind < 65535
-isFull-few c kind e = leb-false 65535 (countOf c kind) e
 
 module _ (text : List ℕ) (asked : Asked) (places : List ℕ) (s : Parse) where
   abbrev t : Token

@@ -7,13 +7,13 @@ use lib.ListN.{length}
 use Rattle.refusal.specs.declared.Check.the-variants.{Pass}
 use Rattle.text_token.specs.Tokens.{tokenAt}
 use Rattle.text_field.specs.declared.Scope.the-variants.{Top}
-use Rattle.text_reader.specs.declared.Asked.{Asked}
-use Rattle.text_reader.specs.declared.Wanted.{Wanted}
-use Rattle.text_reader.specs.declared.Wanted.the-variants.{Statement, Equals, Value, Semicolon, NoMore}
-use Rattle.text_reader.specs.declared.Parse.{Parse}
+use Rattle.text_block.specs.declared.Asked.{Asked}
+use Rattle.text_block.specs.declared.Wanted.{Wanted}
+use Rattle.text_block.specs.declared.Wanted.the-variants.{Statement, Equals, Value, Semicolon, NoMore}
+use Rattle.text_step.specs.declared.Parse.{Parse}
 use Rattle.text_reader.specs.Runs.{runs}
-use Rattle.text_reader.specs.Blocks.{counts, noPlaces, filed}
-use Rattle.text_reader.specs.Steps.{notes, parse, stepBy}
+use Rattle.text_block.specs.Blocks.{counts, noPlaces, filed}
+use Rattle.text_step.specs.Steps.{notes, parse, stepBy}
 
 -- how far a text was read; of each field of the open block the place of its last value; and those of the block that was asked for
 pub record Stand : Type 0 where

@@ -1,62 +1,15 @@
 // A text map read token by token (W-206): one loop over the whole text, up to its end, its first fault, or the end of the block that is
 // asked for. The definitions are in specs/.
-mod blocks;
-mod steps;
-
 ghost use mathlib.Core.Path.{_≡_};
 ghost use Rattle.text_field.specs.Table.{table};
 ghost use Rattle.text_reader.specs.Texts.{isMore, startAt, textFrom};
 use refusal::Check;
+use text_block::Asked;
+use text_block::Counts;
+use text_block::Wanted;
 use text_field::Scope;
-
-// What is wanted next: a statement; `=` behind an identifier, from its first byte to the byte behind it; a value for a name of the scope,
-// counted from 1, 0 for an unknown one; `;` behind the value at a place for such a name; or nothing more.
-pub enum Wanted {
-    Statement,
-    Equals(usize, usize),
-    Value(usize),
-    Semicolon(usize, usize),
-    NoMore,
-}
-
-// Which block is asked for: none; a kind's block of a number; the first of a kind, or of any known kind, and nothing behind it.
-pub enum Asked {
-    Nothing,
-    Numbered(Scope, usize),
-    First(Scope),
-    FirstOfAny,
-}
-
-// How many blocks of each kind.
-pub struct Counts {
-    pub vertices: usize,
-    pub linedefs: usize,
-    pub sidedefs: usize,
-    pub sectors: usize,
-    pub things: usize,
-}
-
-// What was noted so far: the place of the last namespace's value, 0 for none; the counts; and whether the block that is asked for was
-// found, its kind, the place of its name, and the place behind it.
-pub struct Notes {
-    pub namespace: usize,
-    pub counts: Counts,
-    pub found: bool,
-    pub kind: Scope,
-    pub block: usize,
-    pub next: usize,
-}
-
-// How far a text was read: what is wanted next; in which scope, and where the open block's name stands; the place to go on; the
-// refusal, if any; and what was noted.
-pub struct Parse {
-    pub wanted: Wanted,
-    pub scope: Scope,
-    pub block: usize,
-    pub at: usize,
-    pub check: Check,
-    pub notes: Notes,
-}
+use text_step::Notes;
+use text_step::Parse;
 
 // Where the reading ended, and of each field of the block that was asked for the place of its last value, 0 for none.
 pub struct Outcome {
@@ -84,9 +37,9 @@ fn read_with(text: &[u8], rows: &[u8], asked: Asked, from: usize) -> Outcome
     let mut wanted = Wanted::Statement;
     while is_more(wanted) {
         let t = text_token::token_at(text, s.at);
-        let after = steps::step(text, rows, asked, &places, s, t);
-        blocks::keep(!s.notes.found & after.notes.found, &places, &mut kept);
-        blocks::file(wanted, t, &mut places);
+        let after = text_step::step(text, rows, asked, &places, s, t);
+        text_block::keep(!s.notes.found & after.notes.found, &places, &mut kept);
+        text_block::file(wanted, t, &mut places);
         s = after;
         wanted = s.wanted;
     }

@@ -25,13 +25,13 @@ use Rattle.text_value.specs.Values.{wordRead, tokenRead}
 use Rattle.text_field.specs.declared.Scope.{Scope}
 use Rattle.text_field.specs.Names.{fieldNamed, kindNamed}
 use Rattle.text_record.specs.Fields.{valueAt}
-use Rattle.text_reader.specs.declared.Asked.{Asked}
-use Rattle.text_reader.specs.declared.Wanted.{Wanted}
-use Rattle.text_reader.specs.declared.Wanted.the-variants.{Statement, Equals, Value, Semicolon, NoMore}
-use Rattle.text_reader.specs.declared.Parse.{Parse}
+use Rattle.text_block.specs.declared.Asked.{Asked}
+use Rattle.text_block.specs.declared.Wanted.{Wanted}
+use Rattle.text_block.specs.declared.Wanted.the-variants.{Statement, Equals, Value, Semicolon, NoMore}
+use Rattle.text_step.specs.declared.Parse.{Parse}
 use Rattle.text_reader.specs.Runs.{runs}
-use Rattle.text_reader.specs.Blocks.{noPlaces, stored, filed}
-use Rattle.text_reader.specs.Steps.{identifierOk, stepBy}
+use Rattle.text_block.specs.Blocks.{noPlaces, stored, filed}
+use Rattle.text_step.specs.Steps.{identifierOk, stepBy}
 use Rattle.text_reader.specs.Texts.{Stand, stand, isMore, goes, keptAfter, tokenMore, startAt, textFrom}
 use Rattle.text_reader.proofs.Runs.{runs-end}
 use Rattle.text_reader.proofs.Onward.{step-next}

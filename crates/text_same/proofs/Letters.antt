@@ -18,7 +18,7 @@ use Rattle.text_value.specs.Values.{isTrue, isFalse, wholeRead, digitsRead, num
 use Rattle.text_field.specs.declared.Scope.{Scope}
 use Rattle.text_field.specs.Table.{entryAt, rowSize}
 use Rattle.text_field.specs.Names.{every, longAs, isName, nameIn, firstRow, rowCount, fieldNamed, kindNamed, scopeOf, kindRows}
-use Rattle.text_reader.specs.Steps.{identifierOk}
+use Rattle.text_step.specs.Steps.{identifierOk}
 use Rattle.text_same.specs.Tokens.{SameLetters}
 use Rattle.text_same.proofs.Readings.{cond-both, SameReading, same-flag, same-none}
 

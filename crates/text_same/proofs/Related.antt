@@ -14,11 +14,11 @@ use Rattle.text_value.specs.Values.{tokenRead}
 use Rattle.text_field.specs.declared.Scope.{Scope}
 use Rattle.text_field.specs.Names.{fieldNamed, kindNamed}
 use Rattle.text_record.specs.Fields.{valueAt}
-use Rattle.text_reader.specs.declared.Wanted.{Wanted}
-use Rattle.text_reader.specs.declared.Wanted.the-variants.{Statement, Equals, Value, Semicolon, NoMore}
-use Rattle.text_reader.specs.declared.Notes.{Notes}
-use Rattle.text_reader.specs.declared.Parse.{Parse}
-use Rattle.text_reader.specs.Steps.{isIdentifier}
+use Rattle.text_block.specs.declared.Wanted.{Wanted}
+use Rattle.text_block.specs.declared.Wanted.the-variants.{Statement, Equals, Value, Semicolon, NoMore}
+use Rattle.text_step.specs.declared.Notes.{Notes}
+use Rattle.text_step.specs.declared.Parse.{Parse}
+use Rattle.text_step.specs.Steps.{isIdentifier}
 use Rattle.text_same.specs.Tokens.{SameFirst}
 use Rattle.text_same.specs.Answers.{SameCheck}
 use Rattle.text_same.proofs.Readings.{SameReading}

@@ -23,14 +23,14 @@ use Rattle.text_field.specs.declared.Scope.the-variants.{Top}
 use Rattle.text_field.specs.Table.{isRequired, whole, decimal, string, flag}
 use Rattle.text_field.specs.Names.{every, firstRow, rowCount, fieldNamed, kindNamed, scopeNumber}
 use Rattle.text_record.specs.Fields.{valueAt}
-use Rattle.text_reader.specs.declared.Asked.{Asked}
-use Rattle.text_reader.specs.declared.Counts.{Counts}
-use Rattle.text_reader.specs.declared.Wanted.{Wanted}
-use Rattle.text_reader.specs.declared.Wanted.the-variants.{Statement, Equals, Value, Semicolon, NoMore}
-use Rattle.text_reader.specs.declared.Notes.{Notes}
-use Rattle.text_reader.specs.declared.Parse.{Parse}
-use Rattle.text_reader.specs.Blocks.{countOf, counted, isFull, isAsked, stopsThere, isGiven, allGiven, stored, filed, noPlaces}
-use Rattle.text_reader.specs.Steps.{goesOn, refusedWith, misfit, isTop, isFound, notesAfter, wantedAfter, closedBlock, onStatement, openedBlock, onEquals, heldBy, serves, valueCheck, judged, onValue, notesAssigned, onSemicolon, stepBy}
+use Rattle.text_block.specs.declared.Asked.{Asked}
+use Rattle.text_block.specs.declared.Counts.{Counts}
+use Rattle.text_block.specs.declared.Wanted.{Wanted}
+use Rattle.text_block.specs.declared.Wanted.the-variants.{Statement, Equals, Value, Semicolon, NoMore}
+use Rattle.text_step.specs.declared.Notes.{Notes}
+use Rattle.text_step.specs.declared.Parse.{Parse}
+use Rattle.text_block.specs.Blocks.{countOf, counted, isFull, isAsked, stopsThere, isGiven, allGiven, stored, filed, noPlaces}
+use Rattle.text_step.specs.Steps.{goesOn, refusedWith, misfit, isTop, isFound, notesAfter, wantedAfter, closedBlock, onStatement, openedBlock, onEquals, heldBy, serves, valueCheck, judged, onValue, notesAssigned, onSemicolon, stepBy}
 use Rattle.text_same.specs.Tokens.{SameFirst}
 use Rattle.text_same.specs.Answers.{SameCheck, both-pass, both-refused}
 use Rattle.text_same.proofs.Readings.{cond-both, cond-both-on, SameReading, same-whole, same-decimal, same-flag, same-string, same-whole-past, same-decimal-past, same-none}

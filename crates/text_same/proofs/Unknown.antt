@@ -15,13 +15,13 @@ use Rattle.text_token.specs.Tokens.{endForm, tokenAt, wordOf}
 use Rattle.text_value.specs.Values.{tokenRead}
 use Rattle.text_field.specs.declared.Scope.{Scope}
 use Rattle.text_field.specs.Names.{fieldNamed, kindNamed}
-use Rattle.text_reader.specs.declared.Asked.{Asked}
-use Rattle.text_reader.specs.declared.Wanted.{Wanted}
-use Rattle.text_reader.specs.declared.Wanted.the-variants.{Statement, Equals, Value, Semicolon, NoMore}
-use Rattle.text_reader.specs.declared.Notes.{Notes}
-use Rattle.text_reader.specs.declared.Parse.{Parse}
-use Rattle.text_reader.specs.Blocks.{noPlaces, stored, filed}
-use Rattle.text_reader.specs.Steps.{notes, parse, goesOn, misfit, isTop, isIdentifier, closedBlock, openedBlock, valueCheck, judged, stepBy}
+use Rattle.text_block.specs.declared.Asked.{Asked}
+use Rattle.text_block.specs.declared.Wanted.{Wanted}
+use Rattle.text_block.specs.declared.Wanted.the-variants.{Statement, Equals, Value, Semicolon, NoMore}
+use Rattle.text_step.specs.declared.Notes.{Notes}
+use Rattle.text_step.specs.declared.Parse.{Parse}
+use Rattle.text_block.specs.Blocks.{noPlaces, stored, filed}
+use Rattle.text_step.specs.Steps.{notes, parse, goesOn, misfit, isTop, isIdentifier, closedBlock, openedBlock, valueCheck, judged, stepBy}
 use Rattle.text_reader.specs.Texts.{Stand, stand, tokenMore, textFrom}
 use Rattle.text_same.specs.Tokens.{SameFirst, SameTokens}
 use Rattle.text_same.specs.Answers.{SameCheck, both-pass}

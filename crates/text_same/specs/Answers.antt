@@ -11,7 +11,7 @@ use Rattle.refusal.specs.declared.Check.{Check}
 use Rattle.refusal.specs.declared.Check.the-variants.{Pass, Refused}
 use Rattle.refusal.specs.Table.{numberOf}
 use Rattle.text_token.specs.Tokens.{bytesOf}
-use Rattle.text_reader.specs.declared.Counts.{Counts}
+use Rattle.text_block.specs.declared.Counts.{Counts}
 use Rattle.text_reader.specs.Texts.{Stand}
 use Rattle.text_record.specs.declared.Places.{Places}
 use Rattle.text_record.specs.Fields.{valueAt, wholeOr, decimalOr, stringOr, flagOr}

@@ -12,11 +12,11 @@ use Rattle.text_token.specs.Tokens.{tokenAt, wordOf}
 use Rattle.text_value.specs.Values.{tokenRead}
 use Rattle.text_field.specs.declared.Scope.{Scope}
 use Rattle.text_field.specs.Names.{fieldNamed}
-use Rattle.text_reader.specs.declared.Asked.{Asked}
-use Rattle.text_reader.specs.declared.Wanted.{Wanted}
-use Rattle.text_reader.specs.declared.Wanted.the-variants.{Statement, Equals, Value, Semicolon, NoMore}
-use Rattle.text_reader.specs.Blocks.{noPlaces}
-use Rattle.text_reader.specs.Steps.{isIdentifier, valueCheck}
+use Rattle.text_block.specs.declared.Asked.{Asked}
+use Rattle.text_block.specs.declared.Wanted.{Wanted}
+use Rattle.text_block.specs.declared.Wanted.the-variants.{Statement, Equals, Value, Semicolon, NoMore}
+use Rattle.text_block.specs.Blocks.{noPlaces}
+use Rattle.text_step.specs.Steps.{isIdentifier, valueCheck}
 use Rattle.text_reader.specs.Texts.{Stand, stand, tokenMore, startAt, textFrom}
 use Rattle.text_same.specs.Tokens.{SameFirst, SameTokens}
 use Rattle.text_same.specs.Answers.{SameStand}

@@ -2,7 +2,7 @@
 use mathlib.Core.Path.{ap, _∙_}
 use borrow.Author.Needs.{needs}
 use denote.Ref.{now}
-use Rattle.text_reader.specs.declared.Parse.{Parse}
+use Rattle.text_step.specs.declared.Parse.{Parse}
 use Rattle.text_map.specs.Answers.{summaryBy}
 use Rattle.text_map.proofs.judge_text.Statement.{statement}
 use Rattle.text_map.proofs.judge_text.Tie as tie

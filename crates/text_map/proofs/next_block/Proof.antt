@@ -1,7 +1,7 @@
 -- `text_map::next_block` meets its contract: the block by what was read. Assumes nothing.
 use mathlib.Core.Path.{ap, _∙_}
 use borrow.Author.Needs.{needs}
-use Rattle.text_reader.specs.declared.Parse.{Parse}
+use Rattle.text_step.specs.declared.Parse.{Parse}
 use Rattle.text_map.specs.Answers.{blockBy, blockCheck}
 use Rattle.text_map.proofs.next_block.Statement.{statement}
 use Rattle.text_map.proofs.next_block.Tie as tie

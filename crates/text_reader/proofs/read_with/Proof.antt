@@ -11,11 +11,11 @@ use lib.ListN.{length}
 use Rattle.text_token.specs.Tokens.{tokenAt}
 use Rattle.text_reader.proofs.Onward.{Next, step-next}
 use Rattle.text_reader.proofs.Runs.{Rest, rest-first, rest-more, rest-done, left, left-less}
-use Rattle.text_reader.specs.Blocks.{isFull, noPlaces, filed}
-use Rattle.text_reader.specs.Steps.{stepBy}
+use Rattle.text_block.specs.Blocks.{isFull, noPlaces, filed}
+use Rattle.text_step.specs.Steps.{stepBy}
 use Rattle.text_reader.specs.Texts.{Stand, stand, isMore, goes, keptAfter, tokenMore, textFrom}
-use Rattle.text_reader.specs.declared.Asked.{Asked}
-use Rattle.text_reader.specs.declared.Parse.{Parse}
+use Rattle.text_block.specs.declared.Asked.{Asked}
+use Rattle.text_step.specs.declared.Parse.{Parse}
 use Rattle.text_reader.proofs.read_with.Statement.{statement}
 use Rattle.text_reader.proofs.read_with.Tie as tie
 

@@ -1,0 +1,3 @@
+-- Laws of the blocks of a text map. Assumes nothing.
+
+mod Room

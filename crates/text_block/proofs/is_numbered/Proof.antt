@@ -1,0 +1,10 @@
+-- `text_reader::blocks::is_numbered` meets its contract: what its calls answer. Assumes nothing.
+use borrow.Author.Needs.{needs}
+use Rattle.text_block.proofs.is_numbered.Statement.{statement}
+use Rattle.text_block.proofs.is_numbered.Tie as tie
+
+returns : tie.Need-returns
+returns c = cc
+
+pub is-numbered-spec : {M : Type 1} → statement M
+is-numbered-spec = tie.close (tie.spec (λ c κs. search needs) (λ c κs. search needs) returns)

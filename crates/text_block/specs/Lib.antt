@@ -1,0 +1,3 @@
+-- The blocks of a text map. Assumes nothing.
+
+pub mod Blocks

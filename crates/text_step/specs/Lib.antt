@@ -1,0 +1,3 @@
+-- One token of a text map. Assumes nothing.
+
+pub mod Steps

@@ -1,0 +1,380 @@
+// One token of a text map (W-206): what it does where a statement, `=`, a value or `;` is wanted. The definitions are in specs/.
+ghost use mathlib.Core.Bool.{false, cond};
+ghost use mathlib.Core.Path.{_≡_};
+ghost use Prim.Native.Nat.{_+_, _-_, _≤_, _<_};
+ghost use lib.ListN.{length, getD};
+ghost use Rattle.text_token.specs.Bytes.{isNameByte};
+ghost use Rattle.text_token.specs.Tokens.{spanEnd};
+ghost use Rattle.refusal.specs.declared.Refusal.the-variants.{TextGrammar, TextNumber};
+ghost use Rattle.refusal.specs.declared.Check.the-variants.{Refused};
+ghost use Rattle.text_field.specs.Table.{table};
+ghost use Rattle.text_block.specs.Blocks.{isFull};
+ghost use Rattle.text_step.specs.Steps.{goesOn, refusedWith, misfit, isTop, identifierOk, isIdentifier, isFound, notesAfter, wantedAfter, closedBlock, onStatement, openedBlock, onEquals, heldBy, serves, givenAs, valueCheck, judged, onValue, notesAssigned, onSemicolon, stepBy};
+use refusal::Check;
+use refusal::Refusal;
+use text_block::Asked;
+use text_block::Counts;
+use text_block::Wanted;
+use text_field::Scope;
+use text_token::Token;
+use text_token::bytes;
+use text_value::Reading;
+use text_value::Value;
+
+// What was noted so far: the place of the last namespace's value, 0 for none; the counts; and whether the block that is asked for was
+// found, its kind, the place of its name, and the place behind it.
+pub struct Notes {
+    pub namespace: usize,
+    pub counts: Counts,
+    pub found: bool,
+    pub kind: Scope,
+    pub block: usize,
+    pub next: usize,
+}
+
+// How far a text was read: what is wanted next; in which scope, and where the open block's name stands; the place to go on; the
+// refusal, if any; and what was noted.
+pub struct Parse {
+    pub wanted: Wanted,
+    pub scope: Scope,
+    pub block: usize,
+    pub at: usize,
+    pub check: Check,
+    pub notes: Notes,
+}
+
+// One token more. (The kind of the open block was not full where it opened, so that it can be counted.)
+pub fn step(
+    text: &[u8],
+    rows: &[u8],
+    asked: Asked,
+    places: &[usize; 34],
+    s: Parse,
+    t: Token,
+) -> Parse
+    requires { ⌜ now rows ≡ table ⌝ }
+    requires { ⌜ (t .start ≤ t .end) × (t .end ≤ length (now text)) ⌝ }
+    requires { ⌜ isFull (s .notes .counts) (s .scope) ≡ false ⌝ }
+    ensures { λ r. ⌜ r ≡ stepBy (now (text .entry)) asked (now (places .entry)) s t (s .wanted) ⌝ }
+{
+    let wanted = s.wanted;
+    match wanted {
+        Wanted::Statement => on_statement(text, rows, asked, places, s, t),
+        Wanted::Equals(start, end) => on_equals(text, rows, s, t, start, end),
+        Wanted::Value(field) => on_value(text, rows, s, t, field),
+        Wanted::Semicolon(field, place) => on_semicolon(s, t, field, place),
+        Wanted::NoMore => s,
+    }
+}
+
+// Behind a token that fits, in the same scope.
+fn goes_on(s: Parse, t: Token, wanted: Wanted) -> Parse
+    ensures { λ r. ⌜ r ≡ goesOn s t wanted ⌝ }
+{
+    let scope = s.scope;
+    let notes = s.notes;
+    Parse {
+        wanted,
+        scope,
+        block: s.block,
+        at: t.next,
+        check: Check::Pass,
+        notes,
+    }
+}
+
+fn refused_with(s: Parse, r: Refusal) -> Parse
+    ensures { λ p. ⌜ p ≡ refusedWith s r ⌝ }
+{
+    let scope = s.scope;
+    let notes = s.notes;
+    Parse {
+        wanted: Wanted::NoMore,
+        scope,
+        block: s.block,
+        at: s.at,
+        check: Check::Refused(r),
+        notes,
+    }
+}
+
+fn misfit(s: Parse, t: Token) -> Parse
+    ensures { λ r. ⌜ r ≡ misfit s t ⌝ }
+{
+    refused_with(s, Refusal::TextGrammar(t.start))
+}
+
+fn is_top(scope: Scope) -> bool
+    ensures { λ r. ⌜ r ≡ isTop scope ⌝ }
+{
+    text_field::scope_number(scope) == 0
+}
+
+// A statement begins with an identifier; in a block a closing brace may come, and at the top the text's end.
+fn on_statement(
+    text: &[u8],
+    rows: &[u8],
+    asked: Asked,
+    places: &[usize; 34],
+    s: Parse,
+    t: Token,
+) -> Parse
+    requires { ⌜ now rows ≡ table ⌝ }
+    requires { ⌜ (t .start ≤ t .end) × (t .end ≤ length (now text)) ⌝ }
+    requires { ⌜ isFull (s .notes .counts) (s .scope) ≡ false ⌝ }
+    ensures { λ r. ⌜ r ≡ onStatement (now (text .entry)) asked (now (places .entry)) s t ⌝ }
+{
+    if is_identifier(text, t) {
+        return goes_on(s, t, Wanted::Equals(t.start, t.end));
+    }
+    let scope = s.scope;
+    let top = is_top(scope);
+    if !top & (t.form == bytes::CLOSE_BRACE) {
+        return closed_block(rows, asked, places, s, t);
+    }
+    if top & (t.form == text_token::END) {
+        return goes_on(s, t, Wanted::NoMore);
+    }
+    misfit(s, t)
+}
+
+fn is_identifier(text: &[u8], t: Token) -> bool
+    requires { ⌜ (t .start ≤ t .end) × (t .end ≤ length (now text)) ⌝ }
+    ensures { λ r. ⌜ r ≡ isIdentifier (now (text .entry)) t ⌝ }
+{
+    if t.form == text_token::WORD {
+        return identifier_ok(text_token::word_of(text, t));
+    }
+    false
+}
+
+fn identifier_ok(word: &[u8]) -> bool
+    ensures { λ r. ⌜ r ≡ identifierOk (now (word .entry)) ⌝ }
+{
+    bytes::is_letter(bytes::byte_at(word, 0)) & (name_end(word) == word.len())
+}
+
+// Behind the letters and digits.
+fn name_end(word: &[u8]) -> usize
+    ensures { λ r. ⌜ r ≡ spanEnd (λ i. isNameByte (getD (now (word .entry)) i 0)) 0 (length (now (word .entry))) ⌝ }
+{
+    let mut at = 0;
+    while at < word.len() {
+        if !bytes::is_name_byte(word[at]) {
+            return at;
+        }
+        at += 1;
+    }
+    at
+}
+
+// A closing brace: 92 there where a field without default is missing.
+fn closed_block(rows: &[u8], asked: Asked, places: &[usize; 34], s: Parse, t: Token) -> Parse
+    requires { ⌜ now rows ≡ table ⌝ }
+    requires { ⌜ isFull (s .notes .counts) (s .scope) ≡ false ⌝ }
+    ensures { λ r. ⌜ r ≡ closedBlock asked (now (places .entry)) s t ⌝ }
+{
+    let scope = s.scope;
+    if text_block::all_given(rows, scope, places) {
+        return Parse {
+            wanted: wanted_after(asked, s),
+            scope: Scope::Top,
+            block: 0,
+            at: t.next,
+            check: Check::Pass,
+            notes: notes_after(asked, s, t.next),
+        };
+    }
+    refused_with(s, Refusal::TextField(t.start))
+}
+
+// The open block is the one that is asked for.
+fn is_found(asked: Asked, s: Parse) -> bool
+    ensures { λ r. ⌜ r ≡ isFound asked s ⌝ }
+{
+    let scope = s.scope;
+    let notes = s.notes;
+    let counts = notes.counts;
+    text_block::is_asked(asked, scope, text_block::count_of(counts, scope))
+}
+
+fn wanted_after(asked: Asked, s: Parse) -> Wanted
+    ensures { λ r. ⌜ r ≡ wantedAfter asked s ⌝ }
+{
+    if text_block::stops_there(asked) & is_found(asked, s) {
+        return Wanted::NoMore;
+    }
+    Wanted::Statement
+}
+
+// What is noted where the open block ends.
+fn notes_after(asked: Asked, s: Parse, next: usize) -> Notes
+    requires { ⌜ isFull (s .notes .counts) (s .scope) ≡ false ⌝ }
+    ensures { λ r. ⌜ r ≡ notesAfter asked s next ⌝ }
+{
+    let scope = s.scope;
+    let n = s.notes;
+    let counts = n.counts;
+    let more = text_block::counted(counts, scope);
+    if is_found(asked, s) {
+        return Notes {
+            namespace: n.namespace,
+            counts: more,
+            found: true,
+            kind: scope,
+            block: s.block,
+            next,
+        };
+    }
+    let kind = n.kind;
+    Notes {
+        namespace: n.namespace,
+        counts: more,
+        found: n.found,
+        kind,
+        block: n.block,
+        next: n.next,
+    }
+}
+
+// `=` behind an identifier; or at the top an opening brace.
+fn on_equals(text: &[u8], rows: &[u8], s: Parse, t: Token, start: usize, end: usize) -> Parse
+    requires { ⌜ now rows ≡ table ⌝ }
+    ensures { λ r. ⌜ r ≡ onEquals (now (text .entry)) s t start end ⌝ }
+{
+    let scope = s.scope;
+    let name = text_token::bytes_of(text, start, end);
+    if t.form == bytes::EQUALS_SIGN {
+        let field = text_field::field_named(rows, scope, name);
+        return goes_on(s, t, Wanted::Value(field));
+    }
+    if is_top(scope) & (t.form == bytes::OPEN_BRACE) {
+        return opened_block(s, t, start, text_field::kind_named(rows, name));
+    }
+    misfit(s, t)
+}
+
+// A block of a kind opens: 93 at its name where there are too many.
+fn opened_block(s: Parse, t: Token, start: usize, kind: Scope) -> Parse
+    ensures { λ r. ⌜ r ≡ openedBlock s t start kind ⌝ }
+{
+    let notes = s.notes;
+    let counts = notes.counts;
+    if text_block::is_full(counts, kind) {
+        return refused_with(s, Refusal::TextBlocks(start));
+    }
+    Parse {
+        wanted: Wanted::Statement,
+        scope: kind,
+        block: start,
+        at: t.next,
+        check: Check::Pass,
+        notes,
+    }
+}
+
+fn on_value(text: &[u8], rows: &[u8], s: Parse, t: Token, field: usize) -> Parse
+    requires { ⌜ now rows ≡ table ⌝ }
+    requires { ⌜ (t .start ≤ t .end) × (t .end ≤ length (now text)) ⌝ }
+    ensures { λ r. ⌜ r ≡ onValue (now (text .entry)) s t field ⌝ }
+{
+    let scope = s.scope;
+    let held = held_by(rows, scope, field);
+    judged(
+        s,
+        t,
+        field,
+        value_check(held, text_value::read(text, t), t.start),
+    )
+}
+
+// What a name of a scope holds; 0, which is anything, for an unknown one. (No number of a name is above that of the rows.)
+fn held_by(rows: &[u8], scope: Scope, i: usize) -> u8
+    requires { ⌜ now rows ≡ table ⌝ }
+    ensures { λ r. ⌜ r ≡ heldBy scope i ⌝ }
+{
+    if i == 0 {
+        return 0;
+    }
+    if text_field::ROWS < i {
+        return 0;
+    }
+    text_field::holds_of(rows, text_field::first_row(scope) + (i - 1))
+}
+
+// 90 for no value or one of the wrong kind, and 91 for a number past its limits where its kind is right.
+fn value_check(held: u8, reading: Reading, at: usize) -> Check
+    ensures { λ r. ⌜ r ≡ valueCheck held reading at ⌝ }
+{
+    match reading {
+        Reading::Good(v) => refusal::pass_if(serves(held, given_as(v)), Refusal::TextGrammar(at)),
+        Reading::WholePast => past(serves(held, text_field::WHOLE), at),
+        Reading::DecimalPast => past(serves(held, text_field::DECIMAL), at),
+        Reading::NoValue => Check::Refused(Refusal::TextGrammar(at)),
+    }
+}
+
+fn past(served: bool, at: usize) -> Check
+    ensures { λ r. ⌜ r ≡ Refused (cond served (TextNumber at) (TextGrammar at)) ⌝ }
+{
+    if served {
+        return Check::Refused(Refusal::TextNumber(at));
+    }
+    Check::Refused(Refusal::TextGrammar(at))
+}
+
+fn given_as(v: Value) -> u8
+    ensures { λ r. ⌜ r ≡ givenAs v ⌝ }
+{
+    match v {
+        Value::Whole(_) => text_field::WHOLE,
+        Value::Decimal(_) => text_field::DECIMAL,
+        Value::Text(_, _) => text_field::STRING,
+        Value::Flag(_) => text_field::FLAG,
+    }
+}
+
+fn serves(held: u8, given: u8) -> bool
+    ensures { λ r. ⌜ r ≡ serves held given ⌝ }
+{
+    (held == 0) | ((held == given) | ((held == text_field::DECIMAL) & (given == text_field::WHOLE)))
+}
+
+fn judged(s: Parse, t: Token, field: usize, check: Check) -> Parse
+    ensures { λ r. ⌜ r ≡ judged s t field check ⌝ }
+{
+    match check {
+        Check::Pass => goes_on(s, t, Wanted::Semicolon(field, t.start)),
+        Check::Refused(r) => refused_with(s, r),
+    }
+}
+
+// `;` behind a value.
+fn on_semicolon(s: Parse, t: Token, field: usize, place: usize) -> Parse
+    ensures { λ r. ⌜ r ≡ onSemicolon s t field place ⌝ }
+{
+    let scope = s.scope;
+    if t.form == bytes::SEMICOLON {
+        return Parse {
+            wanted: Wanted::Statement,
+            scope,
+            block: s.block,
+            at: t.next,
+            check: Check::Pass,
+            notes: notes_assigned(s, field, place),
+        };
+    }
+    misfit(s, t)
+}
+
+// The only name that the top knows, 1, is the namespace: the last one's value counts.
+fn notes_assigned(s: Parse, field: usize, place: usize) -> Notes
+    ensures { λ r. ⌜ r ≡ notesAssigned s field place ⌝ }
+{
+    let scope = s.scope;
+    let mut n = s.notes;
+    if is_top(scope) & (field != 0) {
+        n.namespace = place;
+    }
+    n
+}
