@@ -223,7 +223,11 @@ impl Refusal {
                  sector texturefloor and textureceiling, a thing x, y and type"
             ),
             93 => write!(out, "there are too many blocks of this kind: a text map has at most 65,535 of each"),
-            _ => write!(out, "the text has no block of that kind with that number, or none from that place on"),
+            _ => write!(
+                out,
+                "the text has no block of that kind with that number, or none from that place on: a block's number is below the \
+                 count of its kind"
+            ),
         }
     }
 
