@@ -36,18 +36,19 @@ fn assignments(text: &mut Vec<u8>, n: usize) {
     text.resize(quarters(n), b' ');
 }
 
-/// Blocks of all five kinds in turn, together as many as there may be of one kind.
+/// Blocks of all five kinds in turn, together as many as there may be of one kind, each with blanks behind it up to its part of 16 MiB.
 pub fn text_of_blocks(n: usize) -> Vec<u8> {
-    let mut text = String::from("namespace = \"Doom\";\n");
-    for at in 0..MOST_BLOCKS * n / 4 / 5 {
-        put_vertex(&mut text, at);
-        put_linedef(&mut text, at);
-        put_sidedef(&mut text, at);
-        put_sector(&mut text, at);
-        put_thing(&mut text, at);
+    let kinds = [put_vertex, put_linedef, put_sidedef, put_sector, put_thing];
+    let mut text = String::new();
+    for at in 0..MOST_BLOCKS * n / 4 {
+        kinds[at % 5](&mut text, at / 5);
+        text.push_str(&" ".repeat((at + 1) * BLOCK - text.len()));
     }
     text.into_bytes()
 }
+
+/// The bytes of 16 MiB for each of so many blocks.
+const BLOCK: usize = MOST_BYTES / (MOST_BLOCKS + 1);
 
 /// Vertices alone, as many as there may be.
 pub fn text_of_vertices(n: usize) -> Vec<u8> {
@@ -112,8 +113,17 @@ pub fn text_of_comments(n: usize) -> Vec<u8> {
 
 /// One string, with backslashes in it.
 pub fn text_of_one_string(n: usize) -> Vec<u8> {
+    string_for("a", n)
+}
+
+/// The same as the text's namespace, whose bytes are looked at again.
+pub fn text_of_one_namespace(n: usize) -> Vec<u8> {
+    string_for("namespace", n)
+}
+
+fn string_for(name: &str, n: usize) -> Vec<u8> {
     let words = b"some words \\\" of it; ";
-    let mut text = b"a = \"".to_vec();
+    let mut text = format!("{name} = \"").into_bytes();
     text.extend(words.repeat(quarters(n) / words.len() - 1));
     text.resize(quarters(n) - 2, b'z');
     text.extend_from_slice(b"\";");
@@ -125,5 +135,14 @@ pub fn text_of_one_word(n: usize) -> Vec<u8> {
     let mut text = vec![b'a'; quarters(n)];
     let end = text.len() - 4;
     text[end..].copy_from_slice(b"=10;");
+    text
+}
+
+/// One number, of the 0x form: zeros in front do not count.
+pub fn text_of_one_number(n: usize) -> Vec<u8> {
+    let mut text = vec![b'0'; quarters(n)];
+    let end = text.len() - 2;
+    text[..4].copy_from_slice(b"a=0x");
+    text[end..].copy_from_slice(b"1;");
     text
 }

@@ -22,7 +22,7 @@
 //!   [`chain_in_order`], [`twice`], [`with_changes`], [`with_last_changed`], [`names_at_random`], [`names_ascending`],
 //!   [`names_descending`], [`names_alike`], [`with_its_index`], [`with_a_wrong_index`],
 //!   [`ordinary_text`], [`text_of_assignments`], [`text_of_one_block`], [`text_of_blocks`], [`text_of_vertices`], [`text_of_comments`],
-//!   [`text_of_one_string`] and [`text_of_one_word`] are the inputs of a benchmark;
+//!   [`text_of_one_string`], [`text_of_one_namespace`], [`text_of_one_word`] and [`text_of_one_number`] are the inputs of a benchmark;
 //! - [`shrink`] makes a failing case smaller.
 //!
 //! ```
@@ -114,8 +114,8 @@ pub use bench_pictures::{
     badly_ended_picture_of, busy_picture_of, hostile_picture, hostile_picture_of, shared_runs, staggered_picture_of,
 };
 pub use bench_text::{
-    ordinary_text, text_of_assignments, text_of_blocks, text_of_comments, text_of_one_block, text_of_one_string,
-    text_of_one_word, text_of_vertices,
+    ordinary_text, text_of_assignments, text_of_blocks, text_of_comments, text_of_one_block, text_of_one_namespace,
+    text_of_one_number, text_of_one_string, text_of_one_word, text_of_vertices,
 };
 pub use blockmap::{BlockmapSpec, Layout};
 pub use case::{Case, Expected, Question};

@@ -81,11 +81,11 @@ pub(crate) fn good(form: Form, rng: &mut Rng) -> Vec<u8> {
     text.into_bytes()
 }
 
-/// A decimal of any digits, with up to fifteen of them and six behind the point.
+/// A decimal of any digits, with up to fifteen of them and six behind the point; every second one has zeros in front, up to all of its digits.
 pub fn decimal(rng: &mut Rng) -> String {
     let behind = rng.below(7);
     let before = rng.between(1, 15 - behind);
-    let zeros = rng.below(4).min(before);
+    let zeros = if rng.once_in(2) { rng.below(before + 1) } else { 0 };
     let mut digits = |count: usize| -> String { (0..count).map(|_| (b'0' + rng.below(10) as u8) as char).collect() };
     let (before, behind) = ("0".repeat(zeros) + &digits(before - zeros), digits(behind));
     format!("{}{before}.{behind}", rng.pick(&["", "", "+", "-"]))

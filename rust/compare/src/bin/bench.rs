@@ -333,7 +333,7 @@ fn reader_text(text: &[u8]) -> usize {
     reader::text_map(text).expect("a good text").counts.iter().sum()
 }
 
-/// All blocks of a text in one pass: the sum of a number of each.
+/// All blocks of a text, one after the other: the sum of a number of each.
 fn library_blocks(text: &[u8]) -> usize {
     use meshpigeon::text::{block, Kind, Linedef, Quoted, Sector, Sidedef, Thing, Vertex};
     let (mut place, mut sum) = (0, 0);
@@ -757,7 +757,14 @@ fn inputs() -> Vec<Input> {
         },
         Input { name: "text: 16 MiB of comments", sized: given::text_of_comments, library: library_text, reader: reader_text },
         Input { name: "text: a string of 16 MiB", sized: given::text_of_one_string, library: library_text, reader: reader_text },
+        Input {
+            name: "text: a namespace of 16 MiB",
+            sized: given::text_of_one_namespace,
+            library: library_text,
+            reader: reader_text,
+        },
         Input { name: "text: a word of 16 MiB", sized: given::text_of_one_word, library: library_text, reader: reader_text },
+        Input { name: "text: a number of 16 MiB", sized: given::text_of_one_number, library: library_text, reader: reader_text },
         Input {
             name: "hostile BLOCKMAP of 16 MiB",
             sized: |n| given::hostile_blockmap_of(given::MOST_BYTES * n / 4),
