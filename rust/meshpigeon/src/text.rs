@@ -157,7 +157,7 @@ pub struct Blocks<'a> {
     place: usize,
 }
 
-/// All blocks of a text as they come, in one pass behind the one that judges it: 90 to 93 of the whole text.
+/// All blocks of a text as they come, in linear time behind the pass that judges it: 90 to 93 of the whole text.
 ///
 /// ```
 /// use meshpigeon::text::{self, Block, Vertex};
