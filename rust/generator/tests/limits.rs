@@ -217,14 +217,19 @@ fn texts_of_a_benchmark_are_good_and_as_long_as_they_say() {
     let summed = |text: &[u8]| text_map(text).map(|map| map.counts);
     for n in [1, 4] {
         let part = MOST_BYTES / 4 * n;
-        for text in [text_of_assignments(n), text_of_comments(n), text_of_one_string(n), text_of_one_word(n)] {
+        let texts = [text_of_assignments, text_of_comments, text_of_one_string, text_of_one_word, text_of_one_number];
+        for text in texts.map(|text| text(n)) {
             assert_eq!((text_map(&text), text.len()), (Ok(TextMap { namespace: Quoted::default(), counts: [0; 5] }), part));
         }
+        let named = text_of_one_namespace(n);
+        assert_eq!((text_map(&named).map(|map| map.namespace), named.len()), (Ok(Quoted { start: 13, end: part - 2 }), part));
         let one = text_of_one_block(n);
         assert_eq!((summed(&one), one.len()), (Ok([0, 1, 0, 0, 0]), part));
         assert_eq!(text_linedef(&one, 0).map(|(linedef, next)| (linedef.sidefront, next)), Ok((3, part - 1)));
         assert_eq!(one.iter().filter(|&&byte| byte == b'=').count(), 250_000 * n + 3);
-        assert_eq!(summed(&text_of_blocks(n)), Ok([65_535 * n / 4 / 5; 5]));
+        let blocks = text_of_blocks(n);
+        assert_eq!(summed(&blocks).map(|counts| counts.iter().sum()), Ok(65_535 * n / 4));
+        assert_eq!(blocks.len(), 65_535 * n / 4 * 256);
         assert_eq!(summed(&text_of_vertices(n)), Ok([65_535 * n / 4, 0, 0, 0, 0]));
     }
     assert_eq!(text_vertex(&text_of_vertices(4), 65_534).map(|it| it.0), Ok(TextVertex { x: 32_640.0, y: -8_128.5 }));
