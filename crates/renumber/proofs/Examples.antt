@@ -2,7 +2,7 @@
 use mathlib.Core.Path.{refl}
 use Rattle.layout.specs.Rows.{laidOut}
 use Rattle.bsp.specs.Heights.{wordsFrom}
-use Rattle.renumber.specs.Orders.{childrenOk}
+use Rattle.renumber_order.specs.Orders.{childrenOk}
 use Rattle.renumber.specs.Examples.{Examples}
 
 pub examples : Examples

@@ -24,12 +24,12 @@ use Rattle.bsp.specs.declared.Choice.the-variants.{Right, Left}
 use Rattle.bsp.specs.Nodes.{subsectorBit, isNode, childOf}
 use Rattle.bsp.proofs.Heights.{node-or-end}
 use Rattle.bsp.proofs.Repeats.{or-either}
-use Rattle.renumber.specs.Orders.{indexIn, oldAt}
+use Rattle.renumber_order.specs.Orders.{indexIn, oldAt}
 use Rattle.renumber.specs.Renumbering.{renamed, newNode, renumbered}
 use Rattle.renumber.specs.Inner.{renamedBy, nodeBy, Writable}
-use Rattle.renumber.proofs.Members.{not-both}
-use Rattle.renumber.proofs.Placing.{own-place}
-use Rattle.renumber.proofs.Checking.{children-each, order-inside, child-word}
+use Rattle.renumber_order.proofs.Members.{not-both}
+use Rattle.renumber_order.proofs.Placing.{own-place}
+use Rattle.renumber_order.proofs.Checking.{children-each, order-inside, child-word}
 
 -- ---- one node
 

@@ -19,7 +19,8 @@ use Rattle.level.specs.Verdict.{graphAnswer, judged, wordsBy, checkAt, nodesAt,
 use Rattle.renumber.specs.declared.Renumbering.{Renumbering}
 use Rattle.renumber.specs.declared.Renumbering.the-variants.{Refused as NotWritten}
 use Rattle.renumber.specs.Renumbering.{renumbered, checkBy, lumpBy, renumberingOf, Renumbers}
-use Rattle.renumber.specs.Inner.{RenumbersAt, graphCheck, NodesRenumbered}
+use Rattle.renumber.specs.Inner.{RenumbersAt, NodesRenumbered}
+use Rattle.renumber_order.specs.Inner.{graphCheck}
 
 module _ (wad : List ℕ) (marker : ℕ) (order out : List ℕ) where
   -- the answer to a verdict, and the output afterwards

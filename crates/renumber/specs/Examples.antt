@@ -7,7 +7,7 @@ use Rattle.endian.specs.Unsigned.{u16Bytes}
 use Rattle.refusal.specs.declared.Check.the-variants.{Pass, Refused}
 use Rattle.refusal.specs.declared.Refusal.the-variants.{RenumberNodes, RenumberChild, RenumberRoot, RenumberLength, RenumberRoom}
 use Rattle.bsp.specs.Nodes.{subsectorBit}
-use Rattle.renumber.specs.Orders.{renumberCheck}
+use Rattle.renumber_order.specs.Orders.{renumberCheck}
 use Rattle.renumber.specs.Renumbering.{renumbered}
 
 -- a node of 24 bytes `b` and two children

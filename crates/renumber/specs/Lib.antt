@@ -1,6 +1,5 @@
 -- NODES renumbered so that children come before their parents. Assumes nothing.
 
-pub mod Orders
 pub mod Renumbering
 pub mod Examples
 pub mod Inner

@@ -1,5 +1,4 @@
 // NODES renumbered so that children come before their parents (W-212), by a list that nothing is known of. The definitions are in specs/.
-mod judging;
 mod writing;
 
 ghost use mathlib.Core.Path.{_≡_};
@@ -105,7 +104,7 @@ fn renumber_some(
     requires { ⌜ Searchable (now nodes) count (now words) ⌝ }
     ensures { λ r. ⌜ NodesRenumbered (now (nodes .entry)) (now (order .entry)) (now (out .entry)) r (now (out .exit)) ⌝ }
 {
-    if let Check::Refused(r) = judging::judge_graph(nodes, count, words, order, out.len()) {
+    if let Check::Refused(r) = renumber_order::judge_graph(nodes, count, words, order, out.len()) {
         return Renumbering::Refused(r);
     }
     writing::write_nodes(nodes, count, words, order, out);

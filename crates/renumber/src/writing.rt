@@ -7,7 +7,8 @@ ghost use lib.Seq.{sets};
 ghost use Rattle.built.specs.Nodes.{nodeSize};
 ghost use Rattle.bsp.specs.Nodes.{subsectorBit};
 ghost use Rattle.renumber.specs.Renumbering.{renumbered};
-ghost use Rattle.renumber.specs.Inner.{renamedBy, nodeBy, ChildrenPlaced, Writable};
+ghost use Rattle.renumber.specs.Inner.{renamedBy, nodeBy, Writable};
+ghost use Rattle.renumber_order.specs.Inner.{ChildrenPlaced};
 use bsp::Choice;
 use built::Node;
 

@@ -14,8 +14,8 @@ use Rattle.refusal.proofs.Checks.{both}
 use Rattle.bsp.specs.Heights.{member, repeats}
 use Rattle.bsp.specs.Reach.{HoldsOnce}
 use Rattle.bsp.proofs.Repeats.{or-neither, member-head, member-tail, member-cons, at-member}
-use Rattle.renumber.specs.Orders.{indexIn, allAmong, lastOk}
-use Rattle.renumber.proofs.Members.{not-both, no-more}
+use Rattle.renumber_order.specs.Orders.{indexIn, allAmong, lastOk}
+use Rattle.renumber_order.proofs.Members.{not-both, no-more}
 
 -- ---- in the list or not
 

@@ -22,7 +22,7 @@ use Rattle.bsp.specs.declared.Choice.{Choice}
 use Rattle.bsp.specs.declared.Choice.the-variants.{Right, Left}
 use Rattle.bsp.specs.Nodes.{nodesOf, subsectorBit, isNode, childOf}
 use Rattle.bsp.specs.Side.{side, sideAt, chosen}
-use Rattle.renumber.specs.Orders.{indexIn, oldAt}
+use Rattle.renumber_order.specs.Orders.{indexIn, oldAt}
 use Rattle.renumber.specs.Renumbering.{renamed, newNode, renumbered}
 
 -- ---- two bytes of a part

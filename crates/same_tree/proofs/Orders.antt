@@ -21,9 +21,9 @@ use Rattle.bsp.specs.Nodes.{nodesOf, subsectorBit, isNode, childOf, root}
 use Rattle.bsp.specs.Heights.{member, repeats}
 use Rattle.bsp.specs.Reach.{reachedNodes, HoldsOnce}
 use Rattle.bsp.proofs.Heights.{node-or-end}
-use Rattle.renumber.specs.Orders.{indexIn, manyOk, onceOk, rootOk, oldAt, childFirst, childrenOk, renumberCheck}
+use Rattle.renumber_order.specs.Orders.{indexIn, manyOk, onceOk, rootOk, oldAt, childFirst, childrenOk, renumberCheck}
 use Rattle.same_tree.specs.Promises.{ReachedNode, GoodOrder}
-use Rattle.renumber.proofs.Checking.{children-none, children-suc, children-each}
+use Rattle.renumber_order.proofs.Checking.{children-none, children-suc, children-each}
 use Rattle.same_tree.proofs.Held.{at-place, place-least, same-length, holds-all, all-member, member-all, last-ends, ends-last}
 
 module _ (nodes order : List ℕ) where

@@ -17,7 +17,7 @@ use Rattle.bsp.specs.Reach.{HoldsOnce}
 use Rattle.bsp.specs.Walks.{Walk, descent}
 use Rattle.level.specs.declared.Verdict.the-variants.{Accepted}
 use Rattle.level.specs.Verdict.{nodesAt, subsectorsAt, verdict}
-use Rattle.renumber.specs.Orders.{oldAt, renumberCheck}
+use Rattle.renumber_order.specs.Orders.{oldAt, renumberCheck}
 use Rattle.renumber.specs.Renumbering.{renumbered}
 
 -- a node that some list of choices leads to

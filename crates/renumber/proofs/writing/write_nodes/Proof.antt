@@ -11,7 +11,7 @@ use lib.Seq.{sets, length-sets}
 use Rattle.layout.specs.Rows.{laidOut}
 use Rattle.layout.proofs.LaidOut.{laid-none}
 use Rattle.renumber.specs.Renumbering.{newNode}
-use Rattle.renumber.proofs.Checking.{order-inside, order-placed}
+use Rattle.renumber_order.proofs.Checking.{order-inside, order-placed}
 use Rattle.renumber.proofs.Rows.{nodes-more}
 use Rattle.renumber.proofs.writing.write_nodes.Statement.{statement}
 use Rattle.renumber.proofs.writing.write_nodes.Tie as tie

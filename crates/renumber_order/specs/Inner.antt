@@ -1,0 +1,122 @@
+-- Not for the reader of promises: what the contracts of the functions cite. After the search of `graph` the first `count` work words
+-- mark the nodes that are reached; the next `count` words then hold the place of each node in the list. Assumes nothing.
+use Prim.Native.Nat.{ℕ, zero, suc, _+_, _*_, _≤_, _<_}
+use mathlib.Core.Bool.{Bool, true, false, _&&_, _||_, not, cond}
+use mathlib.Core.List.{List, [], _∷_}
+use mathlib.Core.Path.{_≡_}
+use lib.Dec.{ltb, eqb}
+use lib.ListN.{length, getD}
+use Rattle.refusal.specs.declared.Check.{Check}
+use Rattle.refusal.specs.declared.Check.the-variants.{Pass, Refused}
+use Rattle.refusal.specs.declared.Refusal.the-variants.{NodeLoop, NodeShared}
+use Rattle.built.specs.Nodes.{nodeSize}
+use Rattle.bsp.specs.declared.Choice.{Choice}
+use Rattle.bsp.specs.declared.Choice.the-variants.{Right, Left}
+use Rattle.bsp.specs.declared.Graph.{Graph}
+use Rattle.bsp.specs.declared.Graph.the-variants.{HasLoop, HasShared, HasDepth}
+use Rattle.bsp.specs.Nodes.{subsectorBit, isNode, childOf}
+use Rattle.bsp.specs.Heights.{member, repeats, graphVerdict}
+use Rattle.bsp.specs.Inner.{NodesInRange}
+use Rattle.bsp.specs.Reach.{reachedNodes}
+use Rattle.graph.specs.Inner.Looks.{markOf}
+use Rattle.renumber_order.specs.Orders.{oldAt, renumberCheck}
+
+-- ---- the graph and the list
+
+-- 31 and 32, and where the graph passes the list
+abbrev pub graphCheck : Graph → List ℕ → List ℕ → ℕ → Check
+graphCheck HasLoop nodes order room = Refused NodeLoop
+graphCheck HasShared nodes order room = Refused NodeShared
+graphCheck (HasDepth depth) nodes order room = renumberCheck nodes order room
+
+abbrev pub nodesCheck : List ℕ → List ℕ → ℕ → Check
+nodesCheck nodes order room = graphCheck (graphVerdict nodes) nodes order room
+
+-- ---- marks
+
+-- node `v` is marked
+abbrev pub markedOk : List ℕ → ℕ → ℕ → Bool
+markedOk words count v = ltb v count && not (eqb (markOf words v) 0)
+
+-- the marked nodes below `n`
+unfoldable pub markedBelow : List ℕ → ℕ → List ℕ
+markedBelow words zero = []
+markedBelow words (suc n) = cond (eqb (markOf words n) 0) (markedBelow words n) (n ∷ markedBelow words n)
+
+-- the marked nodes are the reached ones, of which there is none twice
+pub record Marks (nodes : List ℕ) (count : ℕ) (words : List ℕ) : Type 0 where
+  pub says : (v : ℕ) → member v (reachedNodes nodes) ≡ markedOk words count v
+  pub once : repeats (reachedNodes nodes) ≡ false
+
+-- every number of the list is a marked node
+abbrev pub allMarked : List ℕ → ℕ → List ℕ → Bool
+allMarked words count [] = true
+allMarked words count (x ∷ xs) = markedOk words count x && allMarked words count xs
+
+-- ---- places
+
+-- no place
+abbrev pub noPlace : ℕ
+noPlace = 65535
+
+-- the place of `v` among the first `n` numbers of the list
+unfoldable pub placed : List ℕ → ℕ → ℕ → ℕ
+placed order zero v = noPlace
+placed order (suc n) v = cond (eqb (oldAt order n) v) n (placed order n v)
+
+-- the word that holds the place of `v`
+abbrev pub placeWord : List ℕ → ℕ → ℕ → ℕ
+placeWord words count v = getD words (count + v) 0
+
+-- the words hold the places of the first `n` numbers
+abbrev pub PlacesHeld : List ℕ → ℕ → List ℕ → ℕ → Type 0
+PlacesHeld order n words count = (v : ℕ) → v < count → placeWord words count v ≡ placed order n v
+
+-- `v` is marked, and has no place yet
+abbrev pub freeOk : List ℕ → ℕ → ℕ → Bool
+freeOk words count v = ltb v count && not (eqb (markOf words v) 0) && eqb (placeWord words count v) noPlace
+
+-- what is known after the places were taken away: no place is held, and the marks are as they were
+pub record Emptied (count : ℕ) (before after : List ℕ) : Type 0 where
+  pub marks : (v : ℕ) → v < count → markOf after v ≡ markOf before v
+  pub places : (v : ℕ) → v < count → placeWord after count v ≡ noPlace
+
+-- what is answered after the places were given
+pub record Filled (count : ℕ) (before order after : List ℕ) (answer : Bool) : Type 0 where
+  pub tells : answer ≡ allMarked before count order && not (repeats order)
+  pub holds : answer ≡ true → PlacesHeld order (length order) after count
+
+-- a list without repeats of nodes of the lump, whose places the words hold
+pub record Ordered (nodes : List ℕ) (count : ℕ) (words order : List ℕ) : Type 0 where
+  pub whole : nodeSize * count ≡ length nodes
+  pub least : 1 ≤ count
+  pub enough : 2 * count ≤ length words
+  pub inRange : NodesInRange nodes
+  pub few : length order ≤ 32767
+  pub low : (i : ℕ) → i < length order → oldAt order i < count
+  pub once : repeats order ≡ false
+  pub places : PlacesHeld order (length order) words count
+
+-- what is answered of the list, and known where it passes
+pub record OrderJudged (nodes : List ℕ) (count : ℕ) (order : List ℕ) (room : ℕ) (words : List ℕ) (answer : Check) : Type 0 where
+  pub tells : answer ≡ renumberCheck nodes order room
+  pub ordered : answer ≡ Pass → Ordered nodes count words order
+
+-- and of the graph and the list
+pub record GraphJudged (nodes : List ℕ) (count : ℕ) (order : List ℕ) (room : ℕ) (words : List ℕ) (answer : Check) : Type 0 where
+  pub tells : answer ≡ nodesCheck nodes order room
+  pub ordered : answer ≡ Pass → Ordered nodes count words order
+
+-- ---- children by the words
+
+-- the child `w` is a subsector, or has a place before `i`
+abbrev pub beforeOk : List ℕ → ℕ → ℕ → ℕ → Bool
+beforeOk words count i w = not (isNode w) || ltb (placeWord words count w) i
+
+-- both children of node `v`
+abbrev pub bothBefore : List ℕ → List ℕ → ℕ → ℕ → ℕ → Bool
+bothBefore nodes words count i v = beforeOk words count i (childOf nodes v Right) && beforeOk words count i (childOf nodes v Left)
+
+-- the words have a place for every child of node `v` that is a node
+abbrev pub ChildrenPlaced : List ℕ → ℕ → List ℕ → ℕ → Type 0
+ChildrenPlaced nodes count words v = (c : Choice) → childOf nodes v c < subsectorBit → count + childOf nodes v c < length words
