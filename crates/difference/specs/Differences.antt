@@ -20,7 +20,7 @@ use Rattle.level.specs.declared.Verdict.{Verdict}
 use Rattle.level.specs.declared.Verdict.the-variants.{Accepted, Refused as NotAccepted}
 use Rattle.level.specs.Verdict.{verdict, wordsAfter}
 use Rattle.difference.specs.declared.Differences.{Differences}
-use Rattle.difference.specs.Records.{changes}
+use Rattle.change.specs.Records.{changes}
 
 -- ---- two maps' lumps
 

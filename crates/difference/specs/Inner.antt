@@ -1,11 +1,10 @@
 -- Not for the reader of promises: what only contracts of inner functions cite. Assumes nothing.
-use Prim.Native.Nat.{ℕ, _+_, _≤_, _<_}
-use mathlib.Core.Bool.{Bool, false, cond}
-use mathlib.Core.List.{List, [], _∷_}
+use Prim.Native.Nat.{ℕ, _+_, _≤_}
+use mathlib.Core.Bool.{Bool}
+use mathlib.Core.List.{List}
 use mathlib.Core.Path.{_≡_}
-use lib.ListN.{length, getD}
+use lib.ListN.{length}
 use Rattle.refusal.specs.declared.Check.the-variants.{Pass}
-use Rattle.layout.specs.Rows.{laidOut}
 use Rattle.layout.specs.Buffers.{bufferAfter}
 use Rattle.wad.specs.Header.{headOf, entryCount}
 use Rattle.wad.specs.Entries.{fileCheck}
@@ -14,20 +13,8 @@ use Rattle.lump.specs.Lumps.{mapLump}
 use Rattle.level.specs.declared.Verdict.the-variants.{Accepted}
 use Rattle.level.specs.Verdict.{verdict, wordsAfter}
 use Rattle.difference.specs.declared.Differences.{Differences}
-use Rattle.difference.specs.Records.{countIn, changed}
+use Rattle.change.specs.Records.{countIn}
 use Rattle.difference.specs.Differences.{gameIn, lumpsIn, changeList, changeCounts, pairCheck, pairAnswer, differencesBy, listBy}
-
--- the same `n` bytes from `from` on
-abbrev pub SameAt : List ℕ → List ℕ → ℕ → ℕ → Type 0
-SameAt old new from n = (k : ℕ) → k < n → getD old (from + k) 0 ≡ getD new (from + k) 0
-
--- none of the `n` records from record `i` on is changed
-abbrev pub NoneChanged : ℕ → List ℕ → List ℕ → ℕ → ℕ → Type 0
-NoneChanged size old new i n = (j : ℕ) → j < n → changed size old new (i + j) ≡ false
-
--- the numbers of those that are
-abbrev pub changesFrom : ℕ → List ℕ → List ℕ → ℕ → ℕ → List ℕ
-changesFrom size old new i n = laidOut (λ j. cond (changed size old new (i + j)) ((i + j) ∷ []) []) n
 
 -- a marker of a file that passes, with its ten lumps behind it
 pub record MapIn (wad : List ℕ) (marker : ℕ) : Type 0 where

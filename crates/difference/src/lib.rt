@@ -1,8 +1,6 @@
 // What changed between two maps (W-213): the numbers of the records that the new one has otherwise, lump by lump. The definitions are in
 // specs/.
-mod blocks;
 mod places;
-mod records;
 
 ghost use mathlib.Core.Path.{_≡_};
 ghost use Rattle.refusal.specs.declared.Check.the-variants.{Refused};

@@ -8,8 +8,8 @@ ghost use Rattle.layout.specs.Rows.{sumOf};
 ghost use Rattle.lump.specs.Lumps.{mapLump};
 ghost use Rattle.difference.specs.Differences.{lumpsIn, changesAt, changesIn, changeCounts};
 ghost use Rattle.difference.specs.Inner.{MapIn, Numbered};
-use crate::blocks::count_changes;
-use crate::blocks::write_changes;
+use change::count_changes;
+use change::write_changes;
 
 // The lump at a place of the map at a marker.
 fn lump_in(wad: &[u8], marker: usize, place: usize) -> &[u8]

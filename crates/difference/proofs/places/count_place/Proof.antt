@@ -4,7 +4,7 @@ use mathlib.Core.Path.{sym, _∙_, subst}
 use borrow.Author.Needs.{needs}
 use lib.ListN.{length}
 use Rattle.lump.proofs.Places.{recordSize-positive}
-use Rattle.difference.specs.Records.{changes}
+use Rattle.change.specs.Records.{changes}
 use Rattle.difference.proofs.places.count_place.Statement.{statement}
 use Rattle.difference.proofs.places.count_place.Tie as tie
 

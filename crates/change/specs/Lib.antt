@@ -1,0 +1,4 @@
+-- Which records of a lump changed. Assumes nothing.
+
+pub mod Records
+pub mod Inner

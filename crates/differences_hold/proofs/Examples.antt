@@ -1,0 +1,24 @@
+-- The small lumps of specs/Examples are computed. Assumes nothing.
+use mathlib.Core.Path.{refl}
+use Rattle.layout.specs.Rows.{laidOut}
+use Rattle.differences_hold.specs.Examples.{Examples}
+
+pub examples : Examples
+unfolding laidOut
+examples =
+    record {
+      same = refl;
+      changed = refl;
+      added = refl;
+      all = refl;
+      dropped = refl;
+      droppedAfter = refl;
+      none = refl;
+      exchanged = refl;
+      copies = refl;
+      leftOut = refl;
+      listOfMap = refl;
+      countsOfMap = refl;
+      doomThings = refl;
+      hexenThings = refl;
+    }
