@@ -15,7 +15,7 @@ use Rattle.level.specs.declared.Verdict.the-variants.{Accepted}
 use Rattle.level.specs.Verdict.{lumpsCheck, verdict}
 use Rattle.level.proofs.Passing.{run-long, count-most, counts}
 use Rattle.level.proofs.Answers.{marker-known}
-use Rattle.level.proofs.Demands.{known}
+use Rattle.demands.proofs.Demands.{known}
 use Rattle.difference.specs.Differences.{gameIn, lumpsIn}
 use Rattle.difference.specs.Inner.{MapIn, Numbered}
 

@@ -13,7 +13,7 @@ use Rattle.lump.specs.Lumps.{mapLump}
 use Rattle.run.specs.Run.{runCheck}
 use Rattle.level.specs.Verdict.{lumpsCheck}
 use Rattle.level.proofs.Passing.{count-whole, counts}
-use Rattle.level.proofs.Demands.{known}
+use Rattle.demands.proofs.Demands.{known}
 use Rattle.difference.specs.Differences.{gameIn, lumpsIn, sameGame}
 use Rattle.differences_hold.specs.Promises.{Copies, DifferencesHold}
 use Rattle.differences_hold.proofs.Copies.{copies}

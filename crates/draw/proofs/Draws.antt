@@ -21,7 +21,7 @@ use Rattle.bsp.proofs.Shared.{member-follow}
 use Rattle.bsp.proofs.Reach.{nodesIn, nodes-held, nodes-few}
 use Rattle.bsp.proofs.Descends.{Passed, nodes-ok, subsectors-ok, descent-holds}
 use Rattle.level.specs.Verdict.{nodesAt, subsectorsAt}
-use Rattle.level.proofs.Demands.{known, known-passed}
+use Rattle.demands.proofs.Demands.{known, known-passed}
 use Rattle.draw.specs.Lists.{listed, mostPassed, rootOrder, orderCheck, drawOrder}
 use Rattle.draw.specs.Promises.{Draws}
 use Rattle.draw.specs.Accepted.{DrawsAccepted}

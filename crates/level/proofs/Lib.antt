@@ -2,6 +2,3 @@
 
 pub mod Passing
 pub mod Answers
-pub mod Numbers
-pub mod Refusing
-pub mod Demands

@@ -8,7 +8,7 @@ use Rattle.bsp.proofs.Reach.{nodes-held}
 use Rattle.bsp.proofs.Verdict.{depth-verdict}
 use Rattle.level.specs.declared.Verdict.the-variants.{Accepted}
 use Rattle.level.specs.Verdict.{nodesAt, subsectorsAt, verdict}
-use Rattle.level.proofs.Demands.{known, known-passed}
+use Rattle.demands.proofs.Demands.{known, known-passed}
 use Rattle.same_tree.specs.Promises.{ReachedNode, RenumberHolds}
 use Rattle.same_tree.proofs.Orders.{exactly-good}
 use Rattle.same_tree.proofs.Same.{same-nodes}

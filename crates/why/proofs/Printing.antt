@@ -25,7 +25,7 @@ use Rattle.level.specs.declared.Verdict.{Verdict}
 use Rattle.level.specs.declared.Verdict.the-variants.{Refused as NotAccepted}
 use Rattle.level.specs.Verdict.{judged, wordsBy, checkAt, nodesAt, verdictBy, wordsAfterBy}
 use Rattle.level.proofs.Passing.{run-long}
-use Rattle.level.proofs.Refusing.{past-run, past-counts, refused-by}
+use Rattle.demands.proofs.Refusing.{past-run, past-counts, refused-by}
 use Rattle.why.specs.declared.Reason.{Reason}
 use Rattle.why.specs.Named.{fieldOk, namedField}
 use Rattle.why.specs.Printing.{fieldLength, fieldPrinted, lengthBy, outBy, printedLength, printedOut, answerBy, ReasonTold, ReasonToldAt}

@@ -41,8 +41,8 @@ use Rattle.level.specs.declared.Verdict.{Verdict}
 use Rattle.level.specs.declared.Verdict.the-variants.{Accepted, Refused as NotAccepted}
 use Rattle.level.specs.Verdict.{lumpsCheck, graphAnswer, judged, checkAt, nodesAt, subsectorsAt, verdictBy, verdict}
 use Rattle.level.proofs.Answers.{marker-known}
-use Rattle.level.proofs.Refusing.{past-run, past-counts, refused-by}
-use Rattle.level.proofs.Demands.{graph-loop, graph-by, below-passed, known}
+use Rattle.demands.proofs.Refusing.{past-run, past-counts, refused-by}
+use Rattle.demands.proofs.Demands.{graph-loop, graph-by, below-passed, known}
 use Rattle.way.specs.Ways.{wayOf}
 use Rattle.way.proofs.Loops.{loop-holds}
 use Rattle.way.proofs.Routes.{route-holds}

@@ -38,20 +38,20 @@ use Rattle.bsp.proofs.Verdict.{verdict-holds, depth-verdict}
 use Rattle.bsp.proofs.Reach.{one-more}
 use Rattle.bsp.proofs.Descends.{Passed, descent-holds}
 use Rattle.blockmap.specs.Blockmap.{blockmapCheck}
 use Rattle.level.specs.declared.Verdict.{Verdict}
 use Rattle.level.specs.declared.Verdict.the-variants.{Accepted, Refused as NotAccepted}
 use Rattle.table.specs.Lumps.{LINEDEFS, SSECTORS, NODES, BLOCKMAP}
 use Rattle.lump.specs.Lumps.{mapLumps, mapLump, recordCount}
 use Rattle.run.specs.Run.{runCheck}
 use Rattle.run.specs.Games.{gameAt}
 use Rattle.size.specs.Sizes.{sizesCheck}
 use Rattle.level.specs.References.{referencesCheck}
 use Rattle.level.specs.Verdict.{lumpsCheck, mapCheck, graphAnswer, judged, checkAt, nodesAt, subsectorsAt, verdictBy, verdict}
-use Rattle.level.specs.Demands.{MapAt, SameMap, SameShortage, Frame, Below31, HandedOver, Demand3, GameTold}
+use Rattle.demands.specs.Demands.{MapAt, SameMap, SameShortage, Frame, Below31, HandedOver, Demand3, GameTold}
 use Rattle.level.proofs.Passing.{run-long, passed}
 use Rattle.level.proofs.Answers.{marker-known}
 use Rattle.run.proofs.Telling.{game-by}
-use Rattle.level.proofs.Numbers.{map-atMost}
+use Rattle.demands.proofs.Numbers.{map-atMost}
 
 -- ---- demand 2
 

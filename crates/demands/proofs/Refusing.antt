@@ -30,9 +30,9 @@ use Rattle.lump.specs.Lumps.{mapLump, recordCount, eachPlace}
 use Rattle.run.specs.Run.{runCheck}
 use Rattle.run.specs.Games.{gameAt}
 use Rattle.size.specs.Sizes.{sizeCheck, rejectCheck, sizesCheck}
 use Rattle.level.specs.References.{linedefsCheck, sidedefsCheck, segsCheck, subsectorsCheck, nodesCheck, referencesCheck}
 use Rattle.level.specs.Verdict.{workCheck, lumpsCheck, mapCheck}
-use Rattle.level.proofs.Numbers.{run-atMost, sizes-atMost}
+use Rattle.demands.proofs.Numbers.{run-atMost, sizes-atMost}
 
 -- the run of names has passed
 pub past-run : (dir : List ℕ) (count marker : ℕ) (lumps : List (List ℕ)) (lent : ℕ) {r : Refusal}

@@ -1,0 +1,3 @@
+-- What holds of the map check. Assumes nothing.
+
+pub mod Demands
