@@ -2,4 +2,3 @@
 
 pub mod Searching
 pub mod Answering
-pub mod Changing

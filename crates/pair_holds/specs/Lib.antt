@@ -1,0 +1,3 @@
+-- What holds of a pair of files. Assumes nothing.
+
+pub mod Promises
