@@ -2,5 +2,3 @@
 
 pub mod Lists
 pub mod Words
-pub mod Fronts
-pub mod Draws

@@ -2,5 +2,4 @@
 
 pub mod Lists
 pub mod Promises
-pub mod Accepted
 pub mod Inner

@@ -1,17 +1,12 @@
--- What is promised of the draw order: the answer, and the words afterwards; and what it lists on a graph that is accepted.
--- The proof of the latter is proofs/Draws.antt. Assumes nothing.
-use Prim.Native.Nat.{ℕ, _+_, _<_}
-use mathlib.Core.List.{List, _∷_, _++_}
+-- What is promised of the draw order: the answer, and the words afterwards. Assumes nothing.
+use Prim.Native.Nat.{ℕ, _+_}
+use mathlib.Core.List.{List, _++_}
 use mathlib.Core.Path.{_≡_}
 use lib.IntN.{ℤ}
 use lib.ListN.{length, drop}
 use Rattle.refusal.specs.declared.Check.{Check}
 use Rattle.refusal.specs.declared.Check.the-variants.{Pass, Refused}
-use Rattle.bsp.specs.declared.Descent.the-variants.{Found}
-use Rattle.bsp.specs.Nodes.{nodesOf, subsectorBit}
-use Rattle.bsp.specs.Routes.{Reached}
-use Rattle.bsp.specs.Reach.{HoldsOnce}
-use Rattle.bsp.specs.Walks.{descent}
+use Rattle.bsp.specs.Nodes.{nodesOf}
 use Rattle.graph.specs.Judging.{cleared}
 use Rattle.draw.specs.declared.Order.{Order}
 use Rattle.draw.specs.declared.Order.the-variants.{Listed, Refused as NotListed}
@@ -41,20 +36,3 @@ wordsDrawn nodes subsectors x y words =
 pub record Drawn (nodes : List ℕ) (subsectors : ℕ) (x y : ℤ) (before : List ℕ) (answer : Order) (after : List ℕ) : Type 0 where
   pub answers : answer ≡ answerOf (drawOrder nodes subsectors x y (length before))
   pub leaves : after ≡ wordsDrawn nodes subsectors x y before
-
--- the draw order of the point (x, y) is not refused, lists each reached subsector exactly once, and begins with the descent's own
--- answer
-pub record Draws (nodes : List ℕ) (subsectors : ℕ) (x y : ℤ) (lent : ℕ) : Type 0 where
-  pub list : List ℕ
-  pub drawn : drawOrder nodes subsectors x y lent ≡ listed list
-  -- none left out, none other, none twice
-  pub each : HoldsOnce (λ s. Reached nodes (subsectorBit + s)) list
-  pub first : ℕ
-  pub rest : List ℕ
-  pub begins : list ≡ first ∷ rest
-  pub count : ℕ
-  pub descends : descent nodes subsectors x y ≡ Found first count
-  -- so that they are one more than the reached nodes
-  pub nodeWords : List ℕ
-  pub reachedNodes : HoldsOnce (λ v. Reached nodes v × (v < subsectorBit)) nodeWords
-  pub oneMore : length list ≡ length nodeWords + 1

@@ -22,11 +22,11 @@ use Rattle.bsp.proofs.Reach.{nodesIn, nodes-held, nodes-few}
 use Rattle.bsp.proofs.Descends.{Passed, nodes-ok, subsectors-ok, descent-holds}
 use Rattle.level.specs.Verdict.{nodesAt, subsectorsAt}
 use Rattle.demands.proofs.Demands.{known, known-passed}
 use Rattle.draw.specs.Lists.{listed, mostPassed, rootOrder, orderCheck, drawOrder}
-use Rattle.draw.specs.Promises.{Draws}
-use Rattle.draw.specs.Accepted.{DrawsAccepted}
+use Rattle.draws_accepted.specs.Promises.{Draws}
+use Rattle.draws_accepted.specs.Accepted.{DrawsAccepted}
 use Rattle.draw.proofs.Lists.{root-none, root-some}
-use Rattle.draw.proofs.Fronts.{front, front-end, follow-front, front-words, front-repeats, front-length, walk-front, node-front}
+use Rattle.draws_accepted.proofs.Fronts.{front, front-end, follow-front, front-words, front-repeats, front-length, walk-front, node-front}
 
 module _ (nodes : List ℕ) (subsectors : ℕ) (x y : ℤ) (p : Passed nodes subsectors) where
   -- 40, 41 and 45 pass

@@ -7,8 +7,8 @@ use lib.IntN.{ℤ}
 use Rattle.bsp.specs.Nodes.{nodesOf}
 use Rattle.level.specs.declared.Verdict.the-variants.{Accepted}
 use Rattle.level.specs.Verdict.{nodesAt, subsectorsAt, verdict}
 use Rattle.draw.specs.Lists.{mostPassed}
-use Rattle.draw.specs.Promises.{Draws}
+use Rattle.draws_accepted.specs.Promises.{Draws}
 
 -- with enough words, on an accepted map of depth at most 256 the draw order is never refused, lists each reached subsector
 -- exactly once, and begins with the descent's own answer

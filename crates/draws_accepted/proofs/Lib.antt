@@ -1,0 +1,4 @@
+-- The laws of the draw order on an accepted map. Assumes nothing.
+
+pub mod Fronts
+pub mod Draws
