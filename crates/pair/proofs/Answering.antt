@@ -9,10 +9,10 @@ use Rattle.wad.specs.declared.map.Marker.the-variants.{Entry as Found, Refused 
 use Rattle.level.specs.declared.Verdict.{Verdict}
 use Rattle.level.specs.declared.Verdict.the-variants.{Refused as NotAccepted}
 use Rattle.level.specs.Verdict.{verdictBy, wordsAfterBy, AnsweredAt}
-use Rattle.pair.specs.declared.PairSearch.{PairSearch}
+use Rattle.pair_search.specs.declared.PairSearch.{PairSearch}
 use Rattle.pair.specs.declared.PairEntry.{PairEntry}
 use Rattle.pair.specs.declared.PairVerdict.{PairVerdict}
-use Rattle.pair.specs.Search.{fileOf, lumpSearch, mapSearch}
+use Rattle.pair_search.specs.Search.{fileOf, lumpSearch, mapSearch}
 use Rattle.pair.specs.Answers.{entryBy, entryOf, pairEntry, verdictOf, wordsOf, PairAnswered}
 
 module _ (base patch name : List ℕ) (s : PairSearch) where

@@ -1,5 +1,4 @@
--- What a search of both files answers, by the checks and the searches that led there, and what is known of an entry that it
--- finds. Assumes nothing.
+-- What is known of an entry that a search of both files finds. Assumes nothing.
 use Prim.Native.Nat.{ℕ, _<_}
 use mathlib.Core.Bool.{Bool, true, false, cond}
 use mathlib.Core.List.{List}
@@ -7,7 +6,6 @@ use mathlib.Core.Path.{_≡_, refl, sym, ap, _∙_, subst⁻¹}
 use native.Mathlib.Omega.{arith}
 use lib.Dec.{eqb}
 use lib.ListN.{length}
-use Rattle.refusal.specs.declared.Refusal.{Refusal}
 use Rattle.refusal.specs.declared.Refusal.the-variants.{MapMissing}
 use Rattle.refusal.specs.declared.Check.{Check}
 use Rattle.refusal.specs.declared.Check.the-variants.{Pass, Refused}
@@ -15,37 +13,11 @@ use Rattle.wad.specs.declared.map.Marker.{Marker}
 use Rattle.wad.specs.declared.map.Marker.the-variants.{Entry, Refused as NoMarker}
 use Rattle.wad.specs.Header.{headOf, entryCount}
 use Rattle.wad.specs.Entries.{directoryOf, fileCheck}
-use Rattle.wad.specs.Map.{findMarker, counted}
+use Rattle.wad.specs.Map.{findMarker}
 use Rattle.level.proofs.Answers.{findMarker-below}
-use Rattle.pair.specs.declared.PairSearch.{PairSearch}
-use Rattle.pair.specs.Search.{noFile, baseFile, patchFile, fileOf, lastNamed, afterCheck, orElse, eitherNamed, searchPair}
-
--- ---- one step
-
--- 11, which notes no file
-abbrev pub missing : PairSearch
-missing = record { file = noFile; marker = NoMarker MapMissing }
-
-pub after-refused : (file : ℕ) (next : PairSearch) {k : Check} {r : Refusal} → k ≡ Refused r
-    → afterCheck file (Refused r) next ≡ afterCheck file k next
-after-refused file next e = sym (ap (λ (k : Check). afterCheck file k next) e)
-
-pub after-pass : (file : ℕ) (next : PairSearch) {k : Check} {x : PairSearch} → k ≡ Pass → x ≡ next → x ≡ afterCheck file k next
-after-pass file next e q = q ∙ sym (ap (λ (k : Check). afterCheck file k next) e)
-
-pub else-found : (file : ℕ) (next : PairSearch) {m : Marker} {i : ℕ} → m ≡ Entry i → orElse file (Entry i) next ≡ orElse file m next
-else-found file next e = sym (ap (λ (m : Marker). orElse file m next) e)
-
-pub else-none : (file : ℕ) (next : PairSearch) {m : Marker} {r : Refusal} {x : PairSearch} → m ≡ NoMarker r → x ≡ next
-    → x ≡ orElse file m next
-else-none file next e q = q ∙ sym (ap (λ (m : Marker). orElse file m next) e)
-
--- the count of names compared is not asked for
-pub counted-marker : (count : ℕ) (m : Marker) → counted count m .marker ≡ m
-counted-marker count (Entry i) = refl
-counted-marker count (NoMarker r) = refl
-
--- ---- an entry that was found
+use Rattle.pair_search.specs.declared.PairSearch.{PairSearch}
+use Rattle.pair_search.specs.Search.{noFile, baseFile, patchFile, fileOf, lastNamed, afterCheck, orElse, eitherNamed, searchPair}
+use Rattle.pair_search.proofs.Searching.{missing}
 
 after-by : (file : ℕ) (k : Check) (next : PairSearch) {i : ℕ} → afterCheck file k next .marker ≡ Entry i
     → (k ≡ Pass) × (afterCheck file k next ≡ next)

@@ -10,10 +10,10 @@ use Rattle.wad.specs.declared.map.Marker.the-variants.{Entry as Found, Refused 
 use Rattle.wad.specs.Entries.{directoryOf}
 use Rattle.wad.specs.Lump.{entryOffset, entrySize, partOf}
 use Rattle.level.specs.Verdict.{verdictBy, wordsAfterBy}
-use Rattle.pair.specs.declared.PairSearch.{PairSearch}
+use Rattle.pair_search.specs.declared.PairSearch.{PairSearch}
 use Rattle.pair.specs.declared.PairEntry.{PairEntry}
 use Rattle.pair.specs.declared.PairVerdict.{PairVerdict}
-use Rattle.pair.specs.Search.{fileOf, lumpSearch, mapSearch}
+use Rattle.pair_search.specs.Search.{fileOf, lumpSearch, mapSearch}
 
 -- where a found entry's part of its file lies, or the refusal
 abbrev pub entryBy : List ℕ → Marker → Entry

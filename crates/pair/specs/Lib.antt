@@ -1,4 +1,3 @@
 -- The pair of files that the box opens: a patch over a base (W-207). Assumes nothing.
 
-pub mod Search
 pub mod Answers

@@ -1,28 +1,13 @@
 // The box's pair of files: a lump or a map by its name, out of a patch where it has the name, otherwise out of the base. Both
 // files are judged whole first. The definitions are in specs/.
-mod search;
-
 ghost use mathlib.Core.Path.{_≡_};
-ghost use Rattle.pair.specs.Search.{fileOf};
+ghost use Rattle.pair_search.specs.Search.{fileOf};
 ghost use Rattle.pair.specs.Answers.{pairEntry, pairLump, PairAnswered};
 use level::Verdict;
-use search::search_lump;
-use search::search_map;
+use pair_search::search_lump;
+use pair_search::search_map;
 use wad::Entry;
 use wad::Marker;
-
-// The numbers by which the files are noted.
-pub const NO_FILE: u32 = 0;
-
-pub const BASE: u32 = 1;
-
-pub const PATCH: u32 = 2;
-
-// What a search of both files answers: the file that has the entry, or is refused, and the entry or the refusal.
-pub struct PairSearch {
-    pub file: u32,
-    pub marker: Marker,
-}
 
 // What is answered of a lump.
 pub struct PairEntry {
@@ -40,7 +25,7 @@ pub struct PairVerdict {
 fn file_of<'a>(base: &'a [u8], patch: &'a [u8], file: u32) -> &'a [u8]
     ensures { λ r. ⌜ now r ≡ fileOf (now (base .entry)) (now (patch .entry)) file ⌝ }
 {
-    if file == PATCH {
+    if file == pair_search::PATCH {
         return patch;
     }
     base

@@ -26,11 +26,12 @@ use Rattle.wad.proofs.Search.{findMarker-none, findMarker-found, findMarker-on}
 use Rattle.wad.proofs.Answers.{entry-inside}
 use Rattle.level.proofs.Answers.{findMarker-below}
 use Rattle.wad.proofs.Slices.{partIf-inside, length-part}
-use Rattle.pair.specs.declared.PairSearch.{PairSearch}
-use Rattle.pair.specs.Search.{noFile, baseFile, patchFile, fileOf, lastNamed, afterCheck, orElse, eitherNamed, searchPair, lumpSearch}
+use Rattle.pair_search.specs.declared.PairSearch.{PairSearch}
+use Rattle.pair_search.specs.Search.{noFile, baseFile, patchFile, fileOf, lastNamed, afterCheck, orElse, eitherNamed, searchPair, lumpSearch}
 use Rattle.pair.specs.Answers.{entryBy, entryOf, partBy, verdictOf, wordsOf}
 use Rattle.pair_holds.specs.Promises.{Valid, Has, Lacks, BaseChanged, PatchChanged, PickedWhole}
-use Rattle.pair.proofs.Searching.{missing, known}
+use Rattle.pair_search.proofs.Searching.{missing}
+use Rattle.pair.proofs.Searching.{known}
 
 -- ---- a file that has a name, or has not
 

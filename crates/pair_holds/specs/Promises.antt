@@ -10,7 +10,7 @@ use Rattle.wad.specs.declared.lumps.Entry.the-variants.{At}
 use Rattle.wad.specs.Header.{headOf, entryCount}
 use Rattle.wad.specs.Entries.{directoryOf, entryName, fileCheck}
 use Rattle.wad.specs.Lump.{Whole}
-use Rattle.pair.specs.Search.{fileOf}
+use Rattle.pair_search.specs.Search.{fileOf}
 use Rattle.pair.specs.Answers.{pairEntry, pairLump, pairVerdict, pairWords}
 
 -- a file that 1 to 6 pass

@@ -6,7 +6,7 @@ use borrow.Author.Needs.{needs}
 use denote.Ref.{now}
 use Rattle.wad.specs.Slices.{partIf}
 use Rattle.wad.specs.Lump.{partOf}
-use Rattle.pair.specs.Search.{fileOf}
+use Rattle.pair_search.specs.Search.{fileOf}
 use Rattle.pair.specs.Answers.{partBy}
 use Rattle.pair.proofs.pick.Statement.{statement}
 use Rattle.pair.proofs.pick.Tie as tie

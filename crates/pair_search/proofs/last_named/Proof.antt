@@ -1,4 +1,4 @@
--- `pair::search::last_named` meets its contract, by the name's length and the file's own directory. Assumes nothing.
+-- `pair_search::last_named` meets its contract, by the name's length and the file's own directory. Assumes nothing.
 use Prim.Native.Nat.{ℕ}
 use mathlib.Core.Bool.{Bool, cond}
 use mathlib.Core.List.{List}
@@ -13,9 +13,9 @@ use Rattle.wad.specs.Header.{headOf, entryCount}
 use Rattle.wad.specs.Entries.{directoryOf}
 use Rattle.wad.specs.Map.{findMarker, counted}
 use Rattle.wad.proofs.Listing.{file-header}
-use Rattle.pair.proofs.Searching.{counted-marker}
-use Rattle.pair.proofs.search.last_named.Statement.{statement}
-use Rattle.pair.proofs.search.last_named.Tie as tie
+use Rattle.pair_search.proofs.Searching.{counted-marker}
+use Rattle.pair_search.proofs.last_named.Statement.{statement}
+use Rattle.pair_search.proofs.last_named.Tie as tie
 
 directory-of-requires : tie.Need-directory-of-requires
 directory-of-requires c κs = let e = c .before .before .before in file-header (now (e .args .wad)) (e .pre)

@@ -1,14 +1,14 @@
--- `pair::search::search_pair` meets its contract: the patch refuses, the base, what is asked of the name, or the search answers.
+-- `pair_search::search_pair` meets its contract: the patch refuses, the base, what is asked of the name, or the search answers.
 -- Assumes nothing.
 use mathlib.Core.Path.{_≡_, sym, _∙_}
 use borrow.Author.Needs.{needs}
 use denote.Ref.{now}
 use Rattle.refusal.specs.declared.Check.the-variants.{Pass}
 use Rattle.wad.specs.Entries.{fileCheck}
-use Rattle.pair.specs.Search.{noFile, baseFile, patchFile, afterCheck, eitherNamed}
-use Rattle.pair.proofs.Searching.{after-refused, after-pass}
-use Rattle.pair.proofs.search.search_pair.Statement.{statement}
-use Rattle.pair.proofs.search.search_pair.Tie as tie
+use Rattle.pair_search.specs.Search.{noFile, baseFile, patchFile, afterCheck, eitherNamed}
+use Rattle.pair_search.proofs.Searching.{after-refused, after-pass}
+use Rattle.pair_search.proofs.search_pair.Statement.{statement}
+use Rattle.pair_search.proofs.search_pair.Tie as tie
 
 -- the patch passes, and the base
 patch-passes : (c : tie.After-enum-told) → fileCheck (now (c .before .before .before .before .before .before .args .patch)) ≡ Pass

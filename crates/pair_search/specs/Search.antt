@@ -14,7 +14,7 @@ use Rattle.wad.specs.declared.map.Marker.the-variants.{Entry, Refused as NoMark
 use Rattle.wad.specs.Header.{headOf, entryCount}
 use Rattle.wad.specs.Entries.{directoryOf, fileCheck}
 use Rattle.wad.specs.Map.{findMarker}
-use Rattle.pair.specs.declared.PairSearch.{PairSearch}
+use Rattle.pair_search.specs.declared.PairSearch.{PairSearch}
 
 -- the numbers by which the files are noted; 0 is none
 abbrev pub noFile : ℕ

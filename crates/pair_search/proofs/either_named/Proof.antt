@@ -1,11 +1,11 @@
--- `pair::search::either_named` meets its contract: the patch has the name, or the base, or neither. Assumes nothing.
+-- `pair_search::either_named` meets its contract: the patch has the name, or the base, or neither. Assumes nothing.
 use mathlib.Core.Path.{sym, _∙_}
 use borrow.Author.Needs.{needs}
 use denote.Ref.{now}
-use Rattle.pair.specs.Search.{baseFile, patchFile, lastNamed, orElse}
-use Rattle.pair.proofs.Searching.{missing, else-found, else-none}
-use Rattle.pair.proofs.search.either_named.Statement.{statement}
-use Rattle.pair.proofs.search.either_named.Tie as tie
+use Rattle.pair_search.specs.Search.{baseFile, patchFile, lastNamed, orElse}
+use Rattle.pair_search.proofs.Searching.{missing, else-found, else-none}
+use Rattle.pair_search.proofs.either_named.Statement.{statement}
+use Rattle.pair_search.proofs.either_named.Tie as tie
 
 returns : tie.Need-returns
 returns c =

@@ -1,16 +1,25 @@
-// Which of the two files has a name: refusals 1 to 6 of the patch, then of the base, 10 and 11.
+// Which of the two files of a pair has a name (W-207): refusals 1 to 6 of the patch, then of the base, 10 and 11.
 ghost use mathlib.Core.Path.{_≡_};
 ghost use Rattle.refusal.specs.declared.Check.the-variants.{Pass};
 ghost use Rattle.wad.specs.declared.map.Marker.the-variants.{Refused as NoMarker};
 ghost use Rattle.wad.specs.Entries.{fileCheck};
-ghost use Rattle.pair.specs.Search.{lastNamed, eitherNamed, searchPair, lumpSearch, mapSearch};
-use crate::BASE;
-use crate::NO_FILE;
-use crate::PATCH;
-use crate::PairSearch;
+ghost use Rattle.pair_search.specs.Search.{lastNamed, eitherNamed, searchPair, lumpSearch, mapSearch};
 use refusal::Check;
 use refusal::Refusal;
 use wad::Marker;
+
+// The numbers by which the files are noted.
+pub const NO_FILE: u32 = 0;
+
+pub const BASE: u32 = 1;
+
+pub const PATCH: u32 = 2;
+
+// What a search of both files answers: the file that has the entry, or is refused, and the entry or the refusal.
+pub struct PairSearch {
+    pub file: u32,
+    pub marker: Marker,
+}
 
 // The last entry of a name. A name of another length than eight bytes is no fault: no entry has it.
 fn last_named(wad: &[u8], name: &[u8]) -> Marker

@@ -1,7 +1,7 @@
--- `pair::search::search_map` meets its contract, from those of the functions that it calls. Assumes nothing.
+-- `pair_search::search_map` meets its contract, from those of the functions that it calls. Assumes nothing.
 use borrow.Author.Needs.{needs}
-use Rattle.pair.proofs.search.search_map.Statement.{statement}
-use Rattle.pair.proofs.search.search_map.Tie as tie
+use Rattle.pair_search.proofs.search_map.Statement.{statement}
+use Rattle.pair_search.proofs.search_map.Tie as tie
 
 returns : tie.Need-returns
 returns c = rw (c .search-pair .ensures, c .before .pass-if .ensures, c .before .before .map-name-ok .ensures)

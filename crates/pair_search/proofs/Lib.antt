@@ -1,0 +1,3 @@
+-- The laws of the search of two files. Assumes nothing.
+
+pub mod Searching

@@ -1,0 +1,3 @@
+-- Which of two files has a name. Assumes nothing.
+
+pub mod Search
