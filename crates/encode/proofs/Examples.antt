@@ -2,7 +2,7 @@
 use mathlib.Core.Path.{refl}
 use Rattle.canvas.specs.Pixels.{listOf}
 use Rattle.layout.specs.Rows.{sumOf, laidOut}
-use Rattle.encode.specs.Runs.{runFrom}
+use Rattle.encode_column.specs.Runs.{runFrom}
 use Rattle.encode.specs.Examples.{Examples}
 
 pub examples : Examples

@@ -15,7 +15,8 @@ use Rattle.refusal.proofs.Checks.{both, unless-pass, andThen-pass}
 use Rattle.picture.specs.declared.Picture.{Picture}
 use Rattle.picture.specs.Judging.{sizeOk}
 use Rattle.encode.specs.Lump.{pixelsOf}
-use Rattle.encode.specs.Encoding.{coverOk, givenCheck}
+use Rattle.encode_given.specs.Given.{coverOk}
+use Rattle.encode.specs.Encoding.{givenCheck}
 
 pub record Fit (picture : Picture) (colour cover : List ℕ) : Type 0 where
   pub size : sizeOk (picture .width) (picture .height) ≡ true

@@ -1,6 +1,5 @@
 -- The laws of encoding. Assumes nothing.
 
-pub mod Runs
 pub mod Stores
 pub mod Inner
 pub mod Lump

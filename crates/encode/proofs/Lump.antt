@@ -7,12 +7,13 @@ use native.Mathlib.Omega.{arith}
 use lib.ListN.{length, length-append}
 use Rattle.picture.specs.declared.Picture.{Picture}
 use Rattle.layout.specs.Rows.{sumOf, laidOut}
-use Rattle.encode.specs.Runs.{begins, columnLength}
+use Rattle.encode_column.specs.Runs.{begins, columnLength}
 use Rattle.endian.specs.Unsigned.{u32Bytes}
-use Rattle.encode.specs.Lump.{pixelAt, coveredAt, columnOf, columnSize, columnStart, writtenOf, writtenLength}
+use Rattle.encode_column.specs.Pixels.{pixelAt, coveredAt}
+use Rattle.encode.specs.Lump.{columnOf, columnSize, columnStart, writtenOf, writtenLength}
 use Rattle.encode.specs.Inner.{startOfColumn}
 use Rattle.layout.proofs.LaidOut.{sum-none, sum-suc, sum-most, count-most, length-laid}
-use Rattle.encode.proofs.Runs.{length-column}
+use Rattle.encode_column.proofs.Runs.{length-column}
 
 sum-fours : (n : ℕ) → sumOf (λ i. 4) n ≡ 4 * n
 sum-fours zero = sum-none (λ i. 4)

@@ -1,38 +1,20 @@
 -- Which pixels are refused, and with what (02, W-201: 55, 56, 57 and 58, in that order), and what a lent output holds
 -- afterwards. Assumes nothing.
-use Prim.Native.Nat.{ℕ, zero, suc, _*_}
-use mathlib.Core.Bool.{Bool, true, _&&_}
+use Prim.Native.Nat.{ℕ}
 use mathlib.Core.List.{List}
 use mathlib.Core.Path.{_≡_}
 use lib.Dec.{leb}
-use lib.ListN.{length, getD}
-use Rattle.refusal.specs.declared.Refusal.the-variants.{PixelBuffer, EncodeSize, EncodeCover, EncodeRoom}
+use lib.ListN.{length}
+use Rattle.refusal.specs.declared.Refusal.the-variants.{EncodeRoom}
 use Rattle.refusal.specs.declared.Check.{Check}
 use Rattle.refusal.specs.declared.Check.the-variants.{Pass, Refused}
 use Rattle.refusal.specs.Checks.{unless, _andThen_}
 use Rattle.picture.specs.declared.Picture.{Picture}
-use Rattle.picture.specs.Judging.{sizeOk}
 use Rattle.layout.specs.Buffers.{bufferAfter}
 use Rattle.encode.specs.declared.Encoding.{Encoding}
 use Rattle.encode.specs.declared.Encoding.the-variants.{Written, Refused as NotWritten}
 use Rattle.encode.specs.Lump.{pixelsOf, writtenLength, writtenOf}
-
--- the first `count` cover bytes are 0 or 1
-unfoldable pub coverOk : List ℕ → ℕ → Bool
-coverOk cover zero = true
-coverOk cover (suc count) = coverOk cover count && leb (getD cover count 0) 1
-
--- 55: buffers of `colours` and `covers` bytes, each at least width × height, over whole numbers
-abbrev pub buffersCheck : ℕ → ℕ → ℕ → ℕ → Check
-buffersCheck width height colours covers = unless (leb (height * width) colours && leb (height * width) covers) PixelBuffer
-
--- 56: a size that the picture check accepts
-abbrev pub sidesCheck : ℕ → ℕ → Check
-sidesCheck width height = unless (sizeOk width height) EncodeSize
-
--- 57: the first `count` bytes of cover
-abbrev pub coverCheck : List ℕ → ℕ → Check
-coverCheck cover count = unless (coverOk cover count) EncodeCover
+use Rattle.encode_given.specs.Given.{buffersCheck, sidesCheck, coverCheck}
 
 -- 58: an output of `room` bytes has place for `count`
 abbrev pub outputCheck : ℕ → ℕ → Check

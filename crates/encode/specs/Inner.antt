@@ -1,17 +1,12 @@
--- Not for the reader of promises: what only contracts of inner functions cite, a run as it is written and the columns before
--- one, by width and height alone. Assumes nothing.
-use Prim.Native.Nat.{ℕ, zero, suc, _+_}
-use mathlib.Core.List.{List, []}
+-- Not for the reader of promises: what only contracts of inner functions cite, the columns before one, by width and height alone.
+-- Assumes nothing.
+use Prim.Native.Nat.{ℕ, _+_}
+use mathlib.Core.List.{List}
 use Rattle.picture.specs.Layout.{tableEnd}
 use Rattle.layout.specs.Rows.{sumOf, laidOut}
-use Rattle.encode.specs.Runs.{postOf, columnBytes, columnLength}
+use Rattle.encode_column.specs.Runs.{columnBytes, columnLength}
 use Rattle.endian.specs.Unsigned.{u32Bytes}
-use Rattle.encode.specs.Lump.{pixelAt, coveredAt}
-
--- a run of `count` rows from `row` on as a post; a run of none is nothing
-abbrev pub runBytes : (ℕ → ℕ) → ℕ → ℕ → List ℕ
-runBytes colour row zero = []
-runBytes colour row (suc count) = postOf colour row (suc count)
+use Rattle.encode_column.specs.Pixels.{pixelAt, coveredAt}
 
 -- where column `n` begins
 abbrev pub startOfColumn : ℕ → ℕ → List ℕ → ℕ → ℕ

@@ -1,6 +1,5 @@
 -- A picture written from its pixels. Assumes nothing.
 
-pub mod Runs
 pub mod Lump
 pub mod Encoding
 pub mod Inner

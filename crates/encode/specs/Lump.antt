@@ -1,28 +1,17 @@
--- The lump that is written: header, column offsets, columns in order with no shared bytes (02, W-201). Pixel (column, row)
--- stands at row × width + column of both buffers. Assumes nothing.
+-- The lump that is written: header, column offsets, columns in order with no shared bytes (02, W-201). Assumes nothing.
 use Prim.Native.Nat.{ℕ, _+_, _*_}
-use mathlib.Core.Bool.{Bool}
 use mathlib.Core.List.{List, _++_}
-use lib.Dec.{eqb}
-use lib.ListN.{getD}
 use Rattle.endian.specs.Unsigned.{u16Bytes, u32Bytes}
 use Rattle.endian.specs.Signed.{bitsOf}
 use Rattle.picture.specs.declared.Picture.{Picture}
 use Rattle.picture.specs.Layout.{tableEnd}
 use Rattle.layout.specs.Rows.{sumOf, laidOut}
-use Rattle.encode.specs.Runs.{columnBytes, columnLength}
+use Rattle.encode_column.specs.Runs.{columnBytes, columnLength}
+use Rattle.encode_column.specs.Pixels.{pixelAt, coveredAt}
 
 -- the number of pixels, width × height
 abbrev pub pixelsOf : Picture → ℕ
 pixelsOf picture = picture .height * picture .width
-
--- the pixel's byte in a buffer with rows of `width`
-abbrev pub pixelAt : List ℕ → ℕ → ℕ → ℕ → ℕ
-pixelAt buffer width column row = getD buffer (row * width + column) 0
-
--- the pixel is covered
-abbrev pub coveredAt : List ℕ → ℕ → ℕ → ℕ → Bool
-coveredAt cover width column row = eqb (pixelAt cover width column row) 1
 
 -- one column's bytes
 abbrev pub columnOf : Picture → List ℕ → List ℕ → ℕ → List ℕ

@@ -7,7 +7,6 @@ ghost use Rattle.picture.specs.declared.Picture.{Picture};
 ghost use Rattle.encode.specs.Lump.{writtenOf, writtenLength};
 ghost use Rattle.encode.specs.Encoding.{encodeCheck, Encoded};
 
-mod judging;
 mod measure;
 mod writing;
 
@@ -28,7 +27,7 @@ pub enum Encoding {
 pub fn encode(picture: Picture, colour: &[u8], cover: &[u8], out: &mut [u8]) -> Encoding
     ensures { λ r. ⌜ Encoded picture (now (colour .entry)) (now (cover .entry)) (now (out .entry)) r (now (out .exit)) ⌝ }
 {
-    if let Check::Refused(r) = judging::judge_given(
+    if let Check::Refused(r) = encode_given::judge_given(
         picture.width,
         picture.height,
         colour.len(),

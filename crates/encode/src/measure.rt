@@ -3,8 +3,8 @@ ghost use mathlib.Core.Path.{_≡_};
 ghost use mathlib.Core.Bool.{cond};
 ghost use Prim.Native.Nat.{_*_, _≤_, _<_};
 ghost use lib.ListN.{length};
-ghost use Rattle.encode.specs.Runs.{columnLength};
-ghost use Rattle.encode.specs.Lump.{coveredAt};
+ghost use Rattle.encode_column.specs.Runs.{columnLength};
+ghost use Rattle.encode_column.specs.Pixels.{coveredAt};
 ghost use Rattle.encode.specs.Inner.{startOfColumn};
 
 // The header, the offsets and all columns.

@@ -10,9 +10,9 @@ use lib.ListN.{length, getD, List·getD-append}
 use Rattle.canvas.specs.Pixels.{listOf}
 use Rattle.canvas.proofs.Planes.{length-listOf, getD-listOf}
 use Rattle.layout.specs.Rows.{laidOut}
-use Rattle.encode.specs.Runs.{aboveOf, begins, runFrom, postOf, postAt, columnBytes}
+use Rattle.encode_column.specs.Runs.{aboveOf, begins, runFrom, postOf, postAt, columnBytes}
 use Rattle.layout.proofs.LaidOut.{laid-none, laid-suc, length-laid-suc}
-use Rattle.encode.proofs.Runs.{run-suc, run-most, length-post, run-covered}
+use Rattle.encode_column.proofs.Runs.{run-suc, run-most, length-post, run-covered}
 use Rattle.round_trip.proofs.Standing.{Stands, stands-left, stands-right}
 use Rattle.round_trip.proofs.Reading.{Reads, PostAt, reads-end, reads-gap, reads-post}
 

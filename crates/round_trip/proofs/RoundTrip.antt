@@ -28,7 +28,8 @@ use Rattle.layout.specs.Buffers.{bufferAfter}
 use Rattle.canvas.specs.Pixels.{byColour, byCover, listOf, planeOf}
 use Rattle.canvas.proofs.Checks.{room-passed}
 use Rattle.canvas.proofs.Planes.{length-listOf, getD-listOf}
-use Rattle.encode.specs.Lump.{pixelsOf, pixelAt, coveredAt, columnOf, columnStart, headerBytes, writtenOf}
+use Rattle.encode.specs.Lump.{pixelsOf, columnOf, columnStart, headerBytes, writtenOf}
+use Rattle.encode_column.specs.Pixels.{pixelAt, coveredAt}
 use Rattle.encode.specs.declared.Encoding.the-variants.{Written}
 use Rattle.encode.specs.Encoding.{encodingOf, encodeCheck, givenCheck}
 use Rattle.round_trip.specs.RoundTrip.{ReadBack, RoundTrip, OutputRoundTrip, PaintedRoundTrip}

@@ -10,8 +10,8 @@ use denote.Ref.{now}
 use lib.Arith.{digits-lt}
 use lib.ListN.{length}
 use Rattle.layout.specs.Rows.{countOf}
-use Rattle.encode.specs.Runs.{aboveOf, begins}
-use Rattle.encode.specs.Lump.{coveredAt}
+use Rattle.encode_column.specs.Runs.{aboveOf, begins}
+use Rattle.encode_column.specs.Pixels.{coveredAt}
 use Rattle.layout.proofs.LaidOut.{sum-none, sum-more}
 use Rattle.encode.proofs.measure.column_length.Statement.{statement}
 use Rattle.encode.proofs.measure.column_length.Tie as tie

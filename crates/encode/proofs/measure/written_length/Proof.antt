@@ -4,8 +4,8 @@ use mathlib.Core.Path.{_≡_}
 use native.Mathlib.Omega.{arith}
 use borrow.Author.Needs.{needs}
 use denote.Ref.{now}
-use Rattle.encode.specs.Runs.{columnLength}
-use Rattle.encode.specs.Lump.{coveredAt}
+use Rattle.encode_column.specs.Runs.{columnLength}
+use Rattle.encode_column.specs.Pixels.{coveredAt}
 use Rattle.encode.specs.Inner.{startOfColumn}
 use Rattle.layout.proofs.LaidOut.{sum-none, sum-more}
 use Rattle.encode.proofs.Lump.{column-most, offset-most}

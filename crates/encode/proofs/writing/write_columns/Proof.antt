@@ -5,8 +5,8 @@ use native.Mathlib.Omega.{arith}
 use borrow.Author.Needs.{needs}
 use denote.Ref.{now}
 use lib.ListN.{length}
-use Rattle.encode.specs.Runs.{columnLength}
-use Rattle.encode.specs.Lump.{coveredAt}
+use Rattle.encode_column.specs.Runs.{columnLength}
+use Rattle.encode_column.specs.Pixels.{coveredAt}
 use Rattle.encode.specs.Inner.{startOfColumn}
 use Rattle.layout.proofs.LaidOut.{sum-none, sum-le}
 use Rattle.encode.proofs.Inner.{stored, stored-none, length-stored, offset-more, stored-more}

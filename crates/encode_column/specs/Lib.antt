@@ -1,0 +1,5 @@
+-- One column of a picture, written. Assumes nothing.
+
+pub mod Pixels
+pub mod Runs
+pub mod Inner

@@ -1,0 +1,3 @@
+-- Pixels to be written, judged. Assumes nothing.
+
+pub mod Given
