@@ -27,10 +27,11 @@ use Rattle.level.specs.Verdict.{judged, wordsBy, checkAt, nodesAt, verdictBy, w
 use Rattle.level.proofs.Passing.{run-long}
 use Rattle.demands.proofs.Refusing.{past-run, past-counts, refused-by}
 use Rattle.why.specs.declared.Reason.{Reason}
-use Rattle.why.specs.Named.{fieldOk, namedField}
+use Rattle.named_field.specs.Named.{fieldOk, namedField}
 use Rattle.why.specs.Printing.{fieldLength, fieldPrinted, lengthBy, outBy, printedLength, printedOut, answerBy, ReasonTold, ReasonToldAt}
-use Rattle.why.specs.Inner.{namedCount, Nameable, RefusedBelow, RefusalTold, GraphTold}
-use Rattle.why.proofs.Counting.{blockmap-within}
+use Rattle.named_field.specs.Inner.{namedCount, Nameable}
+use Rattle.why.specs.Inner.{RefusedBelow, RefusalTold, GraphTold}
+use Rattle.named_field.proofs.Counting.{blockmap-within}
 
 pub answer-fits : (v : Verdict) (l room : ℕ) → l ≤ room → record { verdict = v; length = l } ≡ answerBy v l room
 answer-fits v l room h = rw (le-leb l room h)

@@ -24,7 +24,7 @@ use Rattle.level.specs.declared.Verdict.the-variants.{Refused as NotAccepted}
 use Rattle.level.specs.Verdict.{checkAt, nodesAt, verdictBy, wordsAfterBy, verdict, wordsAfter}
 use Rattle.way.specs.Ways.{wayOf, bytesOf, printed}
 use Rattle.why.specs.declared.Reason.{Reason}
-use Rattle.why.specs.Named.{fieldOk, namedField}
+use Rattle.named_field.specs.Named.{fieldOk, namedField}
 
 -- four numbers of 32 bits with 23 to 28, nothing with the other refusals below 31
 abbrev pub fieldLength : Refusal → ℕ

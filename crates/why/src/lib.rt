@@ -1,7 +1,5 @@
 // Why a map is judged as it is (W-211): the map check, and with its verdict the reason, printed into a lent output. The definitions are
 // in specs/.
-mod fields;
-
 ghost use mathlib.Core.Path.{_≡_};
 ghost use Prim.Native.Nat.{_*_, _+_, _<_, _≤_};
 ghost use lib.ListN.{length};
@@ -12,7 +10,7 @@ ghost use Rattle.bsp.specs.Nodes.{nodesOf};
 ghost use Rattle.graph.specs.Judging.{Judgeable};
 ghost use Rattle.lump.specs.Lumps.{mapLumps};
 ghost use Rattle.run.specs.Games.{gameAt};
-ghost use Rattle.why.specs.Named.{fieldOk};
+ghost use Rattle.named_field.specs.Named.{fieldOk};
 ghost use Rattle.why.specs.Printing.{answerBy, ReasonTold, ReasonToldAt};
 ghost use Rattle.why.specs.Inner.{RefusedBelow, RefusalTold, GraphTold};
 use built::Node;
@@ -81,7 +79,7 @@ fn tell_refusal(
     if out.len() < FIELD_SIZE {
         return answer(Verdict::Refused(r), FIELD_SIZE, out.len());
     }
-    fields::print_field(
+    named_field::print_field(
         run::game_at(dir, count, marker),
         wad,
         dir,

@@ -8,7 +8,7 @@ use Rattle.refusal.specs.Table.{numberOf}
 use Rattle.range.specs.Fields.{putField}
 use Rattle.lump.specs.Lumps.{mapLumps}
 use Rattle.run.specs.Games.{gameAt}
-use Rattle.why.specs.Named.{fieldOk, namedField}
+use Rattle.named_field.specs.Named.{fieldOk, namedField}
 use Rattle.why.proofs.Printing.{told-none, told-short, told-field, nameable}
 use borrow.Author.Needs.{needs}
 use Rattle.why.proofs.tell_refusal.Statement.{statement}

@@ -46,12 +46,12 @@ use Rattle.demands.proofs.Demands.{graph-loop, graph-by, below-passed, known}
 use Rattle.way.specs.Ways.{wayOf}
 use Rattle.way.proofs.Loops.{loop-holds}
 use Rattle.way.proofs.Routes.{route-holds}
 use Rattle.why.specs.declared.Reason.{Reason}
-use Rattle.why.specs.Named.{fieldOk}
+use Rattle.named_field.specs.Named.{fieldOk}
 use Rattle.why.specs.Printing.{lengthBy, printedLength, answerBy}
-use Rattle.why.specs.Promises.{FieldTold, FieldToldAt, ReasonsHold}
-use Rattle.why.proofs.Counting.{linedefs-counted, sidedefs-counted, vertices-counted, sectors-counted, blockmap-within}
+use Rattle.reasons_hold.specs.Promises.{FieldTold, FieldToldAt, ReasonsHold}
+use Rattle.named_field.proofs.Counting.{linedefs-counted, sidedefs-counted, vertices-counted, sectors-counted, blockmap-within}
 use Rattle.why.proofs.Printing.{field-numbers}
 
 -- ---- 23 to 28
 

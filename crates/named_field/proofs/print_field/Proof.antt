@@ -1,10 +1,10 @@
--- `why::fields::print_field` meets its contract, from those of the functions that it calls. Assumes nothing.
+-- `named_field::print_field` meets its contract, from those of the functions that it calls. Assumes nothing.
 use mathlib.Core.Path.{ap, _∙_}
 use denote.Ref.{now}
 use Rattle.range.specs.Fields.{putField}
 use borrow.Author.Needs.{needs}
-use Rattle.why.proofs.fields.print_field.Statement.{statement}
-use Rattle.why.proofs.fields.print_field.Tie as tie
+use Rattle.named_field.proofs.print_field.Statement.{statement}
+use Rattle.named_field.proofs.print_field.Tie as tie
 
 returns : tie.Need-returns
 returns c =

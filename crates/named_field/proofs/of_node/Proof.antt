@@ -1,4 +1,4 @@
--- `why::fields::of_node` meets its contract, from those of the functions that it calls, and from the counts that 21 lets pass. Assumes nothing.
+-- `named_field::of_node` meets its contract, from those of the functions that it calls, and from the counts that 21 lets pass. Assumes nothing.
 use mathlib.Core.Path.{_∙_}
 use denote.Ref.{now}
 use Rattle.range.specs.Fields.{firstOut}
@@ -7,10 +7,10 @@ use Rattle.lump.specs.Lumps.{mapLumps}
 use Rattle.built.specs.Nodes.{nodeSize}
 use Rattle.bsp.specs.Nodes.{nodesOf}
 use Rattle.reason.specs.RecordFields.{nodeFields}
-use Rattle.why.proofs.Counting.{nodes-few, subsectors-counted}
+use Rattle.named_field.proofs.Counting.{nodes-few, subsectors-counted}
 use borrow.Author.Needs.{needs}
-use Rattle.why.proofs.fields.of_node.Statement.{statement}
-use Rattle.why.proofs.fields.of_node.Tie as tie
+use Rattle.named_field.proofs.of_node.Statement.{statement}
+use Rattle.named_field.proofs.of_node.Tie as tie
 
 node-field-requires : tie.Need-node-field-requires
 node-field-requires c κs =

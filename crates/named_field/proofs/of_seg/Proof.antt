@@ -1,4 +1,4 @@
--- `why::fields::of_seg` meets its contract, from those of the functions that it calls, and from the counts that 21 lets pass. Assumes nothing.
+-- `named_field::of_seg` meets its contract, from those of the functions that it calls, and from the counts that 21 lets pass. Assumes nothing.
 use mathlib.Core.Path.{_∙_}
 use denote.Ref.{now}
 use Rattle.range.specs.Fields.{firstOut}
@@ -6,10 +6,10 @@ use Rattle.field.specs.Records.{recordBytes}
 use Rattle.lump.specs.Lumps.{mapLumps}
 use Rattle.built.specs.Segs.{segSize}
 use Rattle.reason.specs.RecordFields.{segFields}
-use Rattle.why.proofs.Counting.{vertices-counted, linedefs-counted}
+use Rattle.named_field.proofs.Counting.{vertices-counted, linedefs-counted}
 use borrow.Author.Needs.{needs}
-use Rattle.why.proofs.fields.of_seg.Statement.{statement}
-use Rattle.why.proofs.fields.of_seg.Tie as tie
+use Rattle.named_field.proofs.of_seg.Statement.{statement}
+use Rattle.named_field.proofs.of_seg.Tie as tie
 
 seg-field-requires : tie.Need-seg-field-requires
 seg-field-requires c κs =

@@ -1,4 +1,4 @@
--- `why::fields::of_sidedef` meets its contract, from those of the functions that it calls, and from the counts that 21 lets pass. Assumes nothing.
+-- `named_field::of_sidedef` meets its contract, from those of the functions that it calls, and from the counts that 21 lets pass. Assumes nothing.
 use mathlib.Core.Path.{_∙_}
 use denote.Ref.{now}
 use Rattle.range.specs.Fields.{firstOut}
@@ -6,10 +6,10 @@ use Rattle.field.specs.Records.{recordBytes}
 use Rattle.lump.specs.Lumps.{mapLumps}
 use Rattle.record.specs.Sidedefs.{sidedefSize}
 use Rattle.reason.specs.RecordFields.{sidedefFields}
-use Rattle.why.proofs.Counting.{sectors-counted}
+use Rattle.named_field.proofs.Counting.{sectors-counted}
 use borrow.Author.Needs.{needs}
-use Rattle.why.proofs.fields.of_sidedef.Statement.{statement}
-use Rattle.why.proofs.fields.of_sidedef.Tie as tie
+use Rattle.named_field.proofs.of_sidedef.Statement.{statement}
+use Rattle.named_field.proofs.of_sidedef.Tie as tie
 
 sidedef-field-requires : tie.Need-sidedef-field-requires
 sidedef-field-requires c κs =

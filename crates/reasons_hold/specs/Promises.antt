@@ -24,9 +24,10 @@ use Rattle.level.specs.Verdict.{nodesAt, verdict}
 use Rattle.way.specs.Ways.{loopWay, routeOf}
 use Rattle.way.specs.Promises.{LoopTold, RouteTold}
 use Rattle.reason.specs.Reasons.{InOrder}
 use Rattle.why.specs.declared.Reason.{Reason}
-use Rattle.why.specs.Named.{fieldOk, namedBytes, namedSize, namedFields, namedField}
+use Rattle.named_field.specs.Named.{fieldOk, namedFields, namedField}
+use Rattle.reasons_hold.specs.NamedBytes.{namedBytes, namedSize}
 use Rattle.why.specs.Printing.{printedLength, answerBy}
 
 -- the field that a refusal names is out of its range, with every field before it in its range, and it holds what stands at its offset in
 -- the record, or in BLOCKMAP, or it is BLOCKMAP's size

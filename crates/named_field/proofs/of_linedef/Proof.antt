@@ -1,4 +1,4 @@
--- `why::fields::of_linedef` meets its contract, from those of the functions that it calls, and from the counts that 21 lets pass. Assumes nothing.
+-- `named_field::of_linedef` meets its contract, from those of the functions that it calls, and from the counts that 21 lets pass. Assumes nothing.
 use mathlib.Core.Path.{_∙_}
 use denote.Ref.{now}
 use Rattle.range.specs.Fields.{firstOut}
@@ -6,10 +6,10 @@ use Rattle.field.specs.Records.{recordBytes}
 use Rattle.lump.specs.Lumps.{mapLumps}
 use Rattle.linedef.specs.Linedefs.{linedefSize}
 use Rattle.reason.specs.RecordFields.{linedefFields}
-use Rattle.why.proofs.Counting.{vertices-counted, sidedefs-counted}
+use Rattle.named_field.proofs.Counting.{vertices-counted, sidedefs-counted}
 use borrow.Author.Needs.{needs}
-use Rattle.why.proofs.fields.of_linedef.Statement.{statement}
-use Rattle.why.proofs.fields.of_linedef.Tie as tie
+use Rattle.named_field.proofs.of_linedef.Statement.{statement}
+use Rattle.named_field.proofs.of_linedef.Tie as tie
 
 linedef-field-requires : tie.Need-linedef-field-requires
 linedef-field-requires c κs =

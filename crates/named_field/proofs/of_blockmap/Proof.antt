@@ -1,4 +1,4 @@
--- `why::fields::of_blockmap` meets its contract, from those of the functions that it calls, and from the counts that 21 lets pass. Assumes nothing.
+-- `named_field::of_blockmap` meets its contract, from those of the functions that it calls, and from the counts that 21 lets pass. Assumes nothing.
 use Prim.Native.Nat.{ℕ, _≤_}
 use mathlib.Core.List.{List}
 use mathlib.Core.Path.{_≡_, ap, subst⁻¹, _∙_}
@@ -11,10 +11,10 @@ use Rattle.linedef.proofs.Fields.{linedef-positive}
 use Rattle.blocklist.specs.Fields.{blockmapFields}
 use Rattle.table.specs.Lumps.{LINEDEFS}
 use Rattle.lump.specs.Lumps.{mapLumps, recordCount}
-use Rattle.why.proofs.Counting.{linedefs-counted}
+use Rattle.named_field.proofs.Counting.{linedefs-counted}
 use borrow.Author.Needs.{needs}
-use Rattle.why.proofs.fields.of_blockmap.Statement.{statement}
-use Rattle.why.proofs.fields.of_blockmap.Tie as tie
+use Rattle.named_field.proofs.of_blockmap.Statement.{statement}
+use Rattle.named_field.proofs.of_blockmap.Tie as tie
 
 record-count-requires : tie.Need-record-count-requires
 record-count-requires c κs =

@@ -1,4 +1,4 @@
--- `why::fields::of_subsector` meets its contract, from those of the functions that it calls, and from the counts that 21 lets pass. Assumes nothing.
+-- `named_field::of_subsector` meets its contract, from those of the functions that it calls, and from the counts that 21 lets pass. Assumes nothing.
 use mathlib.Core.Path.{_∙_}
 use denote.Ref.{now}
 use Rattle.range.specs.Fields.{firstOut}
@@ -6,10 +6,10 @@ use Rattle.field.specs.Records.{recordBytes}
 use Rattle.lump.specs.Lumps.{mapLumps}
 use Rattle.built.specs.Subsectors.{subsectorSize}
 use Rattle.reason.specs.RecordFields.{subsectorFields}
-use Rattle.why.proofs.Counting.{segs-counted}
+use Rattle.named_field.proofs.Counting.{segs-counted}
 use borrow.Author.Needs.{needs}
-use Rattle.why.proofs.fields.of_subsector.Statement.{statement}
-use Rattle.why.proofs.fields.of_subsector.Tie as tie
+use Rattle.named_field.proofs.of_subsector.Statement.{statement}
+use Rattle.named_field.proofs.of_subsector.Tie as tie
 
 subsector-field-requires : tie.Need-subsector-field-requires
 subsector-field-requires c κs =

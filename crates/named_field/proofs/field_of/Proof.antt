@@ -1,4 +1,4 @@
--- `why::fields::field_of` meets its contract, by the refusal's number. Assumes nothing.
+-- `named_field::field_of` meets its contract, by the refusal's number. Assumes nothing.
 use Prim.Native.Nat.{ℕ, _≤_, _<_}
 use mathlib.Core.Bool.{Bool}
 use mathlib.Core.List.{List}
@@ -7,11 +7,11 @@ use native.Mathlib.Omega.{arith}
 use denote.Ref.{now}
 use Rattle.range.specs.declared.Field.{Field}
 use Rattle.lump.specs.Lumps.{mapLumps}
-use Rattle.why.specs.Named.{namedField}
-use Rattle.why.specs.Inner.{namedCount, Nameable}
+use Rattle.named_field.specs.Named.{namedField}
+use Rattle.named_field.specs.Inner.{namedCount, Nameable}
 use borrow.Author.Needs.{needs}
-use Rattle.why.proofs.fields.field_of.Statement.{statement}
-use Rattle.why.proofs.fields.field_of.Tie as tie
+use Rattle.named_field.proofs.field_of.Statement.{statement}
+use Rattle.named_field.proofs.field_of.Tie as tie
 
 -- record `i` is there, by the number that the test found
 inside : {hexen : Bool} {wad dir : List ℕ} {marker number i : ℕ} (k : ℕ) → Nameable hexen wad dir marker number i → number ≡ k → k ≤ 27

@@ -1,4 +1,4 @@
-// The field that a refusal 23 to 28 names, read in place in the map's lumps, and printed.
+// The field that a refusal 23 to 28 names (W-211), read in place in the map's lumps, and printed.
 ghost use mathlib.Core.Path.{_≡_};
 ghost use Prim.Native.Nat.{_<_, _≤_};
 ghost use lib.ListN.{length};
@@ -14,8 +14,8 @@ ghost use Rattle.built.specs.Subsectors.{subsectorSize};
 ghost use Rattle.built.specs.Nodes.{nodeSize};
 ghost use Rattle.table.specs.Lumps.{LINEDEFS, SIDEDEFS, SEGS, SSECTORS, NODES, BLOCKMAP};
 ghost use Rattle.lump.specs.Lumps.{mapLumps, mapLump, recordCount};
-ghost use Rattle.why.specs.Named.{namedFields, namedField};
-ghost use Rattle.why.specs.Inner.{Counts, Nameable};
+ghost use Rattle.named_field.specs.Named.{namedFields, namedField};
+ghost use Rattle.named_field.specs.Inner.{Counts, Nameable};
 use built::Node;
 use built::Seg;
 use built::Subsector;

@@ -1,5 +1,5 @@
--- The record, header or cell that a refusal 23 to 28 names, in a map's lumps: its bytes, and its fields with their ranges in byte order
--- (02, W-211). Assumes nothing.
+-- The record, header or cell that a refusal 23 to 28 names, in a map's lumps: its fields with their ranges in byte order (02, W-211).
+-- Assumes nothing.
 use Prim.Native.Nat.{ℕ}
 use mathlib.Core.Bool.{Bool, _&&_, cond}
 use mathlib.Core.List.{List}
@@ -28,21 +28,6 @@ abbrev pub byNumber : {A : Type 0} → ℕ → A → A → A → A → A → A �
 byNumber number linedef sidedef seg subsector node blockmap =
     cond (eqb number 23) linedef (cond (eqb number 24) sidedef (cond (eqb number 25) seg
     (cond (eqb number 26) subsector (cond (eqb number 27) node blockmap))))
-
--- the bytes of record `i`; with 28 the whole lump
-abbrev pub namedBytes : Bool → List (List ℕ) → ℕ → ℕ → List ℕ
-namedBytes hexen lumps number i =
-    byNumber number
-    (recordBytes (mapLump lumps LINEDEFS) (linedefSize hexen) i)
-    (recordBytes (mapLump lumps SIDEDEFS) sidedefSize i)
-    (recordBytes (mapLump lumps SEGS) segSize i)
-    (recordBytes (mapLump lumps SSECTORS) subsectorSize i)
-    (recordBytes (mapLump lumps NODES) nodeSize i)
-    (mapLump lumps BLOCKMAP)
-
--- how many bytes a record has; BLOCKMAP is none
-abbrev pub namedSize : Bool → ℕ → ℕ
-namedSize hexen number = byNumber number (linedefSize hexen) sidedefSize segSize subsectorSize nodeSize 0
 
 -- its fields; with 28 those of the header and of cell `i`
 abbrev pub namedFields : Bool → List (List ℕ) → ℕ → ℕ → List Field

@@ -1,0 +1,3 @@
+-- The laws of what holds of a reason. Assumes nothing.
+
+pub mod Reasons

@@ -1,0 +1,4 @@
+-- What holds of a reason. Assumes nothing.
+
+pub mod NamedBytes
+pub mod Promises
