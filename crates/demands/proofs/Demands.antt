@@ -45,8 +45,9 @@ use Rattle.lump.specs.Lumps.{mapLumps, mapLump, recordCount}
 use Rattle.run.specs.Run.{runCheck}
 use Rattle.run.specs.Games.{gameAt}
 use Rattle.size.specs.Sizes.{sizesCheck}
-use Rattle.level.specs.References.{referencesCheck}
-use Rattle.level.specs.Verdict.{lumpsCheck, mapCheck, graphAnswer, judged, checkAt, nodesAt, subsectorsAt, verdictBy, verdict}
+use Rattle.lumps_check.specs.References.{referencesCheck}
+use Rattle.lumps_check.specs.Lumps.{lumpsCheck}
+use Rattle.level.specs.Verdict.{mapCheck, graphAnswer, judged, checkAt, nodesAt, subsectorsAt, verdictBy, verdict}
 use Rattle.demands.specs.Demands.{MapAt, SameMap, SameShortage, Frame, Below31, HandedOver, Demand3, GameTold}
 use Rattle.level.proofs.Passing.{run-long, passed}
 use Rattle.level.proofs.Answers.{marker-known}

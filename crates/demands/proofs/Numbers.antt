@@ -27,7 +27,7 @@ use Rattle.lump.specs.Lumps.{mapLump, recordCount}
 use Rattle.run.specs.Run.{namedOk, runCheck}
 use Rattle.run.specs.Games.{gameAt}
 use Rattle.size.specs.Sizes.{wholeOk, recordCountOk, rejectSize, sizeCheck, sizesCheck}
-use Rattle.level.specs.References.{linedefsCheck, sidedefsCheck, segsCheck, subsectorsCheck, nodesCheck, referencesCheck}
+use Rattle.lumps_check.specs.References.{linedefsCheck, sidedefsCheck, segsCheck, subsectorsCheck, nodesCheck, referencesCheck}
 use Rattle.level.specs.Verdict.{mapCheck}
 
 -- a scan of tests

@@ -12,8 +12,10 @@ use Rattle.table.specs.Lumps.{mostCount}
 use Rattle.lump.proofs.Places.{each-place}
 use Rattle.run.specs.Run.{runCheck}
 use Rattle.level.specs.declared.Verdict.the-variants.{Accepted}
-use Rattle.level.specs.Verdict.{lumpsCheck, verdict}
-use Rattle.level.proofs.Passing.{run-long, count-most, counts}
+use Rattle.lumps_check.specs.Lumps.{lumpsCheck}
+use Rattle.level.specs.Verdict.{verdict}
+use Rattle.level.proofs.Passing.{run-long, counts}
+use Rattle.lumps_check.proofs.Passing.{count-most}
 use Rattle.level.proofs.Answers.{marker-known}
 use Rattle.demands.proofs.Demands.{known}
 use Rattle.difference.specs.Differences.{gameIn, lumpsIn}

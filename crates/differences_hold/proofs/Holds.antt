@@ -11,8 +11,9 @@ use Rattle.wad.specs.Entries.{directoryOf}
 use Rattle.table.specs.Lumps.{recordSize}
 use Rattle.lump.specs.Lumps.{mapLump}
 use Rattle.run.specs.Run.{runCheck}
-use Rattle.level.specs.Verdict.{lumpsCheck}
-use Rattle.level.proofs.Passing.{count-whole, counts}
+use Rattle.lumps_check.specs.Lumps.{lumpsCheck}
+use Rattle.lumps_check.proofs.Passing.{count-whole}
+use Rattle.level.proofs.Passing.{counts}
 use Rattle.demands.proofs.Demands.{known}
 use Rattle.difference.specs.Differences.{gameIn, lumpsIn, sameGame}
 use Rattle.differences_hold.specs.Promises.{Copies, DifferencesHold}

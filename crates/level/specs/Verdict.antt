@@ -1,15 +1,13 @@
 -- The verdict on a map, as the row of all checks in the order of 01's table, and what the lent work words hold afterwards.
 -- Assumes nothing.
 use Prim.Native.Nat.{ℕ, _*_}
-use mathlib.Core.Bool.{Bool}
 use mathlib.Core.List.{List}
 use mathlib.Core.Path.{_≡_}
-use lib.Dec.{leb}
 use lib.ListN.{length}
 use Rattle.refusal.specs.declared.Check.{Check}
 use Rattle.refusal.specs.declared.Check.the-variants.{Pass, Refused}
-use Rattle.refusal.specs.declared.Refusal.the-variants.{WorkWords, NodeLoop, NodeShared}
-use Rattle.refusal.specs.Checks.{unless, _andThen_}
+use Rattle.refusal.specs.declared.Refusal.the-variants.{NodeLoop, NodeShared}
+use Rattle.refusal.specs.Checks.{_andThen_}
 use Rattle.wad.specs.declared.map.Marker.{Marker}
 use Rattle.wad.specs.declared.map.Marker.the-variants.{Entry, Refused as NoMarker}
 use Rattle.wad.specs.Header.{headOf, entryCount}
@@ -20,30 +18,14 @@ use Rattle.bsp.specs.declared.Graph.the-variants.{HasLoop, HasShared, HasDepth}
 use Rattle.bsp.specs.Nodes.{nodesOf}
 use Rattle.bsp.specs.Heights.{graphVerdict}
 use Rattle.graph.specs.Judging.{cleared}
-use Rattle.blockmap.specs.Blockmap.{blockmapCheck}
 use Rattle.level.specs.declared.Verdict.{Verdict}
 use Rattle.level.specs.declared.Verdict.the-variants.{Accepted, Refused as NotAccepted}
-use Rattle.linedef.specs.Linedefs.{linedefSize}
 use Rattle.built.specs.Subsectors.{subsectorSize}
-use Rattle.built.specs.Nodes.{nodeSize}
-use Rattle.table.specs.Lumps.{LINEDEFS, SSECTORS, NODES, BLOCKMAP}
+use Rattle.table.specs.Lumps.{SSECTORS, NODES}
 use Rattle.lump.specs.Lumps.{mapLumps, mapLump, recordCount}
 use Rattle.run.specs.Run.{runCheck}
 use Rattle.run.specs.Games.{gameAt}
-use Rattle.size.specs.Sizes.{sizesCheck}
-use Rattle.level.specs.References.{referencesCheck}
-
--- 30: fewer than four work words for each node
-abbrev pub workCheck : List (List ℕ) → ℕ → Check
-workCheck lumps lent = unless (leb (4 * recordCount lumps NODES nodeSize) lent) WorkWords
-
--- 20 to 30, which look at the map's game, its own lumps and how many words are lent, `lent`
-abbrev pub lumpsCheck : Bool → List (List ℕ) → ℕ → Check
-lumpsCheck hexen lumps lent =
-    sizesCheck hexen lumps
-    andThen referencesCheck hexen lumps
-    andThen blockmapCheck (mapLump lumps BLOCKMAP) (recordCount lumps LINEDEFS (linedefSize hexen))
-    andThen workCheck lumps lent
+use Rattle.lumps_check.specs.Lumps.{lumpsCheck}
 
 -- 12 to 30, of the map whose marker is entry `marker` of a directory of `count` entries
 abbrev pub mapCheck : List ℕ → ℕ → ℕ → List (List ℕ) → ℕ → Check

@@ -1,6 +1,4 @@
 // The map check: one map of a file, by its name, judged whole. The definitions are in specs/.
-mod lumps;
-
 ghost use mathlib.Core.Path.{_≡_};
 ghost use Prim.Native.Nat.{_*_, _/_, _<_, _≤_};
 ghost use lib.ListN.{length};
@@ -56,7 +54,7 @@ pub fn judge_below(wad: &[u8], dir: &[u8], count: usize, marker: usize, words: u
     if let Check::Refused(r) = run::judge_run(dir, count, marker) {
         return Check::Refused(r);
     }
-    lumps::check_lumps(run::game_at(dir, count, marker), wad, dir, marker, words)
+    lumps_check::check_lumps(run::game_at(dir, count, marker), wad, dir, marker, words)
 }
 
 // 31, 32, or accepted.

@@ -23,7 +23,7 @@ use Rattle.table.specs.Lumps.{recordSize, leastCount, mostCount, LINEDEFS, SIDE
 use Rattle.lump.specs.Lumps.{mapLumps, mapLump, recordCount, eachPlace}
 use Rattle.lump.proofs.Places.{subsectors-size, nodes-size, sectors-size}
 use Rattle.size.specs.Sizes.{sizeCheck}
-use Rattle.level.proofs.Passing.{count-least, count-most}
+use Rattle.lumps_check.proofs.Passing.{count-least, count-most}
 
 linedefs-size : (hexen : Bool) → recordSize hexen LINEDEFS ≡ linedefSize hexen
 linedefs-size true = refl

@@ -39,7 +39,8 @@ use Rattle.lump.specs.Lumps.{mapLumps, mapLump, recordCount}
 use Rattle.run.specs.Games.{gameAt}
 use Rattle.level.specs.declared.Verdict.{Verdict}
 use Rattle.level.specs.declared.Verdict.the-variants.{Accepted, Refused as NotAccepted}
-use Rattle.level.specs.Verdict.{lumpsCheck, graphAnswer, judged, checkAt, nodesAt, subsectorsAt, verdictBy, verdict}
+use Rattle.lumps_check.specs.Lumps.{lumpsCheck}
+use Rattle.level.specs.Verdict.{graphAnswer, judged, checkAt, nodesAt, subsectorsAt, verdictBy, verdict}
 use Rattle.level.proofs.Answers.{marker-known}
 use Rattle.demands.proofs.Refusing.{past-run, past-counts, refused-by}
 use Rattle.demands.proofs.Demands.{graph-loop, graph-by, below-passed, known}

@@ -16,7 +16,8 @@ use Rattle.graph.specs.Judging.{Judgeable}
 use Rattle.lump.specs.Lumps.{mapLumps, mapLump}
 use Rattle.run.specs.Run.{runCheck}
 use Rattle.run.specs.Games.{gameAt}
-use Rattle.level.specs.Verdict.{lumpsCheck, mapCheck, checkAt, nodesAt}
+use Rattle.lumps_check.specs.Lumps.{lumpsCheck}
+use Rattle.level.specs.Verdict.{mapCheck, checkAt, nodesAt}
 use Rattle.level.proofs.Passing.{run-long, judgeable}
 use Rattle.why.specs.Inner.{RefusalTold, GraphTold}
 use Rattle.why.proofs.Printing.{told-refused, told-graph}
