@@ -1,5 +1,5 @@
 // Questions on pictures: each is put with what is lent, and the answer printed, then the planes or the output.
-use picture::Picture;
+use picture_header::Picture;
 
 pub fn put(written: bool, file: &[u8], with: &[u8]) {
     if written {

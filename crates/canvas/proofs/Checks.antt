@@ -13,12 +13,13 @@ use Rattle.refusal.specs.declared.Check.{Check}
 use Rattle.refusal.specs.declared.Check.the-variants.{Pass, Refused}
 use Rattle.refusal.specs.Checks.{_andThen_}
 use Rattle.refusal.proofs.Checks.{both, unless-pass, andThen-pass}
-use Rattle.picture.specs.Layout.{areaOf}
-use Rattle.picture.specs.Judging.{pictureHeaderCheck, columnsCheck, pictureCheck, answerOf}
-use Rattle.picture.specs.declared.Picture.{Picture}
+use Rattle.picture_header.specs.Layout.{areaOf}
+use Rattle.picture_header.specs.Headers.{pictureHeaderCheck}
+use Rattle.picture.specs.Judging.{columnsCheck, pictureCheck, answerOf}
+use Rattle.picture_header.specs.declared.Picture.{Picture}
 use Rattle.picture.specs.declared.PictureVerdict.{PictureVerdict}
 use Rattle.picture.specs.declared.PictureVerdict.the-variants.{Accepted, Refused as NotAccepted}
-use Rattle.picture.proofs.Checks.{Header, header-of}
+use Rattle.picture_header.proofs.Checks.{Header, header-of}
 use Rattle.canvas.specs.Buffers.{roomCheck, paintCheck}
 use Rattle.layout.specs.Buffers.{bufferAfter}
 use Rattle.canvas.specs.Pixels.{byColour, byCover, planeOf, Painted}

@@ -12,7 +12,7 @@ use lib.Arith.{digits-lt, digits-div, digits-mod, lt-of-le-ne}
 use lib.Dec.{leb, ltb, eqb}
 use lib.ListN.{length, getD, set, length-set}
 use lib.Seq.{getD-set-same, getD-set-other, drop-set-lt}
-use Rattle.picture.specs.Layout.{startAt, lengthAt}
+use Rattle.picture_header.specs.Layout.{startAt, lengthAt}
 use Rattle.canvas.specs.Pixels.{byColour, byCover, byteOf, overPost}
 use Rattle.canvas.specs.Inner.{Stroke, Strokes, Both}
 

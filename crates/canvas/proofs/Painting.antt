@@ -10,12 +10,12 @@ use Rattle.refusal.specs.declared.Check.the-variants.{Pass}
 use Rattle.refusal.specs.declared.Refusal.the-variants.{PostBounds}
 use Rattle.refusal.specs.Checks.{unless, each}
 use Rattle.refusal.proofs.Checks.{andThen-pass, each-pass}
-use Rattle.picture.specs.Layout.{heightOf, tableEnd, columnOffset, startAt, lengthAt, postEnd, endRow}
+use Rattle.picture_header.specs.Layout.{heightOf, tableEnd, columnOffset, startAt, lengthAt, postEnd, endRow}
 use Rattle.picture.specs.Judging.{postsCheck, columnCheck}
-use Rattle.picture.specs.Inner.{Over}
+use Rattle.posts.specs.Inner.{Over}
 use Rattle.canvas.specs.Pixels.{overPost, overPosts, overColumn}
 use Rattle.canvas.specs.Inner.{Stroke, Strokes, Both}
-use Rattle.picture.proofs.Inner.{over-holds}
+use Rattle.posts.proofs.Inner.{over-holds}
 use Rattle.picture.proofs.Posts.{pass-inside}
 use Rattle.canvas.proofs.Posts.{Next, next-of, posts-ended}
 use Rattle.canvas.proofs.Inner.{both-none, both-as, both-then, overFirst, first-none, stroke-none, stroke-then, strokes-more}

@@ -7,7 +7,7 @@ use native.Mathlib.Omega.{arith}
 use lib.ListN.{length, getD, take, drop, replicate, length-append, length-drop, length-replicate, getD-replicate}
 use lib.ListN.{List·getD-append, take-append-drop}
 use lib.Seq.{ext-getD, getD-take, length-take-le, drop-at}
-use Rattle.picture.specs.Layout.{widthOf, heightOf, areaOf}
+use Rattle.picture_header.specs.Layout.{widthOf, heightOf, areaOf}
 use Rattle.canvas.specs.Pixels.{overColumn, listOf, planeOf}
 use Rattle.canvas.specs.Inner.{Strokes}
 

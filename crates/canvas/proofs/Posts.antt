@@ -10,7 +10,7 @@ use Rattle.refusal.specs.declared.Refusal.the-variants.{PostBounds, PostRows}
 use Rattle.refusal.specs.declared.Check.the-variants.{Pass}
 use Rattle.refusal.specs.Checks.{unless}
 use Rattle.refusal.proofs.Checks.{both, unless-pass, andThen-pass}
-use Rattle.picture.specs.Layout.{startAt, endRow, postEnd}
+use Rattle.picture_header.specs.Layout.{startAt, endRow, postEnd}
 use Rattle.picture.specs.Judging.{postsCheck, postCheck, rowsOk}
 use Rattle.canvas.specs.Pixels.{overPost, overPosts}
 

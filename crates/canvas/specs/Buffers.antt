@@ -6,8 +6,9 @@ use lib.Dec.{leb}
 use Rattle.refusal.specs.declared.Refusal.the-variants.{PixelBuffer}
 use Rattle.refusal.specs.declared.Check.{Check}
 use Rattle.refusal.specs.Checks.{unless, _andThen_}
-use Rattle.picture.specs.Layout.{areaOf}
-use Rattle.picture.specs.Judging.{pictureHeaderCheck, columnsCheck}
+use Rattle.picture_header.specs.Layout.{areaOf}
+use Rattle.picture_header.specs.Headers.{pictureHeaderCheck}
+use Rattle.picture.specs.Judging.{columnsCheck}
 
 -- 55: buffers of `colours` and `covers` bytes, each at least width × height
 abbrev pub roomCheck : List ℕ → ℕ → ℕ → Check

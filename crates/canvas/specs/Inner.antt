@@ -4,7 +4,7 @@ use Prim.Native.Nat.{ℕ, _+_, _*_, _≤_, _<_}
 use mathlib.Core.List.{List}
 use mathlib.Core.Path.{_≡_}
 use lib.ListN.{length, getD, drop}
-use Rattle.picture.specs.Layout.{heightOf}
+use Rattle.picture_header.specs.Layout.{heightOf}
 use Rattle.canvas.specs.Pixels.{byColour, byCover, overColumn}
 
 -- two planes that a picture with rows of `width` fits into

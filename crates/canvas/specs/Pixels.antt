@@ -7,7 +7,7 @@ use lib.Dec.{leb, ltb}
 use lib.ListN.{length, getD}
 use Rattle.layout.specs.Buffers.{bufferAfter}
 use Rattle.picture.specs.declared.PictureVerdict.{PictureVerdict}
-use Rattle.picture.specs.Layout.{widthOf, areaOf, columnOffset, startAt, endAt, endRow, postEnd}
+use Rattle.picture_header.specs.Layout.{widthOf, areaOf, columnOffset, startAt, endAt, endRow, postEnd}
 use Rattle.picture.specs.Judging.{answerOf}
 use Rattle.canvas.specs.Buffers.{paintCheck}
 

@@ -15,7 +15,7 @@ use Rattle.refusal.specs.declared.Check.{Check}
 use Rattle.refusal.specs.declared.Check.the-variants.{Pass, Refused}
 use Rattle.refusal.specs.Checks.{unless}
 use Rattle.refusal.proofs.Checks.{both, refused-then, pass-then}
-use Rattle.picture.specs.declared.Picture.{Picture}
+use Rattle.picture_header.specs.declared.Picture.{Picture}
 use Rattle.layout.specs.Buffers.{bufferAfter}
 use Rattle.encode.specs.declared.Encoding.{Encoding}
 use Rattle.encode.specs.Lump.{headerBytes, writtenOf, writtenLength}

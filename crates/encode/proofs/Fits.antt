@@ -12,8 +12,8 @@ use Rattle.refusal.specs.declared.Refusal.the-variants.{PixelBuffer, EncodeSize
 use Rattle.refusal.specs.declared.Check.the-variants.{Pass}
 use Rattle.refusal.specs.Checks.{unless, _andThen_}
 use Rattle.refusal.proofs.Checks.{both, unless-pass, andThen-pass}
-use Rattle.picture.specs.declared.Picture.{Picture}
-use Rattle.picture.specs.Judging.{sizeOk}
+use Rattle.picture_header.specs.declared.Picture.{Picture}
+use Rattle.picture_header.specs.Headers.{sizeOk}
 use Rattle.encode.specs.Lump.{pixelsOf}
 use Rattle.encode_given.specs.Given.{coverOk}
 use Rattle.encode.specs.Encoding.{givenCheck}

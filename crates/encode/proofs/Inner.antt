@@ -7,7 +7,7 @@ use lib.IntN.{pos}
 use lib.ListN.{length}
 use lib.Seq.{sets, length-sets}
 use Rattle.endian.specs.Unsigned.{putU32, u32Bytes}
-use Rattle.picture.specs.declared.Picture.{Picture}
+use Rattle.picture_header.specs.declared.Picture.{Picture}
 use Rattle.encode_column.specs.Runs.{columnBytes, columnLength}
 use Rattle.encode_column.specs.Pixels.{pixelAt, coveredAt}
 use Rattle.encode.specs.Inner.{startOfColumn, offsetsTo, columnsTo}

@@ -5,7 +5,7 @@ use mathlib.Core.List.{List}
 use mathlib.Core.Path.{_≡_, refl, _∙_}
 use native.Mathlib.Omega.{arith}
 use lib.ListN.{length, length-append}
-use Rattle.picture.specs.declared.Picture.{Picture}
+use Rattle.picture_header.specs.declared.Picture.{Picture}
 use Rattle.layout.specs.Rows.{sumOf, laidOut}
 use Rattle.encode_column.specs.Runs.{begins, columnLength}
 use Rattle.endian.specs.Unsigned.{u32Bytes}

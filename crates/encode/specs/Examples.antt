@@ -4,7 +4,7 @@ use Prim.Native.Nat.{ℕ}
 use mathlib.Core.List.{List, [], _∷_}
 use mathlib.Core.Path.{_≡_}
 use lib.IntN.{pos, negsuc}
-use Rattle.picture.specs.declared.Picture.{Picture}
+use Rattle.picture_header.specs.declared.Picture.{Picture}
 use Rattle.encode.specs.Lump.{writtenOf, writtenLength}
 
 -- 1 × 3 pixels, the middle one covered

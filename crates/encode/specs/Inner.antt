@@ -2,7 +2,7 @@
 -- Assumes nothing.
 use Prim.Native.Nat.{ℕ, _+_}
 use mathlib.Core.List.{List}
-use Rattle.picture.specs.Layout.{tableEnd}
+use Rattle.picture_header.specs.Layout.{tableEnd}
 use Rattle.layout.specs.Rows.{sumOf, laidOut}
 use Rattle.encode_column.specs.Runs.{columnBytes, columnLength}
 use Rattle.endian.specs.Unsigned.{u32Bytes}

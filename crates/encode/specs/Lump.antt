@@ -3,8 +3,8 @@ use Prim.Native.Nat.{ℕ, _+_, _*_}
 use mathlib.Core.List.{List, _++_}
 use Rattle.endian.specs.Unsigned.{u16Bytes, u32Bytes}
 use Rattle.endian.specs.Signed.{bitsOf}
-use Rattle.picture.specs.declared.Picture.{Picture}
-use Rattle.picture.specs.Layout.{tableEnd}
+use Rattle.picture_header.specs.declared.Picture.{Picture}
+use Rattle.picture_header.specs.Layout.{tableEnd}
 use Rattle.layout.specs.Rows.{sumOf, laidOut}
 use Rattle.encode_column.specs.Runs.{columnBytes, columnLength}
 use Rattle.encode_column.specs.Pixels.{pixelAt, coveredAt}

@@ -3,14 +3,14 @@ ghost use mathlib.Core.Path.{_≡_};
 ghost use Prim.Native.Nat.{_*_, _≤_};
 ghost use lib.ListN.{length};
 ghost use Rattle.refusal.specs.declared.Check.the-variants.{Pass};
-ghost use Rattle.picture.specs.declared.Picture.{Picture};
+ghost use Rattle.picture_header.specs.declared.Picture.{Picture};
 ghost use Rattle.encode.specs.Lump.{writtenOf, writtenLength};
 ghost use Rattle.encode.specs.Encoding.{encodeCheck, Encoded};
 
 mod measure;
 mod writing;
 
-use picture::Picture;
+use picture_header::Picture;
 use refusal::Check;
 use refusal::Refusal;
 

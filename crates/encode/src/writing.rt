@@ -3,10 +3,10 @@ ghost use mathlib.Core.Path.{_≡_};
 ghost use Prim.Native.Nat.{_+_, _*_, _≤_};
 ghost use lib.ListN.{length};
 ghost use lib.Seq.{sets};
-ghost use Rattle.picture.specs.declared.Picture.{Picture};
+ghost use Rattle.picture_header.specs.declared.Picture.{Picture};
 ghost use Rattle.encode.specs.Lump.{headerBytes};
 ghost use Rattle.encode.specs.Inner.{startOfColumn, offsetsTo, columnsTo};
-use picture::Picture;
+use picture_header::Picture;
 
 // Width, height and both offsets.
 pub fn write_header(picture: Picture, out: &mut [u8])

@@ -7,7 +7,7 @@ use lib.ListN.{getD}
 use Rattle.refusal.specs.declared.Refusal.the-variants.{PixelBuffer, EncodeSize, EncodeCover}
 use Rattle.refusal.specs.declared.Check.{Check}
 use Rattle.refusal.specs.Checks.{unless}
-use Rattle.picture.specs.Judging.{sizeOk}
+use Rattle.picture_header.specs.Headers.{sizeOk}
 
 -- the first `count` cover bytes are 0 or 1
 unfoldable pub coverOk : List ℕ → ℕ → Bool

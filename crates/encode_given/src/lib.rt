@@ -15,7 +15,7 @@ pub fn judge_given(width: usize, height: usize, colours: usize, cover: &[u8]) ->
     if !(fits(width, height, colours) & fits(width, height, cover.len())) {
         return Check::Refused(Refusal::PixelBuffer);
     }
-    if !picture::size_ok(width, height) {
+    if !picture_header::size_ok(width, height) {
         return Check::Refused(Refusal::EncodeSize);
     }
     refusal::pass_if(cover_ok(cover, height * width), Refusal::EncodeCover)

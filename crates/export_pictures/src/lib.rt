@@ -2,7 +2,7 @@
 ghost use mathlib.Core.Path.{_≡_};
 ghost use Rattle.export_pictures.specs.Pictures.{pictureOut, pictureJudged, PicturePainted, PictureWritten};
 use encode::Encoding;
-use picture::Picture;
+use picture_header::Picture;
 use picture::PictureVerdict;
 use status::LengthAnswer;
 use status::Status;

@@ -11,10 +11,10 @@ use lib.ListN.{length, List·getD-eq-default}
 use Rattle.refusal.specs.declared.Refusal.the-variants.{PostBounds, PostRows}
 use Rattle.refusal.specs.declared.Check.{Check}
 use Rattle.refusal.specs.declared.Check.the-variants.{Pass, Refused}
-use Rattle.picture.specs.Layout.{startAt, endRow, postEnd}
+use Rattle.picture_header.specs.Layout.{startAt, endRow, postEnd}
 use Rattle.picture.specs.Judging.{postsCheck, rowsOk}
-use Rattle.picture.specs.Inner.{pastEmpty}
-use Rattle.picture.proofs.Inner.{Empty, past-holds}
+use Rattle.posts.specs.Inner.{pastEmpty}
+use Rattle.posts.proofs.Inner.{Empty, past-holds}
 
 module _ (lump : List ℕ) (height column : ℕ) where
   -- the posts from `at` on, below row `row`, decide the answer

@@ -5,26 +5,15 @@ use mathlib.Core.Bool.{Bool, _&&_, cond}
 use mathlib.Core.List.{List}
 use lib.Dec.{leb}
 use lib.ListN.{length}
-use Rattle.refusal.specs.declared.Refusal.the-variants.{PictureLength, PictureSize}
-use Rattle.refusal.specs.declared.Refusal.the-variants.{PictureOffsets, PostBounds, PostRows}
+use Rattle.refusal.specs.declared.Refusal.the-variants.{PostBounds, PostRows}
 use Rattle.refusal.specs.declared.Check.{Check}
 use Rattle.refusal.specs.declared.Check.the-variants.{Pass, Refused}
 use Rattle.refusal.specs.Checks.{unless, _andThen_, each}
 use Rattle.picture.specs.declared.PictureVerdict.{PictureVerdict}
 use Rattle.picture.specs.declared.PictureVerdict.the-variants.{Accepted, Refused as NotAccepted}
-use Rattle.picture.specs.Layout.{widthOf, heightOf, pictureOf, tableEnd}
-use Rattle.picture.specs.Layout.{columnOffset, startAt, endAt, endRow, postEnd}
-
--- width 1 to 320, height 1 to 200
-abbrev pub sizeOk : ℕ → ℕ → Bool
-sizeOk width height = (leb 1 width && leb width 320) && (leb 1 height && leb height 200)
-
--- 50, 51 and 52
-abbrev pub pictureHeaderCheck : List ℕ → Check
-pictureHeaderCheck lump =
-    unless (leb 8 (length lump)) PictureLength
-    andThen unless (sizeOk (widthOf lump) (heightOf lump)) PictureSize
-    andThen unless (leb (tableEnd (widthOf lump)) (length lump)) PictureOffsets
+use Rattle.picture_header.specs.Layout.{widthOf, heightOf, pictureOf, tableEnd}
+use Rattle.picture_header.specs.Headers.{pictureHeaderCheck}
+use Rattle.picture_header.specs.Layout.{columnOffset, startAt, endAt, endRow, postEnd}
 
 -- the post at `at` starts at `row` or below, where the post before it ended, and ends at the height or above it
 abbrev pub rowsOk : List ℕ → ℕ → ℕ → ℕ → Bool

@@ -1,5 +1,4 @@
--- The picture format, and the judging of a picture. Assumes nothing.
+-- The judging of a picture. Assumes nothing.
 
-pub mod Layout
 pub mod Judging
 pub mod Inner

@@ -14,8 +14,9 @@ use Rattle.refusal.specs.declared.Check.{Check}
 use Rattle.refusal.specs.declared.Check.the-variants.{Pass}
 use Rattle.refusal.specs.Checks.{each}
 use Rattle.refusal.proofs.Checks.{both, each-none, each-more}
-use Rattle.picture.specs.Layout.{widthOf, heightOf, tableEnd, columnOffset}
-use Rattle.picture.specs.Judging.{sizeOk, columnCheck, pictureCheck}
+use Rattle.picture_header.specs.Layout.{widthOf, heightOf, tableEnd, columnOffset}
+use Rattle.picture_header.specs.Headers.{sizeOk}
+use Rattle.picture.specs.Judging.{columnCheck, pictureCheck}
 use Rattle.canvas.specs.Pixels.{shown, listOf, planeOf}
 use Rattle.round_trip.proofs.Reading.{Reads}
 

@@ -9,7 +9,7 @@ use borrow.Author.Tests.{eq-eqb, ne-eqb, le-leb, lt-leb, leb-true, leb-false, lt
 use lib.Dec.{leb}
 use lib.ListN.{length, getD}
 use Rattle.refusal.specs.declared.Check.the-variants.{Pass}
-use Rattle.picture.specs.Layout.{startAt, lengthAt, endRow, postEnd}
+use Rattle.picture_header.specs.Layout.{startAt, lengthAt, endRow, postEnd}
 use Rattle.picture.specs.Judging.{postsCheck}
 use Rattle.canvas.specs.Pixels.{overPost, overPosts}
 use Rattle.canvas.proofs.Posts.{posts-ended}

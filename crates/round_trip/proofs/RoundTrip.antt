@@ -19,10 +19,11 @@ use Rattle.endian.proofs.Signed.{signed-bits}
 use Rattle.refusal.specs.declared.Check.{Check}
 use Rattle.refusal.specs.declared.Check.the-variants.{Pass, Refused}
 use Rattle.refusal.proofs.Checks.{pass-then, andThen-pass}
-use Rattle.picture.specs.declared.Picture.{Picture}
+use Rattle.picture_header.specs.declared.Picture.{Picture}
 use Rattle.picture.specs.declared.PictureVerdict.the-variants.{Accepted}
-use Rattle.picture.specs.Layout.{pictureOf, areaOf, tableEnd, columnOffset}
-use Rattle.picture.specs.Judging.{pictureHeaderCheck, columnsCheck, answerOf as pictureAnswer}
+use Rattle.picture_header.specs.Layout.{pictureOf, areaOf, tableEnd, columnOffset}
+use Rattle.picture_header.specs.Headers.{pictureHeaderCheck}
+use Rattle.picture.specs.Judging.{columnsCheck, answerOf as pictureAnswer}
 use Rattle.canvas.specs.Buffers.{roomCheck, paintCheck}
 use Rattle.layout.specs.Buffers.{bufferAfter}
 use Rattle.canvas.specs.Pixels.{byColour, byCover, listOf, planeOf}

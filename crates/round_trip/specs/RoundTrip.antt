@@ -9,10 +9,10 @@ use lib.ListN.{length, getD, take, drop}
 use mir.Syntax.{w16}
 use mir.Val.{SFits}
 use Rattle.refusal.specs.declared.Check.the-variants.{Pass}
-use Rattle.picture.specs.declared.Picture.{Picture}
+use Rattle.picture_header.specs.declared.Picture.{Picture}
 use Rattle.picture.specs.declared.PictureVerdict.{PictureVerdict}
 use Rattle.picture.specs.declared.PictureVerdict.the-variants.{Accepted}
-use Rattle.picture.specs.Layout.{pictureOf}
+use Rattle.picture_header.specs.Layout.{pictureOf}
 use Rattle.picture.specs.Judging.{pictureCheck}
 use Rattle.canvas.specs.Pixels.{byColour, byCover, listOf, planeOf, Painted}
 use Rattle.encode.specs.Lump.{pixelsOf, writtenLength, writtenOf}

@@ -9,9 +9,9 @@ use Rattle.refusal.specs.declared.Refusal.the-variants.{PixelBuffer}
 use Rattle.refusal.specs.declared.Check.the-variants.{Pass}
 use Rattle.refusal.specs.Checks.{unless}
 use Rattle.refusal.proofs.Checks.{refused-then, pass-then}
-use Rattle.picture.specs.Layout.{areaOf}
-use Rattle.picture.specs.Judging.{pictureHeaderCheck}
-use Rattle.picture.proofs.Checks.{Header, header-of, area-small}
+use Rattle.picture_header.specs.Layout.{areaOf}
+use Rattle.picture_header.specs.Headers.{pictureHeaderCheck}
+use Rattle.picture_header.proofs.Checks.{Header, header-of, area-small}
 use borrow.Author.Needs.{needs}
 use Rattle.canvas.proofs.judge_room.Statement.{statement}
 use Rattle.canvas.proofs.judge_room.Tie as tie

@@ -4,8 +4,8 @@ use mathlib.Core.Path.{_≡_}
 use borrow.Author.Needs.{needs}
 use denote.Ref.{now}
 use lib.ListN.{length}
-use Rattle.picture.specs.Layout.{heightOf}
-use Rattle.picture.specs.Inner.{Notes, Block}
+use Rattle.picture_header.specs.Layout.{heightOf}
+use Rattle.posts.specs.Inner.{Notes, Block}
 use Rattle.canvas.specs.Pixels.{overColumn}
 use Rattle.canvas.specs.Inner.{Strokes, Both}
 use Rattle.canvas.proofs.Inner.{both-none, both-then, strokes-none}

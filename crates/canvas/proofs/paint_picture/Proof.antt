@@ -7,10 +7,10 @@ use denote.Ref.{now}
 use lib.ListN.{length}
 use Rattle.refusal.specs.declared.Check.the-variants.{Pass}
 use Rattle.refusal.specs.Checks.{each}
-use Rattle.picture.specs.Layout.{widthOf, heightOf, areaOf, tableEnd}
+use Rattle.picture_header.specs.Layout.{widthOf, heightOf, areaOf, tableEnd}
 use Rattle.picture.specs.Judging.{columnCheck}
 use Rattle.canvas.specs.Pixels.{byColour, byCover}
-use Rattle.picture.proofs.Checks.{area-small}
+use Rattle.picture_header.proofs.Checks.{area-small}
 use Rattle.canvas.proofs.Checks.{Good, good-of}
 use Rattle.canvas.proofs.Planes.{plane-painted}
 use borrow.Author.Needs.{needs}

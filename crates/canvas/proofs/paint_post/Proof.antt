@@ -5,7 +5,7 @@ use native.Mathlib.Omega.{arith}
 use borrow.Author.Needs.{needs}
 use denote.Ref.{now}
 use lib.ListN.{length}
-use Rattle.picture.specs.Layout.{heightOf, startAt, lengthAt}
+use Rattle.picture_header.specs.Layout.{heightOf, startAt, lengthAt}
 use Rattle.canvas.specs.Pixels.{byColour, byCover}
 use Rattle.canvas.specs.Inner.{Stroke, Both}
 use Rattle.canvas.proofs.Inner.{both-none, both-as, overFirst, stroke-none}

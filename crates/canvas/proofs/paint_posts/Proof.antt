@@ -5,8 +5,8 @@ use mathlib.Core.Path.{_≡_}
 use native.Mathlib.Omega.{arith}
 use borrow.Author.Needs.{needs}
 use lib.ListN.{length}
-use Rattle.picture.specs.Inner.{Notes, Block}
-use Rattle.picture.proofs.Inner.{over-on}
+use Rattle.posts.specs.Inner.{Notes, Block}
+use Rattle.posts.proofs.Inner.{over-on}
 use Rattle.canvas.proofs.Painting.{Painting, painting-first, painting-inside, painting-next, painting-more, painting-done, painting-over}
 use Rattle.canvas.proofs.paint_posts.Statement.{statement}
 use Rattle.canvas.proofs.paint_posts.Tie as tie

@@ -1,8 +1,8 @@
 -- `canvas::paint_short` meets its contract: nothing is noted at first. Assumes nothing.
 use borrow.Author.Needs.{needs}
 use denote.Ref.{now}
-use Rattle.picture.specs.Inner.{Block}
-use Rattle.picture.proofs.Slots.{notes-none}
+use Rattle.posts.specs.Inner.{Block}
+use Rattle.posts.proofs.Slots.{notes-none}
 use Rattle.canvas.proofs.paint_short.Statement.{statement}
 use Rattle.canvas.proofs.paint_short.Tie as tie
 

@@ -7,11 +7,12 @@ use Rattle.refusal.specs.declared.Check.{Check}
 use Rattle.refusal.specs.declared.Check.the-variants.{Pass}
 use Rattle.refusal.specs.Checks.{each}
 use Rattle.refusal.proofs.Checks.{refused-then, pass-then}
-use Rattle.picture.specs.declared.Picture.{Picture}
+use Rattle.picture_header.specs.declared.Picture.{Picture}
 use Rattle.picture.specs.declared.PictureVerdict.the-variants.{Accepted}
-use Rattle.picture.specs.Layout.{tableEnd}
-use Rattle.picture.specs.Judging.{pictureHeaderCheck, columnsCheck, columnCheck, answerOf}
-use Rattle.picture.proofs.Checks.{Header, header-of}
+use Rattle.picture_header.specs.Layout.{tableEnd}
+use Rattle.picture_header.specs.Headers.{pictureHeaderCheck}
+use Rattle.picture.specs.Judging.{columnsCheck, columnCheck, answerOf}
+use Rattle.picture_header.proofs.Checks.{Header, header-of}
 use native.Mathlib.Omega.{arith}
 use borrow.Author.Needs.{needs}
 use Rattle.picture.proofs.judge.Statement.{statement}

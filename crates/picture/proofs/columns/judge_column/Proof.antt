@@ -5,7 +5,7 @@ use native.Mathlib.Omega.{arith}
 use borrow.Author.Tests.{le-leb, lt-leb}
 use denote.Ref.{now}
 use lib.ListN.{length}
-use Rattle.picture.specs.Layout.{tableEnd, columnOffset}
+use Rattle.picture_header.specs.Layout.{tableEnd, columnOffset}
 use Rattle.picture.specs.Judging.{postsCheck, columnCheck}
 use borrow.Author.Needs.{needs}
 use Rattle.picture.proofs.columns.judge_column.Statement.{statement}

@@ -1,0 +1,3 @@
+-- The laws of a picture's header. Assumes nothing.
+
+pub mod Checks

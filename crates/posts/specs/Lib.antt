@@ -1,0 +1,3 @@
+-- Posts that are stepped over. Assumes nothing.
+
+pub mod Inner
