@@ -11,13 +11,13 @@ use lib.IntN.{ℤ}
 use lib.ListN.{length}
 use Rattle.built.specs.Nodes.{nodeSize}
 use Rattle.bsp.specs.declared.Descent.the-variants.{Found}
-use Rattle.bsp.specs.Nodes.{nodesOf, root}
+use Rattle.node.specs.Nodes.{nodesOf, root}
 use Rattle.bsp.specs.Walks.{nodesOk, subsectorsOk}
-use Rattle.bsp.specs.declared.Graph.{Graph}
-use Rattle.bsp.specs.Heights.{graphVerdict}
+use Rattle.route.specs.declared.Graph.{Graph}
+use Rattle.route.specs.Heights.{graphVerdict}
 use Rattle.bsp.specs.Promises.{Descends}
-use Rattle.bsp.proofs.Nodes.{ChildrenInRange, root-node}
-use Rattle.bsp.proofs.Verdict.{depth-verdict}
+use Rattle.node.proofs.Nodes.{ChildrenInRange, root-node}
+use Rattle.route.proofs.Verdict.{depth-verdict}
 use Rattle.bsp.proofs.Walks.{walk-only, descent-root, finds}
 
 -- a NODES lump and a count of subsectors that have passed every check before the graph's

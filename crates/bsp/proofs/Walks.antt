@@ -12,16 +12,16 @@ use lib.IntN.{ℤ}
 use lib.ListN.{length}
 use Rattle.refusal.proofs.Checks.{both}
 use Rattle.refusal.specs.declared.Refusal.the-variants.{DescentNodes, DescentSubsectors, DescentChild, DescentLoop}
-use Rattle.bsp.specs.declared.Choice.{Choice}
+use Rattle.node.specs.declared.Choice.{Choice}
 use Rattle.bsp.specs.declared.Descent.{Descent}
 use Rattle.bsp.specs.declared.Descent.the-variants.{Found, Refused}
-use Rattle.bsp.specs.Nodes.{nodesOf, subsectorBit, root, childOf, childOk}
-use Rattle.bsp.specs.Heights.{stands, height}
-use Rattle.bsp.specs.Side.{sideAt, chosen}
+use Rattle.node.specs.Nodes.{nodesOf, subsectorBit, root, childOf, childOk}
+use Rattle.route.specs.Heights.{stands, height}
+use Rattle.side.specs.Side.{sideAt, chosen}
 use Rattle.bsp.specs.Walks.{Walk, ends, goes, descentFrom, nodesOk, subsectorsOk, descent}
-use Rattle.bsp.proofs.Choices.{le-larger}
-use Rattle.bsp.proofs.Nodes.{ChildrenInRange, childOk-node}
-use Rattle.bsp.proofs.Heights.{node-or-end, stands-none, stands-child, height-node}
+use Rattle.node.proofs.Choices.{le-larger}
+use Rattle.node.proofs.Nodes.{ChildrenInRange, childOk-node}
+use Rattle.route.proofs.Heights.{node-or-end, stands-none, stands-child, height-node}
 
 module _ (nodes : List ℕ) (x y : ℤ) where
   -- a walk has one end and one count

@@ -14,8 +14,8 @@ use Rattle.refusal.specs.Checks.{unless, _andThen_}
 use Rattle.built.specs.Nodes.{nodeSize}
 use Rattle.bsp.specs.declared.Descent.{Descent}
 use Rattle.bsp.specs.declared.Descent.the-variants.{Found, Refused}
-use Rattle.bsp.specs.Nodes.{nodesOf, subsectorBit, isNode, root, childOk}
-use Rattle.bsp.specs.Side.{chosen}
+use Rattle.node.specs.Nodes.{nodesOf, subsectorBit, isNode, root, childOk}
+use Rattle.side.specs.Side.{chosen}
 
 -- the plain walk of the point (x, y) from a word ends at a subsector, with the count of nodes passed
 pub data Walk (nodes : List ℕ) (x y : ℤ) : ℕ → ℕ → ℕ → Type 0 where

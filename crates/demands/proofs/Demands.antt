@@ -28,14 +28,14 @@ use Rattle.wad.proofs.Answers.{entry-at, handed-whole}
 use Rattle.linedef.specs.Linedefs.{linedefSize}
 use Rattle.built.specs.Subsectors.{subsectorSize}
 use Rattle.wad.proofs.Numbers.{marker-atMost}
-use Rattle.bsp.specs.declared.Graph.{Graph}
-use Rattle.bsp.specs.declared.Graph.the-variants.{HasLoop, HasShared, HasDepth}
-use Rattle.bsp.specs.Heights.{graphVerdict}
-use Rattle.bsp.specs.Routes.{Loop, Shared}
-use Rattle.bsp.specs.Reach.{OneMore}
-use Rattle.bsp.proofs.Nodes.{nodes-in-range}
-use Rattle.bsp.proofs.Verdict.{verdict-holds, depth-verdict}
-use Rattle.bsp.proofs.Reach.{one-more}
+use Rattle.route.specs.declared.Graph.{Graph}
+use Rattle.route.specs.declared.Graph.the-variants.{HasLoop, HasShared, HasDepth}
+use Rattle.route.specs.Heights.{graphVerdict}
+use Rattle.route.specs.Routes.{Loop, Shared}
+use Rattle.route.specs.Reach.{OneMore}
+use Rattle.node.proofs.Nodes.{nodes-in-range}
+use Rattle.route.proofs.Verdict.{verdict-holds, depth-verdict}
+use Rattle.route.proofs.Reach.{one-more}
 use Rattle.bsp.proofs.Descends.{Passed, descent-holds}
 use Rattle.blockmap.specs.Blockmap.{blockmapCheck}
 use Rattle.level.specs.declared.Verdict.{Verdict}

@@ -20,7 +20,7 @@ use Rattle.built.specs.Segs.{segSize, segOf}
 use Rattle.built.specs.Subsectors.{subsectorSize, subsectorOf}
 use Rattle.built.specs.Nodes.{nodeSize}
 use Rattle.record.specs.Sectors.{sectorSize}
-use Rattle.bsp.specs.Nodes.{nodeOk}
+use Rattle.node.specs.Nodes.{nodeOk}
 use Rattle.reference.specs.References.{linedefOk, segOk, subsectorOk}
 use Rattle.blockmap.specs.Blockmap.{wordAt, cellsOf, headerOk, listOk, blockmapCheck}
 use Rattle.lump.specs.Lumps.{mapLump, recordCount}

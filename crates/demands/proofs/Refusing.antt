@@ -22,7 +22,7 @@ use Rattle.record.specs.Sectors.{sectorSize}
 use Rattle.built.specs.Segs.{segSize, segOf}
 use Rattle.built.specs.Subsectors.{subsectorSize, subsectorOf}
 use Rattle.built.specs.Nodes.{nodeSize}
-use Rattle.bsp.specs.Nodes.{nodeOk}
+use Rattle.node.specs.Nodes.{nodeOk}
 use Rattle.reference.specs.References.{linedefOk, segOk, subsectorOk}
 use Rattle.blockmap.specs.Blockmap.{wordAt, cellsOf, headerOk, listOk, blockmapCheck}
 use Rattle.table.specs.Lumps.{LINEDEFS, SIDEDEFS, VERTEXES, SEGS, SSECTORS, NODES, SECTORS, BLOCKMAP}

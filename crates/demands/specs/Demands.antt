@@ -17,9 +17,9 @@ use Rattle.wad.specs.Lump.{entryAnswer, entryLump}
 use Rattle.wad.specs.Map.{markerAnswer}
 use Rattle.built.specs.Subsectors.{subsectorSize}
 use Rattle.table.specs.Lumps.{SSECTORS, NODES}
-use Rattle.bsp.specs.Nodes.{nodesOf}
-use Rattle.bsp.specs.Routes.{Loop, Shared, Depth}
-use Rattle.bsp.specs.Reach.{OneMore}
+use Rattle.node.specs.Nodes.{nodesOf}
+use Rattle.route.specs.Routes.{Loop, Shared, Depth}
+use Rattle.route.specs.Reach.{OneMore}
 use Rattle.bsp.specs.Promises.{Descends}
 use Rattle.level.specs.declared.Verdict.the-variants.{Accepted, Refused}
 use Rattle.lump.specs.Lumps.{mapLumps}

@@ -14,8 +14,8 @@ use Rattle.layout.specs.Rows.{laidOut}
 use Rattle.layout.proofs.LaidOut.{laid-none, laid-suc, laid-same}
 use Rattle.refusal.proofs.Checks.{both}
 use Rattle.field.specs.Records.{recordBytes}
-use Rattle.bsp.specs.Heights.{member}
-use Rattle.bsp.proofs.Repeats.{or-either, or-neither, member-left, member-right, member-append, member-head, member-cons, at-member}
+use Rattle.route.specs.Heights.{member}
+use Rattle.route.proofs.Repeats.{or-either, or-neither, member-left, member-right, member-append, member-head, member-cons, at-member}
 use Rattle.name.specs.Names.{sameBytes}
 use Rattle.name.proofs.Bytes.{same-equal, equal-same}
 use Rattle.change.specs.Records.{countIn, changed, changes}

@@ -8,7 +8,7 @@ use mathlib.Core.Path.{_≡_}
 use lib.ListN.{length, getD}
 use Rattle.layout.specs.Rows.{laidOut}
 use Rattle.field.specs.Records.{recordBytes}
-use Rattle.bsp.specs.Heights.{member}
+use Rattle.route.specs.Heights.{member}
 use Rattle.table.specs.Lumps.{recordSize}
 use Rattle.lump.specs.Lumps.{mapLump}
 use Rattle.level.specs.declared.Verdict.the-variants.{Accepted}

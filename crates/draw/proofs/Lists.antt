@@ -12,9 +12,9 @@ use Rattle.refusal.specs.declared.Check.the-variants.{Pass}
 use Rattle.refusal.specs.Checks.{unless}
 use Rattle.refusal.proofs.Checks.{both, unless-pass, andThen-pass}
 use Rattle.built.specs.Nodes.{nodeSize}
-use Rattle.bsp.specs.declared.Choice.{Choice}
-use Rattle.bsp.specs.Nodes.{nodesOf, subsectorBit, childOf, childOk}
-use Rattle.bsp.specs.Side.{sideAt}
+use Rattle.node.specs.declared.Choice.{Choice}
+use Rattle.node.specs.Nodes.{nodesOf, subsectorBit, childOf, childOk}
+use Rattle.side.specs.Side.{sideAt}
 use Rattle.bsp.specs.Walks.{nodesOk, subsectorsOk}
 use Rattle.bsp.proofs.Walks.{nodesOk-whole}
 use Rattle.draw.specs.Lists.{listed, stopped, mostPassed, other, joined, nodeOrder, childOrder, rootOrder, orderCheck}

@@ -9,7 +9,7 @@ use lib.ListN.{length, length-append, set, take, drop, take-append-drop}
 use lib.Seq.{sets, length-sets, sets-eq, drop-append-le}
 use Rattle.refusal.specs.declared.Refusal.{Refusal}
 use Rattle.refusal.specs.declared.Check.the-variants.{Pass, Refused as NotPassed}
-use Rattle.bsp.specs.Nodes.{nodesOf}
+use Rattle.node.specs.Nodes.{nodesOf}
 use Rattle.graph.specs.Judging.{cleared}
 use Rattle.draw.specs.declared.Order.{Order}
 use Rattle.draw.specs.declared.Order.the-variants.{Listed, Refused}

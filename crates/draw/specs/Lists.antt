@@ -11,10 +11,10 @@ use Rattle.refusal.specs.declared.Refusal.the-variants.{DescentNodes, DescentSu
 use Rattle.refusal.specs.declared.Check.{Check}
 use Rattle.refusal.specs.declared.Check.the-variants.{Pass, Refused}
 use Rattle.refusal.specs.Checks.{unless, _andThen_}
-use Rattle.bsp.specs.declared.Choice.{Choice}
-use Rattle.bsp.specs.declared.Choice.the-variants.{Right, Left}
-use Rattle.bsp.specs.Nodes.{nodesOf, subsectorBit, isNode, childOf, childOk}
-use Rattle.bsp.specs.Side.{sideAt}
+use Rattle.node.specs.declared.Choice.{Choice}
+use Rattle.node.specs.declared.Choice.the-variants.{Right, Left}
+use Rattle.node.specs.Nodes.{nodesOf, subsectorBit, isNode, childOf, childOk}
+use Rattle.side.specs.Side.{sideAt}
 use Rattle.bsp.specs.Walks.{nodesOk, subsectorsOk}
 
 -- what a walk lists: subsectors, or the refusal that it meets

@@ -6,7 +6,7 @@ use lib.IntN.{ℤ}
 use lib.ListN.{length, drop}
 use Rattle.refusal.specs.declared.Check.{Check}
 use Rattle.refusal.specs.declared.Check.the-variants.{Pass, Refused}
-use Rattle.bsp.specs.Nodes.{nodesOf}
+use Rattle.node.specs.Nodes.{nodesOf}
 use Rattle.graph.specs.Judging.{cleared}
 use Rattle.draw.specs.declared.Order.{Order}
 use Rattle.draw.specs.declared.Order.the-variants.{Listed, Refused as NotListed}

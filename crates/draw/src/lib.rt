@@ -1,6 +1,6 @@
 // The draw order: for a camera point the subsectors of a node graph, front first (W-208). The walk of a child and the walk of a
 // node call each other, and the nodes that may still be passed fall with each node.
-use bsp::Choice;
+use node::Choice;
 use built::Node;
 use refusal::Check;
 use refusal::Refusal;
@@ -146,7 +146,7 @@ fn walk_node(
         return Walk::Deep;
     }
     let less = more - 1;
-    let near = bsp::side::side_at(nodes, x, y, node);
+    let near = side::side_at(nodes, x, y, node);
     let far = other(near);
     match walk_child(nodes, count, subsectors, x, y, words, at, less, node, near) {
         Walk::Listed(next) => walk_child(
@@ -183,17 +183,17 @@ fn walk_child(
     requires { ⌜ Walkable (now nodes) count (now words) × (node < count) ⌝ }
     ensures { λ r. ⌜ Walked (childOrder (now (nodes .entry)) subsectors x y more at node choice) at (now (words .entry)) (orderOf r) (now (words .exit)) ⌝ }
 {
-    let child = bsp::child_of(nodes, node, choice);
-    if !bsp::child_ok(count, subsectors, child) {
+    let child = node::child_of(nodes, node, choice);
+    if !node::child_ok(count, subsectors, child) {
         return Walk::Outside(node);
     }
-    if child < bsp::SUBSECTOR_BIT {
+    if child < node::SUBSECTOR_BIT {
         return walk_node(nodes, count, subsectors, x, y, words, at, more, child);
     }
     if words.len() <= at {
         return Walk::Full;
     }
-    words[at] = (child - bsp::SUBSECTOR_BIT) as u16;
+    words[at] = (child - node::SUBSECTOR_BIT) as u16;
     Walk::Listed(at + 1)
 }
 

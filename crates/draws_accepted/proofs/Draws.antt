@@ -10,15 +10,15 @@ use borrow.Author.Tests.{le-leb}
 use lib.IntN.{ℤ}
 use lib.ListN.{length}
 use Rattle.refusal.specs.declared.Check.the-variants.{Pass}
-use Rattle.bsp.specs.declared.Graph.{Graph}
-use Rattle.bsp.specs.Nodes.{nodesOf, subsectorBit, root}
-use Rattle.bsp.specs.Routes.{Reached}
-use Rattle.bsp.specs.Heights.{stands, height, wordsFrom, repeats, graphVerdict}
-use Rattle.bsp.specs.Reach.{HoldsOnce}
-use Rattle.bsp.proofs.Nodes.{nodes-in-range, root-last}
-use Rattle.bsp.proofs.Verdict.{depth-verdict}
-use Rattle.bsp.proofs.Shared.{member-follow}
-use Rattle.bsp.proofs.Reach.{nodesIn, nodes-held, nodes-few}
+use Rattle.route.specs.declared.Graph.{Graph}
+use Rattle.node.specs.Nodes.{nodesOf, subsectorBit, root}
+use Rattle.route.specs.Routes.{Reached}
+use Rattle.route.specs.Heights.{stands, height, wordsFrom, repeats, graphVerdict}
+use Rattle.route.specs.Reach.{HoldsOnce}
+use Rattle.node.proofs.Nodes.{nodes-in-range, root-last}
+use Rattle.route.proofs.Verdict.{depth-verdict}
+use Rattle.route.proofs.Shared.{member-follow}
+use Rattle.route.proofs.Reach.{nodesIn, nodes-held, nodes-few}
 use Rattle.bsp.proofs.Descends.{Passed, nodes-ok, subsectors-ok, descent-holds}
 use Rattle.level.specs.Verdict.{nodesAt, subsectorsAt}
 use Rattle.demands.proofs.Demands.{known, known-passed}

@@ -9,19 +9,19 @@ use native.Mathlib.Omega.{arith}
 use borrow.Author.Tests.{ltb-false, lt-ltb, le-ltb}
 use lib.IntN.{ℤ}
 use lib.ListN.{length, length-append}
-use Rattle.bsp.specs.declared.Choice.{Choice}
-use Rattle.bsp.specs.declared.Choice.the-variants.{Right, Left}
-use Rattle.bsp.specs.Nodes.{nodesOf, subsectorBit, isNode, childOf}
-use Rattle.bsp.specs.Routes.{Follow}
-use Rattle.bsp.specs.Heights.{stands, height, wordsFrom, member, repeats}
-use Rattle.bsp.specs.Side.{sideAt, chosen}
+use Rattle.node.specs.declared.Choice.{Choice}
+use Rattle.node.specs.declared.Choice.the-variants.{Right, Left}
+use Rattle.node.specs.Nodes.{nodesOf, subsectorBit, isNode, childOf}
+use Rattle.route.specs.Routes.{Follow}
+use Rattle.route.specs.Heights.{stands, height, wordsFrom, member, repeats}
+use Rattle.side.specs.Side.{sideAt, chosen}
 use Rattle.bsp.specs.Walks.{Walk, ends, goes}
-use Rattle.bsp.proofs.Choices.{le-larger}
-use Rattle.bsp.proofs.Heights.{node-or-end, stands-none, stands-child, height-node}
-use Rattle.bsp.proofs.Nodes.{ChildrenInRange, childOk-node}
-use Rattle.bsp.proofs.Reach.{nodesIn, kept-length}
-use Rattle.bsp.proofs.Repeats.{member-head, member-tail, member-cons, member-left, member-right, member-append, repeats-tail, repeats-across, Repeated, inFirst, inSecond, inBoth, repeats-append}
-use Rattle.bsp.proofs.Shared.{below, words-node, words-end, words-head, member-below, repeats-below}
+use Rattle.node.proofs.Choices.{le-larger}
+use Rattle.route.proofs.Heights.{node-or-end, stands-none, stands-child, height-node}
+use Rattle.node.proofs.Nodes.{ChildrenInRange, childOk-node}
+use Rattle.route.proofs.Reach.{nodesIn, kept-length}
+use Rattle.route.proofs.Repeats.{member-head, member-tail, member-cons, member-left, member-right, member-append, repeats-tail, repeats-across, Repeated, inFirst, inSecond, inBoth, repeats-append}
+use Rattle.route.proofs.Shared.{below, words-node, words-end, words-head, member-below, repeats-below}
 use Rattle.draw.specs.Lists.{Listing, listed, other, inFront, joined, nodeOrder, childOrder}
 use Rattle.draw.proofs.Lists.{node-more, child-node, child-entry}
 

@@ -5,9 +5,9 @@ use mathlib.Core.Path.{_≡_}
 use lib.IntN.{ℤ}
 use lib.ListN.{length}
 use Rattle.bsp.specs.declared.Descent.the-variants.{Found}
-use Rattle.bsp.specs.Nodes.{subsectorBit}
-use Rattle.bsp.specs.Routes.{Reached}
-use Rattle.bsp.specs.Reach.{HoldsOnce}
+use Rattle.node.specs.Nodes.{subsectorBit}
+use Rattle.route.specs.Routes.{Reached}
+use Rattle.route.specs.Reach.{HoldsOnce}
 use Rattle.bsp.specs.Walks.{descent}
 use Rattle.draw.specs.Lists.{listed, drawOrder}
 

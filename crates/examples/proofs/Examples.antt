@@ -6,9 +6,9 @@ use lib.IntN.{pos}
 use lib.Signed.{leZ}
 use Rattle.refusal.specs.Checks.{each}
 use Rattle.wad.specs.Map.{findMarker}
-use Rattle.bsp.specs.declared.Choice.the-variants.{Right}
-use Rattle.bsp.specs.Side.{leftIf, sideAt}
-use Rattle.bsp.specs.Heights.{stands, height, wordsFrom, graphVerdict}
+use Rattle.node.specs.declared.Choice.the-variants.{Right}
+use Rattle.side.specs.Side.{leftIf, sideAt}
+use Rattle.route.specs.Heights.{stands, height, wordsFrom, graphVerdict}
 use Rattle.bsp.specs.Walks.{descentFrom, descent}
 use Rattle.blockmap.specs.Blockmap.{listEnds, numbersFrom}
 use Rattle.picture.specs.Judging.{postsCheck}

@@ -10,13 +10,13 @@ use Rattle.refusal.specs.declared.Check.the-variants.{Pass}
 use Rattle.refusal.specs.declared.Refusal.the-variants.{DescentLoop}
 use Rattle.name.specs.Names.{nameOk, sameName}
 use Rattle.table.specs.Lumps.{lumpName, THINGS, LINEDEFS, SIDEDEFS, VERTEXES, SEGS, SSECTORS, NODES, SECTORS, REJECT, BLOCKMAP}
-use Rattle.bsp.specs.declared.Choice.{Choice}
-use Rattle.bsp.specs.declared.Choice.the-variants.{Right, Left}
+use Rattle.node.specs.declared.Choice.{Choice}
+use Rattle.node.specs.declared.Choice.the-variants.{Right, Left}
 use Rattle.bsp.specs.declared.Descent.the-variants.{Found, Refused as NotFound}
-use Rattle.bsp.specs.declared.Graph.{Graph}
-use Rattle.bsp.specs.Nodes.{subsectorBit, isNode, childOk}
-use Rattle.bsp.specs.Heights.{graphVerdict}
-use Rattle.bsp.specs.Side.{side}
+use Rattle.route.specs.declared.Graph.{Graph}
+use Rattle.node.specs.Nodes.{subsectorBit, isNode, childOk}
+use Rattle.route.specs.Heights.{graphVerdict}
+use Rattle.side.specs.Side.{side}
 use Rattle.bsp.specs.Walks.{descent}
 use Rattle.run.specs.Games.{behavior, gameAnswer}
 use Rattle.level.specs.Verdict.{verdict}

@@ -9,20 +9,20 @@ use native.Mathlib.Decide.{decLt}
 use native.Mathlib.Omega.{arith}
 use borrow.Author.Tests.{lt-ltb, le-ltb, ltb-true, eq-eqb, eqb-true}
 use Rattle.refusal.proofs.Checks.{both}
-use Rattle.bsp.specs.declared.Choice.{Choice}
-use Rattle.bsp.specs.declared.Choice.the-variants.{Right, Left}
-use Rattle.bsp.specs.declared.Graph.{Graph}
-use Rattle.bsp.specs.Nodes.{nodesOf, subsectorBit, childOf, root}
-use Rattle.bsp.specs.Inner.{NodesInRange}
-use Rattle.bsp.specs.Routes.{Follow}
-use Rattle.bsp.specs.Heights.{stands, height, graphVerdict}
+use Rattle.node.specs.declared.Choice.{Choice}
+use Rattle.node.specs.declared.Choice.the-variants.{Right, Left}
+use Rattle.route.specs.declared.Graph.{Graph}
+use Rattle.node.specs.Nodes.{nodesOf, subsectorBit, childOf, root}
+use Rattle.node.specs.Inner.{NodesInRange}
+use Rattle.route.specs.Routes.{Follow}
+use Rattle.route.specs.Heights.{stands, height, graphVerdict}
 use Rattle.graph.specs.Inner.Searching.{Tall, Due, Searching, LoopMet, Explored}
 use Rattle.graph.specs.Inner.Looks.{onPathOk, pathChoice, heightBy, heightChoice}
 use Rattle.graph.specs.Ways.{loopChoice, depthBelow, deepChoice, wordAfter}
 use Rattle.graph.proofs.Ways.{after-none, after-more, loop-right, loop-due}
-use Rattle.bsp.proofs.Nodes.{root-last}
-use Rattle.bsp.proofs.Heights.{stands-none, stands-node, height-end, node-or-end}
-use Rattle.bsp.proofs.Verdict.{looping, rootHeight, verdict-loop}
+use Rattle.node.proofs.Nodes.{root-last}
+use Rattle.route.proofs.Heights.{stands-none, stands-node, height-end, node-or-end}
+use Rattle.route.proofs.Verdict.{looping, rootHeight, verdict-loop}
 use Rattle.graph.proofs.Searching.{childInside, node-on-path}
 
 module _ (nodes : List ℕ) (count : ℕ) (least : 1 ≤ count) (most : count ≤ 32767) (counted : nodesOf nodes ≡ count) (within : NodesInRange nodes) where

@@ -6,12 +6,12 @@ use mathlib.Core.Path.{_≡_, refl, subst⁻¹}
 use native.Mathlib.Omega.{arith}
 use borrow.Author.Tests.{ltb-true, ltb-false, eqb-true, eqb-false}
 use lib.Dec.{eqb}
-use Rattle.bsp.specs.declared.Choice.{Choice}
-use Rattle.bsp.specs.declared.Choice.the-variants.{Right, Left}
+use Rattle.node.specs.declared.Choice.{Choice}
+use Rattle.node.specs.declared.Choice.the-variants.{Right, Left}
 use Rattle.graph.specs.declared.Look.{Look}
 use Rattle.graph.specs.declared.Look.the-variants.{New, OnPath, Height}
-use Rattle.bsp.specs.Nodes.{nodesOf, subsectorBit, isNode, childOf}
-use Rattle.bsp.specs.Heights.{stands}
+use Rattle.node.specs.Nodes.{nodesOf, subsectorBit, isNode, childOf}
+use Rattle.route.specs.Heights.{stands}
 use Rattle.graph.specs.Inner.Looks.{pathMark, markOf, markSays, lookAt, joined, lookBelow}
 use Rattle.graph.specs.Inner.Searching.{unmet, Tall, Due, State}
 use Rattle.graph.proofs.Tall.{tall-end, tall-node}

@@ -9,13 +9,13 @@ use native.Mathlib.Nat.{eq-or-lt-of-le}
 use native.Mathlib.Omega.{arith}
 use borrow.Author.Tests.{ne-eqb}
 use lib.Dec.{eqb}
-use Rattle.bsp.specs.declared.Choice.{Choice}
-use Rattle.bsp.specs.Nodes.{nodesOf, subsectorBit, childOf}
-use Rattle.bsp.specs.Inner.{NodesInRange}
-use Rattle.bsp.specs.Routes.{Reached}
-use Rattle.bsp.proofs.Places.{reached-child}
+use Rattle.node.specs.declared.Choice.{Choice}
+use Rattle.node.specs.Nodes.{nodesOf, subsectorBit, childOf}
+use Rattle.node.specs.Inner.{NodesInRange}
+use Rattle.route.specs.Routes.{Reached}
+use Rattle.route.proofs.Places.{reached-child}
 use Rattle.graph.specs.Inner.Searching.{unmet, Tall, Due, Searching}
-use Rattle.bsp.proofs.Nodes.{root-last}
+use Rattle.node.proofs.Nodes.{root-last}
 use Rattle.graph.proofs.Unmet.{same-or-not, unmet-all, unmet-same, unmet-less}
 
 end-or-below : (n j : ℕ) → j < n + 1 → (j ≡ n) ⊎ (j < n)

@@ -5,13 +5,13 @@ use mathlib.Core.Bool.{true, false}
 use mathlib.Core.List.{List}
 use mathlib.Core.Path.{_≡_, ap, _∙_}
 use native.Mathlib.Omega.{arith}
-use Rattle.bsp.specs.declared.Graph.{Graph}
-use Rattle.bsp.specs.Nodes.{nodesOf, subsectorBit}
-use Rattle.bsp.specs.Routes.{Reached, Shared}
-use Rattle.bsp.specs.Heights.{repeats, graphVerdict}
-use Rattle.bsp.proofs.Nodes.{nodesOf-whole}
-use Rattle.bsp.proofs.Verdict.{verdict-shared, verdict-depth}
-use Rattle.bsp.proofs.Places.{places-shared, shared-places}
+use Rattle.route.specs.declared.Graph.{Graph}
+use Rattle.node.specs.Nodes.{nodesOf, subsectorBit}
+use Rattle.route.specs.Routes.{Reached, Shared}
+use Rattle.route.specs.Heights.{repeats, graphVerdict}
+use Rattle.node.proofs.Nodes.{nodesOf-whole}
+use Rattle.route.proofs.Verdict.{verdict-shared, verdict-depth}
+use Rattle.route.proofs.Places.{places-shared, shared-places}
 use Rattle.sharing.specs.Children.{childWords}
 use Rattle.sharing.proofs.Places.{Marked, repeats-twice, twice-repeats}
 use Rattle.graph.specs.Inner.Looks.{markOf}

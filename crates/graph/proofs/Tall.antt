@@ -6,12 +6,12 @@ use mathlib.Core.List.{List}
 use mathlib.Core.Path.{_≡_}
 use native.Mathlib.Nat.{le-of-suc-le-suc, le-trans, le-max-left, le-max-right}
 use native.Mathlib.Omega.{arith}
-use Rattle.bsp.specs.declared.Choice.{Choice}
-use Rattle.bsp.specs.declared.Choice.the-variants.{Right, Left}
-use Rattle.bsp.specs.Nodes.{subsectorBit, childOf}
-use Rattle.bsp.specs.Heights.{stands}
+use Rattle.node.specs.declared.Choice.{Choice}
+use Rattle.node.specs.declared.Choice.the-variants.{Right, Left}
+use Rattle.node.specs.Nodes.{subsectorBit, childOf}
+use Rattle.route.specs.Heights.{stands}
 use Rattle.graph.specs.Inner.Searching.{Tall}
-use Rattle.bsp.proofs.Heights.{stands-end, height-end, stands-not, height-node}
+use Rattle.route.proofs.Heights.{stands-end, height-end, stands-not, height-node}
 
 module _ (nodes : List ℕ) where
   pub tall-end : (w : ℕ) → subsectorBit ≤ w → Tall nodes w 0

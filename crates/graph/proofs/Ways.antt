@@ -3,10 +3,10 @@ use Prim.Native.Nat.{ℕ, suc}
 use mathlib.Core.Bool.{true, false}
 use mathlib.Core.List.{List}
 use mathlib.Core.Path.{_≡_, refl}
-use Rattle.bsp.specs.declared.Choice.{Choice}
-use Rattle.bsp.specs.declared.Choice.the-variants.{Right, Left}
-use Rattle.bsp.specs.Nodes.{nodesOf, childOf, root}
-use Rattle.bsp.specs.Heights.{stands}
+use Rattle.node.specs.declared.Choice.{Choice}
+use Rattle.node.specs.declared.Choice.the-variants.{Right, Left}
+use Rattle.node.specs.Nodes.{nodesOf, childOf, root}
+use Rattle.route.specs.Heights.{stands}
 use Rattle.graph.specs.Ways.{loopChoice, wordAfter}
 use Rattle.graph.specs.Inner.Searching.{Due}
 

@@ -7,8 +7,8 @@ use native.Mathlib.Numerals.{add-one}
 use native.Mathlib.Omega.{arith}
 use lib.ListN.{length, getD, set, drop, replicate, length-set, length-append, length-drop, length-replicate, getD-replicate, List·getD-append}
 use lib.Seq.{getD-set-same, getD-set-other, drop-at}
-use Rattle.bsp.specs.declared.Choice.{Choice}
-use Rattle.bsp.specs.Nodes.{nodesOf, subsectorBit, childOf}
+use Rattle.node.specs.declared.Choice.{Choice}
+use Rattle.node.specs.Nodes.{nodesOf, subsectorBit, childOf}
 use Rattle.graph.specs.Judging.{cleared}
 use Rattle.graph.specs.Inner.Looks.{markOf, pathOf, lookBelow, LooksInside, pushed, begun}
 use Rattle.graph.specs.Inner.Searching.{unmet, Tall, Due, Searchable, State, effort, LoopMet, Explored}
@@ -16,7 +16,7 @@ use Rattle.graph.proofs.Searching.{push, finish, start}
 use Rattle.graph.proofs.Ends.{path-loop, path-done}
 use Rattle.graph.proofs.Unmet.{unmet-some}
 use Rattle.graph.proofs.Looks.{SaidBelow, said-below}
-use Rattle.bsp.proofs.Nodes.{nodesOf-whole}
+use Rattle.node.proofs.Nodes.{nodesOf-whole}
 
 -- the marks and the path after a node was put on the path
 module _ (words : List ℕ) (count sp v : ℕ) (l : v < count) (fits : count + sp < length words) where

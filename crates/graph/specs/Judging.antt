@@ -4,10 +4,10 @@ use Prim.Native.Nat.{ℕ, _*_, _≤_}
 use mathlib.Core.List.{List, _++_}
 use mathlib.Core.Path.{_≡_}
 use lib.ListN.{length, drop, replicate}
-use Rattle.bsp.specs.declared.Graph.{Graph}
+use Rattle.route.specs.declared.Graph.{Graph}
 use Rattle.built.specs.Nodes.{nodeSize}
-use Rattle.bsp.specs.Inner.{NodesInRange}
-use Rattle.bsp.specs.Heights.{graphVerdict}
+use Rattle.node.specs.Inner.{NodesInRange}
+use Rattle.route.specs.Heights.{graphVerdict}
 
 -- whole nodes, no more than a word can name, whose children are in range, and four words for each
 pub record Judgeable (nodes : List ℕ) (count : ℕ) (words : List ℕ) : Type 0 where

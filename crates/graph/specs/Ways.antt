@@ -4,10 +4,10 @@ use Prim.Native.Nat.{ℕ, zero, suc}
 use mathlib.Core.Bool.{cond}
 use mathlib.Core.List.{List}
 use lib.Dec.{leb}
-use Rattle.bsp.specs.declared.Choice.{Choice}
-use Rattle.bsp.specs.declared.Choice.the-variants.{Right, Left}
-use Rattle.bsp.specs.Nodes.{nodesOf, childOf, root}
-use Rattle.bsp.specs.Heights.{stands, height}
+use Rattle.node.specs.declared.Choice.{Choice}
+use Rattle.node.specs.declared.Choice.the-variants.{Right, Left}
+use Rattle.node.specs.Nodes.{nodesOf, childOf, root}
+use Rattle.route.specs.Heights.{stands, height}
 
 -- at node `w` the right child if a loop can be reached through it, otherwise the left
 abbrev pub loopChoice : List ℕ → ℕ → Choice

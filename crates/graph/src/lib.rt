@@ -1,14 +1,14 @@
 // Loop, shared child or depth of a node graph, by a search from the root: always to a child not met yet, back where there is
 // none. Each node is put on the path once and taken off it once; then the children of the nodes met are looked at once more.
 // specs/Inner/Looks.antt says what the work words hold.
-use bsp::Choice;
-use bsp::Graph;
+use node::Choice;
+use route::Graph;
 ghost use mathlib.Core.Path.{_≡_};
 ghost use Prim.Native.Nat.{max, _+_, _≤_, _<_};
 ghost use lib.ListN.{length};
-ghost use Rattle.bsp.specs.Heights.{graphVerdict};
+ghost use Rattle.route.specs.Heights.{graphVerdict};
 ghost use Rattle.graph.specs.Judging.{Judgeable, GraphJudged, cleared};
-ghost use Rattle.bsp.specs.Nodes.{subsectorBit};
+ghost use Rattle.node.specs.Nodes.{subsectorBit};
 ghost use Rattle.graph.specs.Inner.Looks.{markOf, lookAt, joined, lookBelow, LooksInside, pushed, begun};
 ghost use Rattle.graph.specs.Inner.Searching.{State, Searchable, Stepped, Explored, Searched};
 
@@ -146,8 +146,8 @@ fn look_below(nodes: &[u8], words: &[u16], node: usize) -> Look
     requires { ⌜ LooksInside (now nodes) (now words) node ⌝ }
     ensures { λ r. ⌜ r ≡ lookBelow (now (nodes .entry)) (now (words .entry)) node ⌝ }
 {
-    let right = look_at(words, bsp::child_of(nodes, node, Choice::Right));
-    let left = look_at(words, bsp::child_of(nodes, node, Choice::Left));
+    let right = look_at(words, node::child_of(nodes, node, Choice::Right));
+    let left = look_at(words, node::child_of(nodes, node, Choice::Left));
     join(right, left)
 }
 
@@ -155,7 +155,7 @@ fn look_at(words: &[u16], child: usize) -> Look
     requires { ⌜ (child < subsectorBit → child < length (now words)) ⌝ }
     ensures { λ r. ⌜ r ≡ lookAt (now (words .entry)) child ⌝ }
 {
-    if bsp::SUBSECTOR_BIT <= child {
+    if node::SUBSECTOR_BIT <= child {
         return Look::Height(0);
     }
     let mark = words[child];

@@ -19,7 +19,7 @@ use Rattle.wad.specs.Entries.{directoryOf, entryName, fileCheck}
 use Rattle.wad.specs.Map.{findMarker, found, markerAnswer}
 use Rattle.name.specs.Names.{sameName, mapNameOk}
 use Rattle.wad.proofs.Search.{findMarker-none, findMarker-found, findMarker-on}
-use Rattle.bsp.specs.Heights.{graphVerdict}
+use Rattle.route.specs.Heights.{graphVerdict}
 use Rattle.level.specs.declared.Verdict.{Verdict}
 use Rattle.level.specs.declared.Verdict.the-variants.{Refused as NotAccepted}
 use Rattle.level.specs.Verdict.{judged, wordsBy, checkAt, nodesAt, verdictBy, wordsAfterBy, Answered, AnsweredAt}

@@ -18,9 +18,9 @@ use Rattle.table.specs.Lumps.{lumpName, LINEDEFS, SSECTORS, NODES, BLOCKMAP}
 use Rattle.linedef.specs.Linedefs.{linedefSize}
 use Rattle.built.specs.Subsectors.{subsectorSize}
 use Rattle.built.specs.Nodes.{nodeSize}
-use Rattle.bsp.specs.Nodes.{nodesOf, nodeOk}
+use Rattle.node.specs.Nodes.{nodesOf, nodeOk}
 use Rattle.graph.specs.Judging.{Judgeable}
-use Rattle.bsp.proofs.Nodes.{nodes-ok, nodes-in-range}
+use Rattle.node.proofs.Nodes.{nodes-ok, nodes-in-range}
 use Rattle.bsp.proofs.Descends.{Passed}
 use Rattle.reference.specs.References.{nodeCheck}
 use Rattle.blockmap.specs.Blockmap.{blockmapCheck}

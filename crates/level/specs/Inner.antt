@@ -2,8 +2,8 @@
 use Prim.Native.Nat.{ℕ, _*_}
 use mathlib.Core.List.{List}
 use mathlib.Core.Path.{_≡_}
-use Rattle.bsp.specs.Nodes.{nodesOf}
-use Rattle.bsp.specs.Heights.{graphVerdict}
+use Rattle.node.specs.Nodes.{nodesOf}
+use Rattle.route.specs.Heights.{graphVerdict}
 use Rattle.graph.specs.Judging.{cleared}
 use Rattle.level.specs.declared.Verdict.{Verdict}
 use Rattle.level.specs.Verdict.{graphAnswer}

@@ -13,10 +13,10 @@ use Rattle.wad.specs.declared.map.Marker.the-variants.{Entry, Refused as NoMark
 use Rattle.wad.specs.Header.{headOf, entryCount}
 use Rattle.wad.specs.Entries.{directoryOf}
 use Rattle.wad.specs.Map.{markerAnswer}
-use Rattle.bsp.specs.declared.Graph.{Graph}
-use Rattle.bsp.specs.declared.Graph.the-variants.{HasLoop, HasShared, HasDepth}
-use Rattle.bsp.specs.Nodes.{nodesOf}
-use Rattle.bsp.specs.Heights.{graphVerdict}
+use Rattle.route.specs.declared.Graph.{Graph}
+use Rattle.route.specs.declared.Graph.the-variants.{HasLoop, HasShared, HasDepth}
+use Rattle.node.specs.Nodes.{nodesOf}
+use Rattle.route.specs.Heights.{graphVerdict}
 use Rattle.graph.specs.Judging.{cleared}
 use Rattle.level.specs.declared.Verdict.{Verdict}
 use Rattle.level.specs.declared.Verdict.the-variants.{Accepted, Refused as NotAccepted}

@@ -14,7 +14,7 @@ use Rattle.refusal.proofs.Checks.{both, andThen-pass, unless-pass}
 use Rattle.table.specs.Lumps.{recordSize, leastCount, mostCount, SSECTORS, NODES}
 use Rattle.built.specs.Subsectors.{subsectorSize}
 use Rattle.built.specs.Nodes.{nodeSize}
-use Rattle.bsp.specs.Nodes.{nodesOf}
+use Rattle.node.specs.Nodes.{nodesOf}
 use Rattle.lump.specs.Lumps.{mapLump, recordCount, eachPlace}
 use Rattle.size.specs.Sizes.{wholeOk, aloneOk, recordCountOk, sizeCheck}
 use Rattle.lump.proofs.Places.{eachPlace-pass, nodes-size}

@@ -18,7 +18,7 @@ use Rattle.record.specs.Sidedefs.{sidedefSize, sidedefOf}
 use Rattle.built.specs.Segs.{segSize, segOf}
 use Rattle.built.specs.Subsectors.{subsectorSize, subsectorOf}
 use Rattle.built.specs.Nodes.{nodeSize}
-use Rattle.bsp.specs.Nodes.{nodesOf, isNode, subsectorBit, childOk, nodeOk}
+use Rattle.node.specs.Nodes.{nodesOf, isNode, subsectorBit, childOk, nodeOk}
 use Rattle.reference.specs.References.{twoSided, linedefOk, leftOk, segOk, subsectorOk}
 use Rattle.reason.specs.RecordFields.{numberAt, leftFields, linedefFields, sidedefFields, segFields, subsectorFields, childAt, nodeFields}
 use Rattle.reason.specs.Reasons.{InOrder, RecordReasoned, RecordsReasoned}

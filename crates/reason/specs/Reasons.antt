@@ -15,7 +15,7 @@ use Rattle.record.specs.Sidedefs.{sidedefSize, sidedefOf}
 use Rattle.built.specs.Segs.{segSize, segOf}
 use Rattle.built.specs.Subsectors.{subsectorSize, subsectorOf}
 use Rattle.built.specs.Nodes.{nodeSize}
-use Rattle.bsp.specs.Nodes.{nodesOf, nodeOk}
+use Rattle.node.specs.Nodes.{nodesOf, nodeOk}
 use Rattle.reference.specs.References.{linedefOk, segOk, subsectorOk}
 use Rattle.reason.specs.RecordFields.{linedefFields, sidedefFields, segFields, subsectorFields, nodeFields}
 

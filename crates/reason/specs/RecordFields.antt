@@ -9,7 +9,7 @@ use Rattle.endian.specs.Unsigned.{u16At}
 use Rattle.range.specs.declared.Field.{Field}
 use Rattle.range.specs.Fields.{fieldAt}
 use Rattle.linedef.specs.Linedefs.{linedefSize, rightPlace, leftPlace, noSidedef}
-use Rattle.bsp.specs.Nodes.{isNode, subsectorBit}
+use Rattle.node.specs.Nodes.{isNode, subsectorBit}
 use Rattle.reference.specs.References.{twoSided, leftOk}
 
 -- a count as 21 leaves it

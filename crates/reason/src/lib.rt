@@ -12,7 +12,7 @@ ghost use Rattle.record.specs.Sidedefs.{sidedefSize};
 ghost use Rattle.built.specs.Segs.{segSize};
 ghost use Rattle.built.specs.Subsectors.{subsectorSize};
 ghost use Rattle.built.specs.Nodes.{nodeSize};
-ghost use Rattle.bsp.specs.Nodes.{nodesOf};
+ghost use Rattle.node.specs.Nodes.{nodesOf};
 ghost use Rattle.reason.specs.RecordFields.{Counted, numberAt, leftFields, linedefFields, sidedefFields, segFields, subsectorFields, childAt, nodeFields};
 use built::Node;
 use built::Seg;
@@ -120,7 +120,7 @@ fn child_at(nodes: &[u8], subsectors: usize, i: usize, at: usize) -> Field
     requires { ⌜ (i < nodesOf (now nodes)) × (nodesOf (now nodes) ≤ 65535) × Counted subsectors × (at + 1 < nodeSize) ⌝ }
     ensures { λ r. ⌜ (r ≡ childAt (recordBytes (now (nodes .entry)) nodeSize i) at (nodesOf (now (nodes .entry))) subsectors) × FieldFits r ⌝ }
 {
-    if reference::field(nodes, Node::SIZE, i, at) < bsp::SUBSECTOR_BIT {
+    if reference::field(nodes, Node::SIZE, i, at) < node::SUBSECTOR_BIT {
         return number_at(nodes, Node::SIZE, i, at, nodes.len() / Node::SIZE);
     }
     field_at(
@@ -128,8 +128,8 @@ fn child_at(nodes: &[u8], subsectors: usize, i: usize, at: usize) -> Field
         Node::SIZE,
         i,
         at,
-        bsp::SUBSECTOR_BIT,
-        bsp::SUBSECTOR_BIT + subsectors - 1,
+        node::SUBSECTOR_BIT,
+        node::SUBSECTOR_BIT + subsectors - 1,
     )
 }
 

@@ -27,10 +27,10 @@ use Rattle.record.specs.Vertexes.{vertexSize}
 use Rattle.record.specs.Sectors.{sectorSize}
 use Rattle.built.specs.Segs.{segSize}
 use Rattle.built.specs.Subsectors.{subsectorSize}
-use Rattle.bsp.specs.declared.Graph.{Graph}
-use Rattle.bsp.specs.declared.Graph.the-variants.{HasLoop, HasShared, HasDepth}
-use Rattle.bsp.specs.Heights.{graphVerdict}
-use Rattle.bsp.proofs.Nodes.{nodes-in-range}
+use Rattle.route.specs.declared.Graph.{Graph}
+use Rattle.route.specs.declared.Graph.the-variants.{HasLoop, HasShared, HasDepth}
+use Rattle.route.specs.Heights.{graphVerdict}
+use Rattle.node.proofs.Nodes.{nodes-in-range}
 use Rattle.reason.proofs.Reasons.{records-reasoned}
 use Rattle.blocklist.specs.Reasons.{SizeTold, WordTold}
 use Rattle.blocklist.proofs.Reasons.{blockmap-reasoned}

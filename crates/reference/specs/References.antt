@@ -15,7 +15,7 @@ use Rattle.linedef.specs.Linedefs.{linedefSize, linedefOf, noSidedef}
 use Rattle.record.specs.Sidedefs.{sidedefSize, sidedefOf}
 use Rattle.built.specs.Segs.{segSize, segOf}
 use Rattle.built.specs.Subsectors.{subsectorSize, subsectorOf}
-use Rattle.bsp.specs.Nodes.{nodeOk}
+use Rattle.node.specs.Nodes.{nodeOk}
 
 -- flag 0x0004
 abbrev pub twoSided : ℕ → Bool

@@ -145,7 +145,7 @@ pub fn judge_nodes(nodes: &[u8], subsectors: usize) -> Check
     ensures { λ r. ⌜ r ≡ each (nodeCheck (now (nodes .entry)) subsectors) (length (now (nodes .entry)) / nodeSize) ⌝ }
 {
     for i in 0..nodes.len() / Node::SIZE {
-        if !bsp::node_ok(nodes, subsectors, i) {
+        if !node::node_ok(nodes, subsectors, i) {
             return Check::Refused(Refusal::NodeReference(i));
         }
     }

@@ -15,12 +15,12 @@ use Rattle.refusal.proofs.Checks.{unless-pass, refused-then, pass-then, andThen
 use Rattle.layout.specs.Buffers.{bufferAfter}
 use Rattle.layout.proofs.LaidOut.{laid-none}
 use Rattle.built.specs.Nodes.{nodeSize}
-use Rattle.bsp.specs.declared.Graph.{Graph}
-use Rattle.bsp.specs.Nodes.{nodesOf, subsectorBit}
-use Rattle.bsp.specs.Heights.{graphVerdict}
-use Rattle.bsp.specs.Reach.{reachedNodes}
-use Rattle.bsp.proofs.Shared.{words-end}
-use Rattle.bsp.proofs.Verdict.{verdict-none}
+use Rattle.route.specs.declared.Graph.{Graph}
+use Rattle.node.specs.Nodes.{nodesOf, subsectorBit}
+use Rattle.route.specs.Heights.{graphVerdict}
+use Rattle.route.specs.Reach.{reachedNodes}
+use Rattle.route.proofs.Shared.{words-end}
+use Rattle.route.proofs.Verdict.{verdict-none}
 use Rattle.renumber.specs.declared.Renumbering.{Renumbering}
 use Rattle.renumber_order.specs.Orders.{manyOk, onceOk, rootOk, childrenOk, renumberCheck}
 use Rattle.renumber.specs.Renumbering.{renumbered, newNode, renumberingOf}

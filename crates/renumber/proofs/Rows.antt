@@ -19,11 +19,11 @@ use Rattle.refusal.specs.declared.Check.the-variants.{Pass}
 use Rattle.field.specs.Records.{recordBytes}
 use Rattle.field.proofs.Records.{length-recordBytes}
 use Rattle.built.specs.Nodes.{nodeSize}
-use Rattle.bsp.specs.declared.Choice.{Choice}
-use Rattle.bsp.specs.declared.Choice.the-variants.{Right, Left}
-use Rattle.bsp.specs.Nodes.{subsectorBit, isNode, childOf}
-use Rattle.bsp.proofs.Heights.{node-or-end}
-use Rattle.bsp.proofs.Repeats.{or-either}
+use Rattle.node.specs.declared.Choice.{Choice}
+use Rattle.node.specs.declared.Choice.the-variants.{Right, Left}
+use Rattle.node.specs.Nodes.{subsectorBit, isNode, childOf}
+use Rattle.route.proofs.Heights.{node-or-end}
+use Rattle.route.proofs.Repeats.{or-either}
 use Rattle.renumber_order.specs.Orders.{indexIn, oldAt}
 use Rattle.renumber.specs.Renumbering.{renamed, newNode, renumbered}
 use Rattle.renumber.specs.Inner.{renamedBy, nodeBy, Writable}

@@ -9,10 +9,10 @@ use Rattle.layout.specs.Buffers.{bufferAfter}
 use Rattle.built.specs.Nodes.{nodeSize}
 use Rattle.wad.specs.declared.map.Marker.the-variants.{Entry, Refused as NoMarker}
 use Rattle.wad.specs.Map.{markerAnswer}
-use Rattle.bsp.specs.declared.Graph.{Graph}
-use Rattle.bsp.specs.declared.Graph.the-variants.{HasLoop, HasShared, HasDepth}
-use Rattle.bsp.specs.Nodes.{nodesOf}
-use Rattle.bsp.specs.Heights.{graphVerdict}
+use Rattle.route.specs.declared.Graph.{Graph}
+use Rattle.route.specs.declared.Graph.the-variants.{HasLoop, HasShared, HasDepth}
+use Rattle.node.specs.Nodes.{nodesOf}
+use Rattle.route.specs.Heights.{graphVerdict}
 use Rattle.graph.specs.Judging.{cleared}
 use Rattle.level.specs.declared.Verdict.{Verdict}
 use Rattle.level.specs.Verdict.{graphAnswer, judged, wordsBy, checkAt, nodesAt, verdictBy, wordsAfterBy}

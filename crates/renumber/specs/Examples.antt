@@ -6,7 +6,7 @@ use lib.ListN.{replicate}
 use Rattle.endian.specs.Unsigned.{u16Bytes}
 use Rattle.refusal.specs.declared.Check.the-variants.{Pass, Refused}
 use Rattle.refusal.specs.declared.Refusal.the-variants.{RenumberNodes, RenumberChild, RenumberRoot, RenumberLength, RenumberRoom}
-use Rattle.bsp.specs.Nodes.{subsectorBit}
+use Rattle.node.specs.Nodes.{subsectorBit}
 use Rattle.renumber_order.specs.Orders.{renumberCheck}
 use Rattle.renumber.specs.Renumbering.{renumbered}
 

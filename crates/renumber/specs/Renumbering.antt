@@ -11,8 +11,8 @@ use Rattle.layout.specs.Rows.{laidOut}
 use Rattle.layout.specs.Buffers.{bufferAfter}
 use Rattle.field.specs.Records.{recordBytes}
 use Rattle.built.specs.Nodes.{nodeSize}
-use Rattle.bsp.specs.declared.Choice.the-variants.{Right, Left}
-use Rattle.bsp.specs.Nodes.{isNode, childOf}
+use Rattle.node.specs.declared.Choice.the-variants.{Right, Left}
+use Rattle.node.specs.Nodes.{isNode, childOf}
 use Rattle.level.specs.declared.Verdict.{Verdict}
 use Rattle.level.specs.declared.Verdict.the-variants.{Accepted, Refused as NotAccepted}
 use Rattle.level.specs.Verdict.{nodesAt, verdict, wordsAfter}

@@ -9,7 +9,7 @@ ghost use Rattle.refusal.specs.declared.Refusal.the-variants.{RenumberLength};
 ghost use Rattle.refusal.specs.Checks.{unless};
 ghost use Rattle.wad.specs.Header.{headOf, entryCount};
 ghost use Rattle.wad.specs.Entries.{fileCheck};
-ghost use Rattle.bsp.specs.Nodes.{nodesOf};
+ghost use Rattle.node.specs.Nodes.{nodesOf};
 ghost use Rattle.graph.specs.Judging.{Judgeable, cleared};
 ghost use Rattle.graph.specs.Inner.Searching.{Searchable};
 ghost use Rattle.renumber.specs.Renumbering.{renumberingOf, Renumbers};

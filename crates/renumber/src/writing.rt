@@ -5,11 +5,11 @@ ghost use Prim.Native.Nat.{_+_, _*_, _≤_, _<_};
 ghost use lib.ListN.{length, take, drop};
 ghost use lib.Seq.{sets};
 ghost use Rattle.built.specs.Nodes.{nodeSize};
-ghost use Rattle.bsp.specs.Nodes.{subsectorBit};
+ghost use Rattle.node.specs.Nodes.{subsectorBit};
 ghost use Rattle.renumber.specs.Renumbering.{renumbered};
 ghost use Rattle.renumber.specs.Inner.{renamedBy, nodeBy, Writable};
 ghost use Rattle.renumber_order.specs.Inner.{ChildrenPlaced};
-use bsp::Choice;
+use node::Choice;
 use built::Node;
 
 // The bytes of a node before its children.
@@ -32,8 +32,8 @@ fn write_node(nodes: &[u8], count: usize, words: &[u16], node: usize, out: &mut 
     ensures { λ _. ⌜ now (out .exit) ≡ sets (now (out .entry)) at (nodeBy (now (nodes .entry)) (now (words .entry)) count node) ⌝ }
 {
     copy(nodes, Node::SIZE * node, out, at);
-    let right = renamed(words, count, bsp::child_of(nodes, node, Choice::Right));
-    let left = renamed(words, count, bsp::child_of(nodes, node, Choice::Left));
+    let right = renamed(words, count, node::child_of(nodes, node, Choice::Right));
+    let left = renamed(words, count, node::child_of(nodes, node, Choice::Left));
     endian::put_u16(out, at + LINE_SIZE, right);
     endian::put_u16(out, at + LINE_SIZE + 2, left);
 }
@@ -53,7 +53,7 @@ fn renamed(words: &[u16], count: usize, child: usize) -> u16
     requires { ⌜ (child < 65536) × (child < subsectorBit → count + child < length (now words)) ⌝ }
     ensures { λ r. ⌜ r ≡ renamedBy (now (words .entry)) count child ⌝ }
 {
-    if bsp::SUBSECTOR_BIT <= child {
+    if node::SUBSECTOR_BIT <= child {
         return child as u16;
     }
     words[count + child]

@@ -12,11 +12,11 @@ use lib.Dec.{ltb, eqb}
 use lib.ListN.{length, getD}
 use Rattle.refusal.proofs.Checks.{both}
 use Rattle.built.specs.Nodes.{nodeSize}
-use Rattle.bsp.specs.declared.Choice.{Choice}
-use Rattle.bsp.specs.declared.Choice.the-variants.{Right, Left}
-use Rattle.bsp.specs.Nodes.{nodesOf, subsectorBit, isNode, childOf}
-use Rattle.bsp.proofs.Heights.{node-or-end}
-use Rattle.bsp.proofs.Nodes.{nodesOf-whole}
+use Rattle.node.specs.declared.Choice.{Choice}
+use Rattle.node.specs.declared.Choice.the-variants.{Right, Left}
+use Rattle.node.specs.Nodes.{nodesOf, subsectorBit, isNode, childOf}
+use Rattle.route.proofs.Heights.{node-or-end}
+use Rattle.node.proofs.Nodes.{nodesOf-whole}
 use Rattle.renumber_order.specs.Orders.{lastOk, oldAt, childFirst, childrenOk}
 use Rattle.renumber_order.specs.Inner.{placed, placeWord, Ordered, ChildrenPlaced, beforeOk, bothBefore}
 use Rattle.renumber_order.proofs.Members.{not-both, not-held, held-both}

@@ -11,7 +11,7 @@ use lib.Dec.{eqb}
 use lib.ListN.{length, set, length-set}
 use lib.Seq.{getD-set-same, getD-set-other}
 use Rattle.refusal.proofs.Checks.{both}
-use Rattle.bsp.specs.Heights.{repeats}
+use Rattle.route.specs.Heights.{repeats}
 use Rattle.graph.specs.Inner.Looks.{markOf}
 use Rattle.renumber_order.specs.Orders.{oldAt}
 use Rattle.renumber_order.specs.Inner.{markedOk, allMarked, noPlace, placed, placeWord, PlacesHeld, freeOk, Filled}

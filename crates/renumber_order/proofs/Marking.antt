@@ -11,13 +11,13 @@ use borrow.Author.Tests.{ltb-true, lt-ltb, eqb-false, ne-eqb, not-true}
 use lib.Dec.{ltb, eqb}
 use lib.ListN.{length}
 use Rattle.refusal.proofs.Checks.{both}
-use Rattle.bsp.specs.declared.Graph.{Graph}
-use Rattle.bsp.specs.Heights.{member, repeats, graphVerdict}
-use Rattle.bsp.specs.Reach.{reachedNodes}
-use Rattle.bsp.proofs.Nodes.{nodesOf-whole}
-use Rattle.bsp.proofs.Repeats.{member-head, member-tail, member-cons}
-use Rattle.bsp.proofs.Reach.{nodes-held}
-use Rattle.bsp.proofs.Verdict.{depth-verdict}
+use Rattle.route.specs.declared.Graph.{Graph}
+use Rattle.route.specs.Heights.{member, repeats, graphVerdict}
+use Rattle.route.specs.Reach.{reachedNodes}
+use Rattle.node.proofs.Nodes.{nodesOf-whole}
+use Rattle.route.proofs.Repeats.{member-head, member-tail, member-cons}
+use Rattle.route.proofs.Reach.{nodes-held}
+use Rattle.route.proofs.Verdict.{depth-verdict}
 use Rattle.graph.specs.Inner.Looks.{markOf}
 use Rattle.graph.specs.Inner.Searching.{Searchable, Explored}
 use Rattle.renumber_order.specs.Orders.{allAmong}

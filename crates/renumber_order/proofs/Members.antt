@@ -10,8 +10,8 @@ use native.Mathlib.Omega.{arith}
 use borrow.Author.Tests.{eqb-true, eqb-false}
 use lib.Dec.{eqb}
 use lib.ListN.{length, getD}
-use Rattle.bsp.specs.Heights.{member, repeats}
-use Rattle.bsp.proofs.Repeats.{or-neither, member-head, member-tail, member-cons, at-member}
+use Rattle.route.specs.Heights.{member, repeats}
+use Rattle.route.proofs.Repeats.{or-neither, member-head, member-tail, member-cons, at-member}
 
 -- ---- tests
 

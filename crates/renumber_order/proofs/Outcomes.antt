@@ -12,10 +12,10 @@ use Rattle.refusal.specs.declared.Check.{Check}
 use Rattle.refusal.specs.declared.Check.the-variants.{Pass, Refused}
 use Rattle.refusal.specs.Checks.{unless}
 use Rattle.refusal.proofs.Checks.{both, refused-then, pass-then}
-use Rattle.bsp.specs.declared.Graph.{Graph}
-use Rattle.bsp.specs.declared.Graph.the-variants.{HasLoop, HasShared, HasDepth}
-use Rattle.bsp.specs.Heights.{repeats, graphVerdict}
-use Rattle.bsp.specs.Reach.{reachedNodes}
+use Rattle.route.specs.declared.Graph.{Graph}
+use Rattle.route.specs.declared.Graph.the-variants.{HasLoop, HasShared, HasDepth}
+use Rattle.route.specs.Heights.{repeats, graphVerdict}
+use Rattle.route.specs.Reach.{reachedNodes}
 use Rattle.graph.specs.Inner.Searching.{Searchable}
 use Rattle.renumber_order.specs.Orders.{lateCheck, manyOk, onceOk, renumberCheck}
 use Rattle.renumber_order.specs.Inner.{markedOk, markedBelow, Marks, allMarked, PlacesHeld, Emptied, Filled, Ordered, OrderJudged, GraphJudged, graphCheck, nodesCheck}

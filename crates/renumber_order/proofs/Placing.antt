@@ -11,7 +11,7 @@ use borrow.Author.Tests.{ltb-true, ltb-false, le-ltb, eqb-true, eqb-false, eq-eq
 use lib.Dec.{ltb, eqb}
 use lib.ListN.{length}
 use Rattle.refusal.proofs.Checks.{both}
-use Rattle.bsp.specs.Heights.{repeats}
+use Rattle.route.specs.Heights.{repeats}
 use Rattle.renumber_order.specs.Orders.{indexIn, oldAt}
 use Rattle.renumber_order.specs.Inner.{markedOk, allMarked, noPlace, placed, placeWord, freeOk}
 use Rattle.renumber_order.proofs.Members.{held-both, once-apart}

@@ -10,14 +10,14 @@ use Rattle.refusal.specs.declared.Check.{Check}
 use Rattle.refusal.specs.declared.Check.the-variants.{Pass, Refused}
 use Rattle.refusal.specs.declared.Refusal.the-variants.{NodeLoop, NodeShared}
 use Rattle.built.specs.Nodes.{nodeSize}
-use Rattle.bsp.specs.declared.Choice.{Choice}
-use Rattle.bsp.specs.declared.Choice.the-variants.{Right, Left}
-use Rattle.bsp.specs.declared.Graph.{Graph}
-use Rattle.bsp.specs.declared.Graph.the-variants.{HasLoop, HasShared, HasDepth}
-use Rattle.bsp.specs.Nodes.{subsectorBit, isNode, childOf}
-use Rattle.bsp.specs.Heights.{member, repeats, graphVerdict}
-use Rattle.bsp.specs.Inner.{NodesInRange}
-use Rattle.bsp.specs.Reach.{reachedNodes}
+use Rattle.node.specs.declared.Choice.{Choice}
+use Rattle.node.specs.declared.Choice.the-variants.{Right, Left}
+use Rattle.route.specs.declared.Graph.{Graph}
+use Rattle.route.specs.declared.Graph.the-variants.{HasLoop, HasShared, HasDepth}
+use Rattle.node.specs.Nodes.{subsectorBit, isNode, childOf}
+use Rattle.route.specs.Heights.{member, repeats, graphVerdict}
+use Rattle.node.specs.Inner.{NodesInRange}
+use Rattle.route.specs.Reach.{reachedNodes}
 use Rattle.graph.specs.Inner.Looks.{markOf}
 use Rattle.renumber_order.specs.Orders.{oldAt, renumberCheck}
 

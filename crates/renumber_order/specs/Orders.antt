@@ -9,11 +9,11 @@ use Rattle.refusal.specs.declared.Check.{Check}
 use Rattle.refusal.specs.declared.Refusal.the-variants.{RenumberNodes, RenumberChild, RenumberRoot, RenumberLength, RenumberRoom}
 use Rattle.refusal.specs.Checks.{unless, _andThen_}
 use Rattle.built.specs.Nodes.{nodeSize}
-use Rattle.bsp.specs.declared.Choice.{Choice}
-use Rattle.bsp.specs.declared.Choice.the-variants.{Right, Left}
-use Rattle.bsp.specs.Nodes.{nodesOf, isNode, childOf, root}
-use Rattle.bsp.specs.Heights.{member, repeats}
-use Rattle.bsp.specs.Reach.{reachedNodes}
+use Rattle.node.specs.declared.Choice.{Choice}
+use Rattle.node.specs.declared.Choice.the-variants.{Right, Left}
+use Rattle.node.specs.Nodes.{nodesOf, isNode, childOf, root}
+use Rattle.route.specs.Heights.{member, repeats}
+use Rattle.route.specs.Reach.{reachedNodes}
 
 -- how many numbers of the list stand before the first `v`; all where it is not there
 abbrev pub indexIn : List ℕ → ℕ → ℕ

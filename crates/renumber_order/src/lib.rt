@@ -5,12 +5,12 @@ ghost use mathlib.Core.Bool.{cond};
 ghost use Prim.Native.Nat.{_+_, _*_, _≤_, _<_};
 ghost use lib.ListN.{length};
 ghost use Rattle.built.specs.Nodes.{nodeSize};
-ghost use Rattle.bsp.specs.Nodes.{subsectorBit, root};
+ghost use Rattle.node.specs.Nodes.{subsectorBit, root};
 ghost use Rattle.graph.specs.Inner.Looks.{markOf};
 ghost use Rattle.graph.specs.Inner.Searching.{Searchable, Explored};
 ghost use Rattle.renumber_order.specs.Orders.{lastOk, childrenOk, lateCheck};
 ghost use Rattle.renumber_order.specs.Inner.{markedBelow, Marks, PlacesHeld, freeOk, Emptied, Filled, Ordered, OrderJudged, GraphJudged, ChildrenPlaced, beforeOk, bothBefore};
-use bsp::Choice;
+use node::Choice;
 use built::Node;
 use graph::Search;
 use refusal::Check;
@@ -164,8 +164,8 @@ fn both_before(nodes: &[u8], count: usize, words: &[u16], i: usize, node: usize)
     requires { ⌜ (nodeSize * node + nodeSize ≤ length (now nodes)) × ChildrenPlaced (now nodes) count (now words) node ⌝ }
     ensures { λ r. ⌜ r ≡ bothBefore (now (nodes .entry)) (now (words .entry)) count i node ⌝ }
 {
-    let right = before_ok(words, count, i, bsp::child_of(nodes, node, Choice::Right));
-    let left = before_ok(words, count, i, bsp::child_of(nodes, node, Choice::Left));
+    let right = before_ok(words, count, i, node::child_of(nodes, node, Choice::Right));
+    let left = before_ok(words, count, i, node::child_of(nodes, node, Choice::Left));
     right & left
 }
 
@@ -173,7 +173,7 @@ fn before_ok(words: &[u16], count: usize, i: usize, child: usize) -> bool
     requires { ⌜ (child < subsectorBit → count + child < length (now words)) ⌝ }
     ensures { λ r. ⌜ r ≡ beforeOk (now (words .entry)) count i child ⌝ }
 {
-    if bsp::SUBSECTOR_BIT <= child {
+    if node::SUBSECTOR_BIT <= child {
         return true;
     }
     (words[count + child] as usize) < i

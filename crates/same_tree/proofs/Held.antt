@@ -11,9 +11,9 @@ use borrow.Author.Tests.{eqb-true, eqb-false, eq-eqb, ne-eqb, not-true}
 use lib.Dec.{eqb}
 use lib.ListN.{length, getD}
 use Rattle.refusal.proofs.Checks.{both}
-use Rattle.bsp.specs.Heights.{member, repeats}
-use Rattle.bsp.specs.Reach.{HoldsOnce}
-use Rattle.bsp.proofs.Repeats.{or-neither, member-head, member-tail, member-cons, at-member}
+use Rattle.route.specs.Heights.{member, repeats}
+use Rattle.route.specs.Reach.{HoldsOnce}
+use Rattle.route.proofs.Repeats.{or-neither, member-head, member-tail, member-cons, at-member}
 use Rattle.renumber_order.specs.Orders.{indexIn, allAmong, lastOk}
 use Rattle.renumber_order.proofs.Members.{not-both, no-more}
 

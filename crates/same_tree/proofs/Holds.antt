@@ -2,10 +2,10 @@
 use Prim.Native.Nat.{ℕ}
 use mathlib.Core.List.{List}
 use mathlib.Core.Path.{_≡_}
-use Rattle.bsp.specs.Reach.{reachedNodes, HoldsOnce}
-use Rattle.bsp.proofs.Nodes.{nodes-in-range}
-use Rattle.bsp.proofs.Reach.{nodes-held}
-use Rattle.bsp.proofs.Verdict.{depth-verdict}
+use Rattle.route.specs.Reach.{reachedNodes, HoldsOnce}
+use Rattle.node.proofs.Nodes.{nodes-in-range}
+use Rattle.route.proofs.Reach.{nodes-held}
+use Rattle.route.proofs.Verdict.{depth-verdict}
 use Rattle.level.specs.declared.Verdict.the-variants.{Accepted}
 use Rattle.level.specs.Verdict.{nodesAt, subsectorsAt, verdict}
 use Rattle.demands.proofs.Demands.{known, known-passed}

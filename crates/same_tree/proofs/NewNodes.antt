@@ -18,10 +18,10 @@ use Rattle.layout.proofs.LaidOut.{length-parts, part-at}
 use Rattle.field.specs.Records.{recordBytes}
 use Rattle.field.proofs.Records.{fits-inside, length-recordBytes}
 use Rattle.built.specs.Nodes.{nodeSize, nodeOf}
-use Rattle.bsp.specs.declared.Choice.{Choice}
-use Rattle.bsp.specs.declared.Choice.the-variants.{Right, Left}
-use Rattle.bsp.specs.Nodes.{nodesOf, subsectorBit, isNode, childOf}
-use Rattle.bsp.specs.Side.{side, sideAt, chosen}
+use Rattle.node.specs.declared.Choice.{Choice}
+use Rattle.node.specs.declared.Choice.the-variants.{Right, Left}
+use Rattle.node.specs.Nodes.{nodesOf, subsectorBit, isNode, childOf}
+use Rattle.side.specs.Side.{side, sideAt, chosen}
 use Rattle.renumber_order.specs.Orders.{indexIn, oldAt}
 use Rattle.renumber.specs.Renumbering.{renamed, newNode, renumbered}
 

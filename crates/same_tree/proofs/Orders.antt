@@ -15,12 +15,12 @@ use Rattle.refusal.specs.declared.Refusal.the-variants.{RenumberNodes, Renumber
 use Rattle.refusal.specs.Checks.{unless, _andThen_}
 use Rattle.refusal.proofs.Checks.{both, unless-pass, andThen-pass}
 use Rattle.built.specs.Nodes.{nodeSize}
-use Rattle.bsp.specs.declared.Choice.{Choice}
-use Rattle.bsp.specs.declared.Choice.the-variants.{Right, Left}
-use Rattle.bsp.specs.Nodes.{nodesOf, subsectorBit, isNode, childOf, root}
-use Rattle.bsp.specs.Heights.{member, repeats}
-use Rattle.bsp.specs.Reach.{reachedNodes, HoldsOnce}
-use Rattle.bsp.proofs.Heights.{node-or-end}
+use Rattle.node.specs.declared.Choice.{Choice}
+use Rattle.node.specs.declared.Choice.the-variants.{Right, Left}
+use Rattle.node.specs.Nodes.{nodesOf, subsectorBit, isNode, childOf, root}
+use Rattle.route.specs.Heights.{member, repeats}
+use Rattle.route.specs.Reach.{reachedNodes, HoldsOnce}
+use Rattle.route.proofs.Heights.{node-or-end}
 use Rattle.renumber_order.specs.Orders.{indexIn, manyOk, onceOk, rootOk, oldAt, childFirst, childrenOk, renumberCheck}
 use Rattle.same_tree.specs.Promises.{ReachedNode, GoodOrder}
 use Rattle.renumber_order.proofs.Checking.{children-none, children-suc, children-each}

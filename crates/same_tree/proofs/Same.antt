@@ -13,22 +13,22 @@ use lib.IntN.{ℤ}
 use lib.ListN.{length, getD, length-append}
 use lib.Seq.{getD-append-seam}
 use Rattle.built.specs.Nodes.{nodeSize}
-use Rattle.bsp.specs.declared.Choice.{Choice}
-use Rattle.bsp.specs.declared.Choice.the-variants.{Right, Left}
+use Rattle.node.specs.declared.Choice.{Choice}
+use Rattle.node.specs.declared.Choice.the-variants.{Right, Left}
 use Rattle.bsp.specs.declared.Descent.the-variants.{Found}
-use Rattle.bsp.specs.declared.Graph.{Graph}
-use Rattle.bsp.specs.Nodes.{nodesOf, subsectorBit, childOf, root, childOk, nodeOk}
-use Rattle.bsp.specs.Routes.{Follow, Reached, Loop, Shared, Route, Depth}
-use Rattle.bsp.specs.Heights.{member, repeats, graphVerdict}
-use Rattle.bsp.specs.Side.{chosen, sideAt}
+use Rattle.route.specs.declared.Graph.{Graph}
+use Rattle.node.specs.Nodes.{nodesOf, subsectorBit, childOf, root, childOk, nodeOk}
+use Rattle.route.specs.Routes.{Follow, Reached, Loop, Shared, Route, Depth}
+use Rattle.route.specs.Heights.{member, repeats, graphVerdict}
+use Rattle.side.specs.Side.{chosen, sideAt}
 use Rattle.bsp.specs.Walks.{Walk, descent}
-use Rattle.bsp.proofs.Heights.{node-or-end}
-use Rattle.bsp.proofs.Nodes.{ChildrenInRange, nodes-in-range, root-last, root-node}
-use Rattle.bsp.proofs.Places.{reached-child}
-use Rattle.bsp.proofs.Reach.{at-most, in-range}
-use Rattle.bsp.proofs.Repeats.{at-member}
-use Rattle.bsp.proofs.Shared.{shared-repeats}
-use Rattle.bsp.proofs.Verdict.{depth-verdict, verdict-holds}
+use Rattle.route.proofs.Heights.{node-or-end}
+use Rattle.node.proofs.Nodes.{ChildrenInRange, nodes-in-range, root-last, root-node}
+use Rattle.route.proofs.Places.{reached-child}
+use Rattle.route.proofs.Reach.{at-most, in-range}
+use Rattle.route.proofs.Repeats.{at-member}
+use Rattle.route.proofs.Shared.{shared-repeats}
+use Rattle.route.proofs.Verdict.{depth-verdict, verdict-holds}
 use Rattle.bsp.proofs.Descends.{Passed, descent-holds}
 use Rattle.renumber_order.specs.Orders.{indexIn, oldAt}
 use Rattle.renumber.specs.Renumbering.{renamed, renumbered}

@@ -8,12 +8,12 @@ use lib.IntN.{ℤ}
 use lib.ListN.{length}
 use Rattle.refusal.specs.declared.Check.the-variants.{Pass}
 use Rattle.built.specs.Nodes.{nodeSize}
-use Rattle.bsp.specs.declared.Choice.{Choice}
-use Rattle.bsp.specs.declared.Graph.{Graph}
-use Rattle.bsp.specs.Nodes.{nodesOf, subsectorBit, childOf, root, nodeOk}
-use Rattle.bsp.specs.Routes.{Reached}
-use Rattle.bsp.specs.Heights.{graphVerdict}
-use Rattle.bsp.specs.Reach.{HoldsOnce}
+use Rattle.node.specs.declared.Choice.{Choice}
+use Rattle.route.specs.declared.Graph.{Graph}
+use Rattle.node.specs.Nodes.{nodesOf, subsectorBit, childOf, root, nodeOk}
+use Rattle.route.specs.Routes.{Reached}
+use Rattle.route.specs.Heights.{graphVerdict}
+use Rattle.route.specs.Reach.{HoldsOnce}
 use Rattle.bsp.specs.Walks.{Walk, descent}
 use Rattle.level.specs.declared.Verdict.the-variants.{Accepted}
 use Rattle.level.specs.Verdict.{nodesAt, subsectorsAt, verdict}

@@ -10,10 +10,10 @@ use native.Mathlib.Omega.{arith}
 use borrow.Author.Tests.{eqb-true, eqb-false, ne-eqb}
 use lib.Dec.{eqb}
 use lib.ListN.{length, getD, replicate, length-replicate, getD-replicate}
-use Rattle.bsp.specs.declared.Choice.the-variants.{Right, Left}
-use Rattle.bsp.specs.Nodes.{childOf}
-use Rattle.bsp.specs.Heights.{member, repeats}
-use Rattle.bsp.proofs.Repeats.{repeats-head, repeats-tail}
+use Rattle.node.specs.declared.Choice.the-variants.{Right, Left}
+use Rattle.node.specs.Nodes.{childOf}
+use Rattle.route.specs.Heights.{member, repeats}
+use Rattle.route.proofs.Repeats.{repeats-head, repeats-tail}
 use Rattle.sharing.specs.Children.{childWords}
 use Rattle.sharing.specs.Inner.{isNoted, withNote, Seen}
 use Rattle.sharing.proofs.Bits.{note-more, length-note, bit-zero}

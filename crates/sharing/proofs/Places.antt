@@ -12,11 +12,11 @@ use native.Mathlib.Omega.{arith}
 use borrow.Author.Tests.{eqb-true, eqb-false}
 use lib.Dec.{eqb}
 use lib.ListN.{getD}
-use Rattle.bsp.specs.declared.Choice.{Choice}
-use Rattle.bsp.specs.declared.Choice.the-variants.{Right, Left}
-use Rattle.bsp.specs.Nodes.{childOf}
-use Rattle.bsp.specs.Heights.{member, repeats}
-use Rattle.bsp.proofs.Repeats.{or-either, member-head, member-tail, member-cons, repeats-head, repeats-tail}
+use Rattle.node.specs.declared.Choice.{Choice}
+use Rattle.node.specs.declared.Choice.the-variants.{Right, Left}
+use Rattle.node.specs.Nodes.{childOf}
+use Rattle.route.specs.Heights.{member, repeats}
+use Rattle.route.proofs.Repeats.{or-either, member-head, member-tail, member-cons, repeats-head, repeats-tail}
 use Rattle.sharing.specs.Children.{childWords}
 use Rattle.sharing.proofs.Children.{children-none, children-skip, children-more, repeats-kept}
 

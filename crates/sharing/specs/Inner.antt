@@ -6,7 +6,7 @@ use mathlib.Core.Path.{_≡_}
 use lib.Bits.{bitOr}
 use lib.Dec.{eqb}
 use lib.ListN.{length, getD, set}
-use Rattle.bsp.specs.Heights.{member, repeats}
+use Rattle.route.specs.Heights.{member, repeats}
 use Rattle.sharing.specs.Children.{childWords}
 
 -- bit `i` of a byte is 1

@@ -1,9 +1,9 @@
 // Whether two of a graph's marked nodes, or the two choices at one, lead to the same child (W-202). One look at each child.
-use bsp::Choice;
+use node::Choice;
 ghost use mathlib.Core.Path.{_≡_};
 ghost use Prim.Native.Nat.{_+_, _*_, _<_, _≤_};
 ghost use lib.ListN.{length};
-ghost use Rattle.bsp.specs.Heights.{repeats};
+ghost use Rattle.route.specs.Heights.{repeats};
 ghost use Rattle.built.specs.Nodes.{nodeSize};
 ghost use Rattle.sharing.specs.Children.{childWords};
 ghost use Rattle.sharing.specs.Inner.{bitOf, withBit, isNoted, withNote, Seen, Met};
@@ -42,10 +42,10 @@ fn meets_again(nodes: &[u8], marks: &[u16], seen: &mut [u8], node: usize) -> boo
     if marks[node] == 0 {
         return false;
     }
-    if visit(seen, bsp::child_of(nodes, node, Choice::Right)) {
+    if visit(seen, node::child_of(nodes, node, Choice::Right)) {
         return true;
     }
-    if visit(seen, bsp::child_of(nodes, node, Choice::Left)) {
+    if visit(seen, node::child_of(nodes, node, Choice::Left)) {
         return true;
     }
     false

@@ -8,9 +8,9 @@ use native.Mathlib.Omega.{arith}
 use borrow.Author.Tests.{le-leb, lt-leb}
 use lib.ListN.{length, set, drop, getD, length-map}
 use lib.Seq.{drop-cons, set-append-seam}
-use Rattle.bsp.specs.declared.Choice.{Choice}
-use Rattle.bsp.specs.Nodes.{childOf, root}
-use Rattle.bsp.proofs.Nodes.{nodesOf-whole, root-last}
+use Rattle.node.specs.declared.Choice.{Choice}
+use Rattle.node.specs.Nodes.{childOf, root}
+use Rattle.node.proofs.Nodes.{nodesOf-whole, root-last}
 use Rattle.graph.specs.Ways.{wordAfter}
 use Rattle.graph.specs.Inner.Looks.{LooksInside}
 use Rattle.graph.proofs.Ways.{after-none, after-more}

@@ -8,15 +8,15 @@ use native.Mathlib.Nat.{not-suc-le-zero, eq-or-lt-of-le}
 use native.Mathlib.Omega.{arith}
 use borrow.Author.Tests.{le-leb}
 use lib.ListN.{length}
-use Rattle.bsp.specs.declared.Choice.{Choice}
-use Rattle.bsp.specs.declared.Graph.{Graph}
-use Rattle.bsp.specs.Nodes.{nodesOf, subsectorBit, childOf}
-use Rattle.bsp.specs.Routes.{Follow, Reached}
-use Rattle.bsp.specs.Heights.{member, graphVerdict}
-use Rattle.bsp.proofs.Nodes.{nodesOf-whole}
-use Rattle.bsp.proofs.Places.{reached-child}
-use Rattle.bsp.proofs.Verdict.{verdict-none}
-use Rattle.bsp.proofs.Repeats.{member-head, member-tail, member-cons}
+use Rattle.node.specs.declared.Choice.{Choice}
+use Rattle.route.specs.declared.Graph.{Graph}
+use Rattle.node.specs.Nodes.{nodesOf, subsectorBit, childOf}
+use Rattle.route.specs.Routes.{Follow, Reached}
+use Rattle.route.specs.Heights.{member, graphVerdict}
+use Rattle.node.proofs.Nodes.{nodesOf-whole}
+use Rattle.route.proofs.Places.{reached-child}
+use Rattle.route.proofs.Verdict.{verdict-none}
+use Rattle.route.proofs.Repeats.{member-head, member-tail, member-cons}
 use Rattle.graph.specs.Ways.{loopChoice, deepChoice, wordAfter}
 use Rattle.graph.specs.Inner.Looks.{pathChoice, heightChoice}
 use Rattle.graph.specs.Inner.Searching.{Searchable, LoopMet, Explored}

@@ -9,17 +9,17 @@ use mathlib.Core.Path.{_≡_, refl, sym, ap, _∙_}
 use native.Mathlib.Omega.{arith}
 use borrow.Author.Tests.{ltb-false}
 use lib.ListN.{length}
-use Rattle.bsp.specs.declared.Choice.{Choice}
-use Rattle.bsp.specs.declared.Choice.the-variants.{Right, Left}
-use Rattle.bsp.specs.Nodes.{nodesOf, subsectorBit, childOf, root}
-use Rattle.bsp.specs.Routes.{Follow}
-use Rattle.bsp.specs.Heights.{stands, member, repeats}
-use Rattle.bsp.specs.Inner.{NodesInRange}
-use Rattle.bsp.proofs.Nodes.{root-node}
-use Rattle.bsp.proofs.Heights.{node-or-end, stands-not, stands-child, stands-end, stands-none}
-use Rattle.bsp.proofs.Repeats.{member-head, member-tail, member-cons}
-use Rattle.bsp.proofs.Reach.{at-most}
-use Rattle.bsp.proofs.Verdict.{loop-on, verdict-holds}
+use Rattle.node.specs.declared.Choice.{Choice}
+use Rattle.node.specs.declared.Choice.the-variants.{Right, Left}
+use Rattle.node.specs.Nodes.{nodesOf, subsectorBit, childOf, root}
+use Rattle.route.specs.Routes.{Follow}
+use Rattle.route.specs.Heights.{stands, member, repeats}
+use Rattle.node.specs.Inner.{NodesInRange}
+use Rattle.node.proofs.Nodes.{root-node}
+use Rattle.route.proofs.Heights.{node-or-end, stands-not, stands-child, stands-end, stands-none}
+use Rattle.route.proofs.Repeats.{member-head, member-tail, member-cons}
+use Rattle.route.proofs.Reach.{at-most}
+use Rattle.route.proofs.Verdict.{loop-on, verdict-holds}
 use Rattle.graph.specs.Ways.{loopChoice}
 use Rattle.graph.proofs.Ways.{loop-right, loop-left}
 use Rattle.way.specs.Ways.{loopFrom, loopWay}

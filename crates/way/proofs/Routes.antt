@@ -10,13 +10,13 @@ use native.Mathlib.Omega.{arith}
 use borrow.Author.Tests.{ltb-false, lt-ltb, le-ltb, leb-true, leb-false}
 use lib.Dec.{leb}
 use lib.ListN.{length}
-use Rattle.bsp.specs.declared.Choice.{Choice}
-use Rattle.bsp.specs.declared.Choice.the-variants.{Right, Left}
-use Rattle.bsp.specs.Nodes.{nodesOf, subsectorBit, isNode, childOf, root}
-use Rattle.bsp.specs.Routes.{Follow}
-use Rattle.bsp.specs.Heights.{stands, height}
-use Rattle.bsp.proofs.Heights.{node-or-end, stands-none, stands-child, height-node, height-end}
-use Rattle.bsp.proofs.Verdict.{depth-verdict}
+use Rattle.node.specs.declared.Choice.{Choice}
+use Rattle.node.specs.declared.Choice.the-variants.{Right, Left}
+use Rattle.node.specs.Nodes.{nodesOf, subsectorBit, isNode, childOf, root}
+use Rattle.route.specs.Routes.{Follow}
+use Rattle.route.specs.Heights.{stands, height}
+use Rattle.route.proofs.Heights.{node-or-end, stands-none, stands-child, height-node, height-end}
+use Rattle.route.proofs.Verdict.{depth-verdict}
 use Rattle.graph.specs.Ways.{deepChoice, depthBelow}
 use Rattle.way.specs.Ways.{routeFrom, routeOf}
 use Rattle.way.specs.Promises.{endOf, ByRule, RouteHolds}

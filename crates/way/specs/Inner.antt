@@ -5,8 +5,8 @@ use mathlib.Core.List.{List, [], _∷_}
 use mathlib.Core.Path.{_≡_}
 use lib.ListN.{length}
 use Rattle.built.specs.Nodes.{nodeSize}
-use Rattle.bsp.specs.declared.Choice.{Choice}
-use Rattle.bsp.specs.Inner.{NodesInRange}
+use Rattle.node.specs.declared.Choice.{Choice}
+use Rattle.node.specs.Inner.{NodesInRange}
 use Rattle.graph.specs.Ways.{wordAfter}
 use Rattle.graph.specs.Inner.Looks.{pathChoice, heightChoice}
 use Rattle.way.specs.Ways.{bytesOf}

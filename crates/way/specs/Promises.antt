@@ -5,12 +5,12 @@ use mathlib.Core.Bool.{true, false}
 use mathlib.Core.List.{List, [], _∷_, map}
 use mathlib.Core.Path.{_≡_}
 use lib.ListN.{length as size}
-use Rattle.bsp.specs.declared.Choice.{Choice}
-use Rattle.bsp.specs.declared.Graph.{Graph}
-use Rattle.bsp.specs.Nodes.{nodesOf, childOf, root}
-use Rattle.bsp.specs.Routes.{Leads, Route}
-use Rattle.bsp.specs.Heights.{member, repeats, graphVerdict}
-use Rattle.bsp.specs.Inner.{NodesInRange}
+use Rattle.node.specs.declared.Choice.{Choice}
+use Rattle.route.specs.declared.Graph.{Graph}
+use Rattle.node.specs.Nodes.{nodesOf, childOf, root}
+use Rattle.route.specs.Routes.{Leads, Route}
+use Rattle.route.specs.Heights.{member, repeats, graphVerdict}
+use Rattle.node.specs.Inner.{NodesInRange}
 use Rattle.graph.specs.Ways.{loopChoice, deepChoice}
 use Rattle.way.specs.declared.Told.{Told}
 use Rattle.way.specs.Ways.{loopWay, routeOf, wayOf, bytesOf, printed}

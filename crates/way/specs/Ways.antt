@@ -4,11 +4,11 @@ use mathlib.Core.Bool.{cond}
 use mathlib.Core.List.{List, [], _∷_, _++_, map}
 use lib.Dec.{leb}
 use lib.ListN.{length, drop}
-use Rattle.bsp.specs.declared.Choice.{Choice}
-use Rattle.bsp.specs.declared.Choice.the-variants.{Right, Left}
-use Rattle.bsp.specs.declared.Graph.{Graph}
-use Rattle.bsp.specs.Nodes.{nodesOf, isNode, childOf, root}
-use Rattle.bsp.specs.Heights.{member}
+use Rattle.node.specs.declared.Choice.{Choice}
+use Rattle.node.specs.declared.Choice.the-variants.{Right, Left}
+use Rattle.route.specs.declared.Graph.{Graph}
+use Rattle.node.specs.Nodes.{nodesOf, isNode, childOf, root}
+use Rattle.route.specs.Heights.{member}
 use Rattle.graph.specs.Ways.{loopChoice, deepChoice}
 
 -- from the word `w` on, with the nodes `met` so far: right if a loop can be reached through the right child, otherwise left,

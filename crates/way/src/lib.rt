@@ -1,15 +1,15 @@
 // Why a node graph is judged as it is (W-211): the choices that lead into a loop, or a route as long as the depth. The search that
 // judges the graph leaves both in its marks; they are printed before the words are cleared.
-use bsp::Choice;
-use bsp::Graph;
+use node::Choice;
+use route::Graph;
 use graph::Search;
 ghost use mathlib.Core.Path.{_≡_};
 ghost use mathlib.Core.Bool.{cond};
 ghost use mathlib.Core.List.{_++_};
 ghost use Prim.Native.Nat.{_+_, _*_, _<_, _≤_};
 ghost use lib.ListN.{length, drop};
-ghost use Rattle.bsp.specs.declared.Choice.the-variants.{Right, Left};
-ghost use Rattle.bsp.specs.Nodes.{subsectorBit};
+ghost use Rattle.node.specs.declared.Choice.the-variants.{Right, Left};
+ghost use Rattle.node.specs.Nodes.{subsectorBit};
 ghost use Rattle.graph.specs.Judging.{Judgeable, cleared};
 ghost use Rattle.graph.specs.Inner.Looks.{markOf, onPathOk, heightBy, LooksInside};
 ghost use Rattle.graph.specs.Inner.Searching.{Searchable, LoopMet, Explored};
@@ -101,7 +101,7 @@ fn print(nodes: &[u8], count: usize, words: &[u16], looping: bool, n: usize, out
     for j in 0..n {
         let right = goes_right(nodes, words, looping, node);
         out[j] = byte_if(right);
-        node = bsp::child_of(nodes, node, choice_if(right));
+        node = node::child_of(nodes, node, choice_if(right));
     }
 }
 
@@ -122,11 +122,11 @@ fn goes_right(nodes: &[u8], words: &[u16], looping: bool, node: usize) -> bool
     requires { ⌜ LooksInside (now nodes) (now words) node ⌝ }
     ensures { λ r. ⌜ cond r Right Left ≡ markChoice (now (nodes .entry)) (markOf (now (words .entry))) looping node ⌝ }
 {
-    let right = bsp::child_of(nodes, node, Choice::Right);
+    let right = node::child_of(nodes, node, Choice::Right);
     if looping {
         return on_path(words, right);
     }
-    let left = bsp::child_of(nodes, node, Choice::Left);
+    let left = node::child_of(nodes, node, Choice::Left);
     height_at(words, left) <= height_at(words, right)
 }
 
@@ -134,7 +134,7 @@ fn on_path(words: &[u16], child: usize) -> bool
     requires { ⌜ (child < subsectorBit → child < length (now words)) ⌝ }
     ensures { λ r. ⌜ r ≡ onPathOk (markOf (now (words .entry))) child ⌝ }
 {
-    if bsp::SUBSECTOR_BIT <= child {
+    if node::SUBSECTOR_BIT <= child {
         return false;
     }
     words[child] == graph::ON_PATH
@@ -144,7 +144,7 @@ fn height_at(words: &[u16], child: usize) -> u16
     requires { ⌜ (child < subsectorBit → child < length (now words)) ⌝ }
     ensures { λ r. ⌜ r ≡ heightBy (markOf (now (words .entry))) child ⌝ }
 {
-    if bsp::SUBSECTOR_BIT <= child {
+    if node::SUBSECTOR_BIT <= child {
         return 0;
     }
     words[child]

@@ -7,8 +7,8 @@ use lib.ListN.{length}
 use Rattle.refusal.specs.declared.Refusal.{Refusal}
 use Rattle.refusal.specs.declared.Check.the-variants.{Refused}
 use Rattle.wad.specs.Header.{mostBytes}
-use Rattle.bsp.specs.Nodes.{nodesOf}
-use Rattle.bsp.specs.Heights.{graphVerdict}
+use Rattle.node.specs.Nodes.{nodesOf}
+use Rattle.route.specs.Heights.{graphVerdict}
 use Rattle.graph.specs.Judging.{cleared}
 use Rattle.lump.specs.Lumps.{mapLumps}
 use Rattle.level.specs.declared.Verdict.the-variants.{Refused as NotAccepted}

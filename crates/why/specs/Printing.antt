@@ -16,7 +16,7 @@ use Rattle.wad.specs.declared.map.Marker.the-variants.{Entry, Refused as NoMark
 use Rattle.wad.specs.Header.{headOf, entryCount}
 use Rattle.wad.specs.Entries.{directoryOf}
 use Rattle.wad.specs.Map.{markerAnswer}
-use Rattle.bsp.specs.Heights.{graphVerdict}
+use Rattle.route.specs.Heights.{graphVerdict}
 use Rattle.lump.specs.Lumps.{mapLumps}
 use Rattle.run.specs.Games.{gameAt}
 use Rattle.level.specs.declared.Verdict.{Verdict}

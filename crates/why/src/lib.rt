@@ -6,7 +6,7 @@ ghost use lib.ListN.{length};
 ghost use Rattle.refusal.specs.declared.Check.the-variants.{Pass};
 ghost use Rattle.wad.specs.Header.{headOf, entryCount};
 ghost use Rattle.wad.specs.Entries.{fileCheck};
-ghost use Rattle.bsp.specs.Nodes.{nodesOf};
+ghost use Rattle.node.specs.Nodes.{nodesOf};
 ghost use Rattle.graph.specs.Judging.{Judgeable};
 ghost use Rattle.lump.specs.Lumps.{mapLumps};
 ghost use Rattle.run.specs.Games.{gameAt};

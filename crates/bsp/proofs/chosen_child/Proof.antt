@@ -3,9 +3,9 @@ use mathlib.Core.Path.{_≡_, sym, ap, _∙_}
 use denote.Ref.{now}
 use mir.Syntax.{w16}
 use mir.ValLaws.{toZ-ofZ}
-use Rattle.bsp.specs.Nodes.{childOf}
-use Rattle.bsp.specs.Side.{chosen, sideAt}
-use Rattle.bsp.specs.declared.Choice.{Choice}
+use Rattle.node.specs.Nodes.{childOf}
+use Rattle.side.specs.Side.{chosen, sideAt}
+use Rattle.node.specs.declared.Choice.{Choice}
 use borrow.Author.Needs.{needs}
 use Rattle.bsp.proofs.chosen_child.Statement.{statement}
 use Rattle.bsp.proofs.chosen_child.Tie as tie

@@ -5,7 +5,7 @@ use borrow.Author.Tests.{not-true, not-false}
 use denote.Ref.{now}
 use mir.Syntax.{w16}
 use mir.ValLaws.{toZ-ofZ}
-use Rattle.bsp.specs.Nodes.{nodesOf, root}
+use Rattle.node.specs.Nodes.{nodesOf, root}
 use Rattle.bsp.specs.Walks.{descentFrom, nodesOk}
 use Rattle.bsp.proofs.Walks.{nodesOk-whole, descent-nodes, descent-subsectors, descent-root}
 use borrow.Author.Needs.{needs}

@@ -10,10 +10,10 @@ use mir.Val.{toZ, ofZ}
 use mir.ValLaws.{toZ-ofZ}
 use denote.Ref.{now}
 use borrow.Author.Tests.{not-true, not-false}
-use Rattle.bsp.specs.Nodes.{nodesOf, subsectorBit, root, childOk}
-use Rattle.bsp.specs.Side.{chosen}
+use Rattle.node.specs.Nodes.{nodesOf, subsectorBit, root, childOk}
+use Rattle.side.specs.Side.{chosen}
 use Rattle.bsp.specs.Walks.{descentFrom}
-use Rattle.bsp.proofs.Nodes.{root-node, nodesOf-whole, childOk-node}
+use Rattle.node.proofs.Nodes.{root-node, nodesOf-whole, childOk-node}
 use Rattle.bsp.proofs.Walks.{descent-end, turn-loop, turn-child, turn-goes}
 use Rattle.bsp.proofs.descend_from_root.Statement.{statement}
 use Rattle.bsp.proofs.descend_from_root.Tie as tie

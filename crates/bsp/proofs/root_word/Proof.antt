@@ -1,7 +1,7 @@
 -- `bsp::root_word` meets its contract: the last node, where there is one. Assumes nothing.
 use mathlib.Core.Path.{sym}
 use native.Mathlib.Omega.{arith}
-use Rattle.bsp.proofs.Nodes.{root-last}
+use Rattle.node.proofs.Nodes.{root-last}
 use borrow.Author.Needs.{needs}
 use Rattle.bsp.proofs.root_word.Statement.{statement}
 use Rattle.bsp.proofs.root_word.Tie as tie

@@ -14,9 +14,9 @@ use lib.ListN.{set}
 use mir.Syntax.{w16}
 use mir.ValLaws.{toZ-ofZ}
 use Rattle.refusal.specs.declared.Refusal.{Refusal}
-use Rattle.bsp.specs.Nodes.{nodesOf, childOf, childOk}
-use Rattle.bsp.specs.Side.{sideAt}
-use Rattle.bsp.proofs.Nodes.{childOk-node, nodesOf-whole}
+use Rattle.node.specs.Nodes.{nodesOf, childOf, childOk}
+use Rattle.side.specs.Side.{sideAt}
+use Rattle.node.proofs.Nodes.{childOk-node, nodesOf-whole}
 use Rattle.draw.specs.declared.Order.{Order}
 use Rattle.draw.specs.declared.Order.the-variants.{Refused}
 use Rattle.draw.specs.Lists.{Listing, other, joined, nodeOrder, childOrder}
@@ -29,9 +29,9 @@ use Rattle.draw.proofs.+walk_child+walk_node.Lts-walk_child as walk-chi
 use Rattle.draw.proofs.walk_node.Reads as walk-node
 use Rattle.draw.proofs.walk_node.Kinds as walk-node-kinds
 use Rattle.draw.proofs.+walk_child+walk_node.Lts-walk_node as walk-node-lts
-use Rattle.bsp.proofs.child_of.Reads as child-of
-use Rattle.bsp.proofs.child_ok.Reads as child-ok
-use Rattle.bsp.proofs.side.side_at.Reads as side-at
+use Rattle.node.proofs.child_of.Reads as child-of
+use Rattle.node.proofs.child_ok.Reads as child-ok
+use Rattle.side.proofs.side_at.Reads as side-at
 use Rattle.draw.proofs.other.Reads as other-choice
 use Rattle.draw.proofs.+walk_child+walk_node.{statement}
 use Rattle.draw.proofs.+walk_child+walk_node.Tie.{close}

@@ -8,7 +8,7 @@ use lib.ListN.{take}
 use lib.Seq.{length-take-le}
 use mir.Syntax.{w16}
 use mir.ValLaws.{toZ-ofZ}
-use Rattle.bsp.proofs.Nodes.{nodesOf-whole}
+use Rattle.node.proofs.Nodes.{nodesOf-whole}
 use Rattle.graph.specs.Judging.{cleared}
 use Rattle.graph.proofs.Words.{cleared-front}
 use Rattle.draw.specs.declared.Order.{Order}

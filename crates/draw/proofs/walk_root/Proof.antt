@@ -7,8 +7,8 @@ use denote.Ref.{now}
 use lib.ListN.{length}
 use mir.Syntax.{w16}
 use mir.ValLaws.{toZ-ofZ}
-use Rattle.bsp.specs.Nodes.{nodesOf}
-use Rattle.bsp.proofs.Nodes.{nodesOf-whole}
+use Rattle.node.specs.Nodes.{nodesOf}
+use Rattle.node.proofs.Nodes.{nodesOf-whole}
 use Rattle.draw.specs.Lists.{mostPassed, nodeOrder}
 use Rattle.draw.proofs.Lists.{root-none, root-some}
 use Rattle.draw.proofs.Words.{walked-by}

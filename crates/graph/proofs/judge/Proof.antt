@@ -4,9 +4,9 @@ use mathlib.Core.Path.{_≡_, sym, _∙_}
 use native.Mathlib.Omega.{arith}
 use denote.Ref.{now}
 use lib.Seq.{length-take-le}
-use Rattle.bsp.specs.Nodes.{nodesOf}
-use Rattle.bsp.proofs.Nodes.{nodesOf-whole}
-use Rattle.bsp.proofs.Verdict.{verdict-none}
+use Rattle.node.specs.Nodes.{nodesOf}
+use Rattle.node.proofs.Nodes.{nodesOf-whole}
+use Rattle.route.proofs.Verdict.{verdict-none}
 use Rattle.graph.proofs.Words.{cleared-front}
 use borrow.Author.Needs.{needs}
 use Rattle.graph.proofs.judge.Statement.{statement}

@@ -1,5 +1,5 @@
 -- `graph::look_below` meets its contract, from the looks at the two children. Assumes nothing.
-use Rattle.bsp.specs.declared.Choice.the-variants.{Right, Left}
+use Rattle.node.specs.declared.Choice.the-variants.{Right, Left}
 use borrow.Author.Needs.{needs}
 use Rattle.graph.proofs.look_below.Statement.{statement}
 use Rattle.graph.proofs.look_below.Tie as tie

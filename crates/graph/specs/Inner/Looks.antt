@@ -7,11 +7,11 @@ use mathlib.Core.List.{List}
 use lib.Dec.{eqb, leb}
 use lib.ListN.{length, getD, set}
 use Rattle.built.specs.Nodes.{nodeSize}
-use Rattle.bsp.specs.declared.Choice.{Choice}
-use Rattle.bsp.specs.declared.Choice.the-variants.{Right, Left}
+use Rattle.node.specs.declared.Choice.{Choice}
+use Rattle.node.specs.declared.Choice.the-variants.{Right, Left}
 use Rattle.graph.specs.declared.Look.{Look}
 use Rattle.graph.specs.declared.Look.the-variants.{New, OnPath, Height}
-use Rattle.bsp.specs.Nodes.{subsectorBit, isNode, childOf}
+use Rattle.node.specs.Nodes.{subsectorBit, isNode, childOf}
 use Rattle.graph.specs.Judging.{cleared}
 
 -- the mark of a node on the path

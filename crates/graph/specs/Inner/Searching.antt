@@ -5,18 +5,18 @@ use mathlib.Core.List.{List}
 use mathlib.Core.Path.{_≡_}
 use lib.Dec.{eqb}
 use lib.ListN.{length}
-use Rattle.bsp.specs.declared.Choice.{Choice}
-use Rattle.bsp.specs.declared.Choice.the-variants.{Right, Left}
-use Rattle.bsp.specs.declared.Graph.{Graph}
+use Rattle.node.specs.declared.Choice.{Choice}
+use Rattle.node.specs.declared.Choice.the-variants.{Right, Left}
+use Rattle.route.specs.declared.Graph.{Graph}
 use Rattle.graph.specs.declared.Step.{Step}
 use Rattle.graph.specs.declared.Step.the-variants.{Looped, Path}
 use Rattle.graph.specs.declared.Search.{Search}
 use Rattle.graph.specs.declared.Search.the-variants.{Looping, Done}
 use Rattle.built.specs.Nodes.{nodeSize}
-use Rattle.bsp.specs.Nodes.{nodesOf, subsectorBit, childOf, root}
-use Rattle.bsp.specs.Routes.{Reached}
-use Rattle.bsp.specs.Inner.{NodesInRange}
-use Rattle.bsp.specs.Heights.{stands, height, graphVerdict}
+use Rattle.node.specs.Nodes.{nodesOf, subsectorBit, childOf, root}
+use Rattle.route.specs.Routes.{Reached}
+use Rattle.node.specs.Inner.{NodesInRange}
+use Rattle.route.specs.Heights.{stands, height, graphVerdict}
 use Rattle.graph.specs.Ways.{loopChoice, deepChoice, wordAfter}
 use Rattle.graph.specs.Inner.Looks.{pathMark, markOf, pathOf, pathChoice, heightChoice}
 

@@ -1,6 +1,6 @@
 -- `level::judge_graph` meets its contract, by the graph's verdict. Assumes nothing.
 use mathlib.Core.Path.{ap, _∙_}
-use Rattle.bsp.specs.declared.Graph.{Graph}
+use Rattle.route.specs.declared.Graph.{Graph}
 use Rattle.level.specs.Verdict.{graphAnswer}
 use borrow.Author.Needs.{needs}
 use Rattle.level.proofs.judge_graph.Statement.{statement}

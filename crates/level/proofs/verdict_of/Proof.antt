@@ -1,6 +1,6 @@
 -- `level::verdict_of` meets its contract, case by case. Assumes nothing.
 use mathlib.Core.Path.{sym, ap}
-use Rattle.bsp.specs.declared.Graph.{Graph}
+use Rattle.route.specs.declared.Graph.{Graph}
 use Rattle.level.specs.Verdict.{graphAnswer}
 use borrow.Author.Needs.{needs}
 use Rattle.level.proofs.verdict_of.Statement.{statement}

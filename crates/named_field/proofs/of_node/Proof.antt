@@ -5,7 +5,7 @@ use Rattle.range.specs.Fields.{firstOut}
 use Rattle.field.specs.Records.{recordBytes}
 use Rattle.lump.specs.Lumps.{mapLumps}
 use Rattle.built.specs.Nodes.{nodeSize}
-use Rattle.bsp.specs.Nodes.{nodesOf}
+use Rattle.node.specs.Nodes.{nodesOf}
 use Rattle.reason.specs.RecordFields.{nodeFields}
 use Rattle.named_field.proofs.Counting.{nodes-few, subsectors-counted}
 use borrow.Author.Needs.{needs}

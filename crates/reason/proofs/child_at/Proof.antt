@@ -4,7 +4,7 @@ use borrow.Author.Needs.{needs}
 use denote.Ref.{now}
 use Rattle.field.specs.Records.{recordBytes}
 use Rattle.built.specs.Nodes.{nodeSize}
-use Rattle.bsp.specs.Nodes.{nodesOf}
+use Rattle.node.specs.Nodes.{nodesOf}
 use Rattle.reason.proofs.Reasons.{child-node, child-subsector}
 use Rattle.reason.proofs.child_at.Statement.{statement}
 use Rattle.reason.proofs.child_at.Tie as tie

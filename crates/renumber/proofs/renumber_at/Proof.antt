@@ -11,7 +11,7 @@ use Rattle.wad.specs.Header.{headOf, entryCount}
 use Rattle.wad.specs.Entries.{directoryOf}
 use Rattle.wad.proofs.Listing.{file-header}
 use Rattle.table.specs.Lumps.{NODES}
-use Rattle.bsp.specs.Nodes.{nodesOf}
+use Rattle.node.specs.Nodes.{nodesOf}
 use Rattle.graph.specs.Judging.{Judgeable, cleared}
 use Rattle.lump.specs.Lumps.{mapLumps, mapLump}
 use Rattle.run.specs.Run.{runCheck}

@@ -5,7 +5,7 @@ use native.Mathlib.Omega.{arith}
 use borrow.Author.Needs.{needs}
 use denote.Ref.{now}
 use lib.Seq.{length-take-le}
-use Rattle.bsp.specs.Nodes.{nodesOf}
+use Rattle.node.specs.Nodes.{nodesOf}
 use Rattle.graph.specs.Judging.{cleared}
 use Rattle.graph.proofs.Words.{cleared-front}
 use Rattle.renumber.proofs.Outcomes.{renumbered-none}

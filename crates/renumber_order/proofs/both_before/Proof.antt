@@ -5,8 +5,8 @@ use mathlib.Core.Path.{ap, _∙_, subst⁻¹}
 use borrow.Author.Needs.{needs}
 use denote.Ref.{now}
 use lib.ListN.{length}
-use Rattle.bsp.specs.declared.Choice.the-variants.{Right, Left}
-use Rattle.bsp.specs.Nodes.{subsectorBit}
+use Rattle.node.specs.declared.Choice.the-variants.{Right, Left}
+use Rattle.node.specs.Nodes.{subsectorBit}
 use Rattle.renumber_order.specs.Inner.{beforeOk}
 use Rattle.renumber_order.proofs.both_before.Statement.{statement}
 use Rattle.renumber_order.proofs.both_before.Tie as tie

@@ -8,7 +8,7 @@ use borrow.Author.Needs.{needs}
 use borrow.Author.Tests.{not-true, not-false}
 use denote.Ref.{now}
 use lib.ListN.{length}
-use Rattle.bsp.specs.declared.Choice.the-variants.{Right, Left}
+use Rattle.node.specs.declared.Choice.the-variants.{Right, Left}
 use Rattle.renumber_order.specs.Orders.{childFirst, childrenOk}
 use Rattle.renumber_order.proofs.Checking.{children-none, children-more, children-stop, order-inside, order-placed, both-first}
 use Rattle.renumber_order.proofs.children_first.Statement.{statement}

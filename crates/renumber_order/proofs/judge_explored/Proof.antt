@@ -2,8 +2,8 @@
 use mathlib.Core.Path.{_≡_, sym, _∙_}
 use borrow.Author.Needs.{needs}
 use denote.Ref.{now}
-use Rattle.bsp.specs.Heights.{graphVerdict}
-use Rattle.bsp.specs.declared.Graph.{Graph}
+use Rattle.route.specs.Heights.{graphVerdict}
+use Rattle.route.specs.declared.Graph.{Graph}
 use Rattle.graph.proofs.Sharing.{answers-shared, answers-depth}
 use Rattle.renumber_order.proofs.Marking.{marks-explored}
 use Rattle.renumber_order.proofs.Outcomes.{judged-shared, judged-order}

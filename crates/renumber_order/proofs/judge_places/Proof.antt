@@ -8,8 +8,8 @@ use denote.Ref.{now}
 use Rattle.refusal.specs.declared.Refusal.the-variants.{RenumberRoot, RenumberChild}
 use Rattle.refusal.specs.Checks.{unless}
 use Rattle.refusal.proofs.Checks.{refused-then, pass-then}
-use Rattle.bsp.specs.Nodes.{root}
-use Rattle.bsp.proofs.Nodes.{nodesOf-whole}
+use Rattle.node.specs.Nodes.{root}
+use Rattle.node.proofs.Nodes.{nodesOf-whole}
 use Rattle.renumber_order.specs.Orders.{lastOk, rootOk}
 use Rattle.renumber_order.proofs.judge_places.Statement.{statement}
 use Rattle.renumber_order.proofs.judge_places.Tie as tie

@@ -6,8 +6,8 @@ use borrow.Author.Needs.{needs}
 use denote.Ref.{now}
 use lib.Dec.{eqb}
 use lib.ListN.{length, getD}
-use Rattle.bsp.specs.Nodes.{root}
-use Rattle.bsp.proofs.Nodes.{root-last}
+use Rattle.node.specs.Nodes.{root}
+use Rattle.node.proofs.Nodes.{root-last}
 use Rattle.renumber_order.proofs.Checking.{last-none, last-at}
 use Rattle.renumber_order.proofs.root_last.Statement.{statement}
 use Rattle.renumber_order.proofs.root_last.Tie as tie

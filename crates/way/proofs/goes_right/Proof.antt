@@ -1,5 +1,5 @@
 -- `way::goes_right` meets its contract: the test is that of the marks. Assumes nothing.
-use Rattle.bsp.specs.declared.Choice.the-variants.{Right, Left}
+use Rattle.node.specs.declared.Choice.the-variants.{Right, Left}
 use borrow.Author.Needs.{needs}
 use Rattle.way.proofs.goes_right.Statement.{statement}
 use Rattle.way.proofs.goes_right.Tie as tie

@@ -6,8 +6,8 @@ use native.Mathlib.Omega.{arith}
 use borrow.Author.Needs.{needs}
 use denote.Ref.{now}
 use lib.Seq.{length-take-le}
-use Rattle.bsp.specs.Nodes.{nodesOf}
-use Rattle.bsp.proofs.Nodes.{nodesOf-whole}
+use Rattle.node.specs.Nodes.{nodesOf}
+use Rattle.node.proofs.Nodes.{nodesOf-whole}
 use Rattle.graph.proofs.Words.{cleared-front}
 use Rattle.way.proofs.Found.{none-printed}
 use Rattle.way.proofs.judge.Statement.{statement}

@@ -2,7 +2,7 @@
 use native.Mathlib.Omega.{arith}
 use borrow.Author.Needs.{needs}
 use borrow.Author.Tests.{lt-ltb, le-ltb}
-use Rattle.bsp.specs.Nodes.{subsectorBit}
+use Rattle.node.specs.Nodes.{subsectorBit}
 use Rattle.renumber.proofs.writing.renamed.Statement.{statement}
 use Rattle.renumber.proofs.writing.renamed.Tie as tie
 

@@ -9,8 +9,8 @@ use lib.Seq.{sets}
 use Rattle.endian.specs.Unsigned.{u16Bytes}
 use Rattle.field.specs.Records.{recordBytes}
 use Rattle.built.specs.Nodes.{nodeSize}
-use Rattle.bsp.specs.declared.Choice.the-variants.{Right, Left}
-use Rattle.bsp.specs.Nodes.{subsectorBit}
+use Rattle.node.specs.declared.Choice.the-variants.{Right, Left}
+use Rattle.node.specs.Nodes.{subsectorBit}
 use Rattle.renumber.specs.Inner.{renamedBy}
 use Rattle.renumber.proofs.Rows.{node-stored}
 use Rattle.renumber.proofs.writing.write_node.Statement.{statement}

@@ -1,0 +1,12 @@
+-- `bsp::node_ok` meets its contract, from the tests of its two children. Assumes nothing.
+use borrow.Author.Needs.{needs}
+use Rattle.node.proofs.node_ok.Statement.{statement}
+use Rattle.node.proofs.node_ok.Tie as tie
+
+returns : tie.Need-returns
+returns c = cc
+
+pub node-ok-spec : {M : Type 1} → statement M
+node-ok-spec =
+    tie.close
+    (tie.spec (λ c κs. search needs) (λ c κs. search needs) (λ c κs. search needs) (λ c κs. search needs) returns)

@@ -1,0 +1,3 @@
+-- The laws of coordinates. Assumes nothing.
+
+pub mod Coordinates

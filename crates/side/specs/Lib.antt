@@ -1,0 +1,3 @@
+-- The side of a point. Assumes nothing.
+
+pub mod Side
