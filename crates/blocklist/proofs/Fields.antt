@@ -14,7 +14,7 @@ use Rattle.blockmap.proofs.Lists.{endsWell-list}
 use Rattle.range.specs.declared.Field.{Field}
 use Rattle.range.specs.Fields.{inRange, allIn, firstOut, noField, firstOf}
 use Rattle.range.proofs.Fields.{firstOf-in, firstOf-out, allIn-none, allIn-more, firstOut-none, firstOut-more}
-use Rattle.wad.specs.Header.{mostBytes}
+use Rattle.directory.specs.Header.{mostBytes}
 use Rattle.blocklist.specs.Fields.{sizeField, wordField, headerFields, numberFields, listFields, cellFields}
 
 -- ---- one field after the other, of which `b` says whether it is in its range

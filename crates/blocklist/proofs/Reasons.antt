@@ -21,7 +21,7 @@ use Rattle.range.specs.Fields.{inRange, allIn, firstOut, noField, FieldFits}
 use Rattle.range.proofs.Fields.{firstOut-none, firstOut-more, allIn-none, allIn-more, first-out}
 use Rattle.blockmap.specs.Blockmap.{wordsOf, wordAt, cellsOf, headerOk, listEnd, listOk, cellCheck}
 use Rattle.blockmap.proofs.Lists.{header-long}
-use Rattle.wad.specs.Header.{mostBytes}
+use Rattle.directory.specs.Header.{mostBytes}
 use Rattle.blocklist.specs.Fields.{FitsIf, sizeField, wordField, lengthFields, headerFields, numberFields, listFields, cellFields, fieldsIfCell, blockmapFields}
 use Rattle.blocklist.specs.Reasons.{SizeTold, WordTold, BlockmapReasoned}
 use Rattle.blocklist.proofs.Fields.{header-fields, cell-fields}

@@ -5,7 +5,7 @@ use mathlib.Core.Path.{_≡_}
 use Rattle.endian.specs.Unsigned.{u16Bytes}
 use Rattle.range.specs.declared.Field.{Field}
 use Rattle.range.specs.Fields.{firstOut, noField}
-use Rattle.wad.specs.Header.{mostBytes}
+use Rattle.directory.specs.Header.{mostBytes}
 use Rattle.blocklist.specs.Fields.{blockmapFields}
 
 -- the bytes of words

@@ -7,7 +7,7 @@ use lib.Dec.{ltb, eqb}
 use lib.ListN.{length}
 use Rattle.range.specs.declared.Field.{Field}
 use Rattle.range.specs.Fields.{fieldAt, FieldFits}
-use Rattle.wad.specs.Header.{mostBytes}
+use Rattle.directory.specs.Header.{mostBytes}
 use Rattle.blockmap.specs.Blockmap.{wordsOf, wordAt, cellsOf, listEnd}
 
 -- the lump's size, which must be `least` bytes or more

@@ -12,7 +12,7 @@ use Rattle.refusal.specs.declared.Refusal.the-variants.{Blockmap}
 use Rattle.range.specs.declared.Field.{Field}
 use Rattle.range.specs.Fields.{allIn, firstOut, FirstOut}
 use Rattle.blockmap.specs.Blockmap.{wordAt, headerOk, listOk, blockmapCheck}
-use Rattle.wad.specs.Header.{mostBytes}
+use Rattle.directory.specs.Header.{mostBytes}
 use Rattle.blocklist.specs.Fields.{headerFields, cellFields, blockmapFields}
 
 -- the lump's size

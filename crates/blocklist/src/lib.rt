@@ -6,10 +6,10 @@ ghost use Prim.Native.Nat.{_+_, _-_, _<_, _≤_};
 ghost use lib.ListN.{length};
 ghost use Rattle.blockmap.specs.Blockmap.{wordsOf, wordAt, cellsOf};
 ghost use Rattle.range.specs.Fields.{firstOut};
-ghost use Rattle.wad.specs.Header.{mostBytes};
+ghost use Rattle.directory.specs.Header.{mostBytes};
 ghost use Rattle.blocklist.specs.Fields.{sizeField, wordField, lengthFields, numberFields, cellFields, fieldsIfCell, blockmapFields, FitsIf};
 use range::Field;
-use wad::MOST_BYTES;
+use directory::MOST_BYTES;
 
 // The mark that ends a list.
 const LIST_END: usize = 65535;

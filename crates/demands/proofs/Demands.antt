@@ -20,8 +20,8 @@ use Rattle.wad.specs.declared.lumps.Entry.{Entry as Entries}
 use Rattle.wad.specs.declared.lumps.Entry.the-variants.{At}
 use Rattle.wad.specs.declared.map.Marker.{Marker}
 use Rattle.wad.specs.declared.map.Marker.the-variants.{Entry, Refused as NoMarker}
-use Rattle.wad.specs.Header.{headOf, entryCount}
-use Rattle.wad.specs.Entries.{directoryOf}
+use Rattle.directory.specs.Header.{headOf, entryCount}
+use Rattle.directory.specs.Entries.{directoryOf}
 use Rattle.wad.specs.Lump.{entrySize, entryOffset, lumpAt, entryAnswer, partOf}
 use Rattle.wad.specs.Map.{markerBy, markerAnswer}
 use Rattle.wad.proofs.Answers.{entry-at, handed-whole}

@@ -11,8 +11,8 @@ use Rattle.refusal.specs.declared.Check.the-variants.{Pass}
 use Rattle.refusal.specs.declared.Refusal.the-variants.{NodeLoop, NodeShared}
 use Rattle.wad.specs.declared.lumps.Entry.the-variants.{At}
 use Rattle.wad.specs.declared.map.Marker.the-variants.{Entry}
-use Rattle.wad.specs.Header.{headOf, entryCount}
-use Rattle.wad.specs.Entries.{directoryOf}
+use Rattle.directory.specs.Header.{headOf, entryCount}
+use Rattle.directory.specs.Entries.{directoryOf}
 use Rattle.wad.specs.Lump.{entryAnswer, entryLump}
 use Rattle.wad.specs.Map.{markerAnswer}
 use Rattle.built.specs.Subsectors.{subsectorSize}

@@ -11,8 +11,8 @@ use Rattle.refusal.specs.declared.Refusal.the-variants.{DifferenceRoom, Differe
 use Rattle.refusal.specs.Checks.{unless, _andThen_}
 use Rattle.layout.specs.Rows.{laidOut}
 use Rattle.layout.specs.Buffers.{bufferAfter}
-use Rattle.wad.specs.Header.{headOf, entryCount}
-use Rattle.wad.specs.Entries.{directoryOf}
+use Rattle.directory.specs.Header.{headOf, entryCount}
+use Rattle.directory.specs.Entries.{directoryOf}
 use Rattle.table.specs.Lumps.{recordSize}
 use Rattle.lump.specs.Lumps.{mapLumps, mapLump}
 use Rattle.run.specs.Games.{gameAt}

@@ -6,8 +6,8 @@ use mathlib.Core.Path.{_≡_}
 use lib.ListN.{length}
 use Rattle.refusal.specs.declared.Check.the-variants.{Pass}
 use Rattle.layout.specs.Buffers.{bufferAfter}
-use Rattle.wad.specs.Header.{headOf, entryCount}
-use Rattle.wad.specs.Entries.{fileCheck}
+use Rattle.directory.specs.Header.{headOf, entryCount}
+use Rattle.directory.specs.Entries.{fileCheck}
 use Rattle.table.specs.Lumps.{recordSize}
 use Rattle.lump.specs.Lumps.{mapLump}
 use Rattle.level.specs.declared.Verdict.the-variants.{Accepted}

@@ -16,7 +16,7 @@ fn lump_in(wad: &[u8], marker: usize, place: usize) -> &[u8]
     requires { ⌜ MapIn (now wad) marker × (1 ≤ place) × (place ≤ 10) ⌝ }
     ensures { λ r. ⌜ now r ≡ mapLump (lumpsIn (now (wad .entry)) marker) place ⌝ }
 {
-    lump::map_lump(wad, wad::directory_of(wad), marker, place)
+    lump::map_lump(wad, directory::directory_of(wad), marker, place)
 }
 
 fn count_place(

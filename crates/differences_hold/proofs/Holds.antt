@@ -6,8 +6,8 @@ use native.Mathlib.Omega.{arith}
 use borrow.Author.Tests.{not-true}
 use lib.ListN.{length}
 use Rattle.refusal.proofs.Checks.{andThen-pass}
-use Rattle.wad.specs.Header.{headOf, entryCount}
-use Rattle.wad.specs.Entries.{directoryOf}
+use Rattle.directory.specs.Header.{headOf, entryCount}
+use Rattle.directory.specs.Entries.{directoryOf}
 use Rattle.table.specs.Lumps.{recordSize}
 use Rattle.lump.specs.Lumps.{mapLump}
 use Rattle.run.specs.Run.{runCheck}

@@ -1,7 +1,7 @@
 -- Answers on a file's directory. Assumes nothing.
 use Prim.Native.Nat.{ℕ}
-use Rattle.wad.specs.declared.entries.Directory.{Directory}
-use Rattle.wad.specs.declared.entries.Directory.the-variants.{Listed, Refused as NotListed}
+use Rattle.directory.specs.declared.entries.Directory.{Directory}
+use Rattle.directory.specs.declared.entries.Directory.the-variants.{Listed, Refused as NotListed}
 use Rattle.wad.specs.declared.lumps.Entry.{Entry}
 use Rattle.wad.specs.declared.lumps.Entry.the-variants.{At, Refused as NotThere}
 use Rattle.wad.specs.declared.map.Marker.{Marker}

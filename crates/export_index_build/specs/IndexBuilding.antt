@@ -4,7 +4,7 @@ use mathlib.Core.List.{List}
 use mathlib.Core.Path.{_≡_}
 use lib.ListN.{length}
 use Rattle.layout.specs.Buffers.{bufferAfter}
-use Rattle.wad.specs.Header.{headOf, entryCount}
+use Rattle.directory.specs.Header.{headOf, entryCount}
 use Rattle.index.specs.declared.IndexRecord.{IndexRecord}
 use Rattle.index.specs.Index.{recordPlace, sortedRecords, indexBytes}
 use Rattle.index_build.specs.declared.Building.{Building}

@@ -10,9 +10,9 @@ use Rattle.endian.specs.Unsigned.{u16At, u32At, u16Bytes}
 use Rattle.endian.proofs.Unsigned.{u16-whole}
 use Rattle.layout.specs.Rows.{laidOut}
 use Rattle.layout.proofs.LaidOut.{length-parts, part-at}
-use Rattle.wad.specs.Slices.{part}
-use Rattle.wad.specs.Header.{headOf, entryCount}
-use Rattle.wad.specs.Entries.{directoryOf, entryName}
+use Rattle.directory.specs.Slices.{part}
+use Rattle.directory.specs.Header.{headOf, entryCount}
+use Rattle.directory.specs.Entries.{directoryOf, entryName}
 use Rattle.index.specs.declared.IndexRecord.{IndexRecord}
 use Rattle.index.specs.Records.{noRecord, recordAt, padded, indexOf}
 use Rattle.index.specs.Index.{indexMark, countPlace, lengthPlace, versionPlace, indexRecordSize, recordPlace, indexHead, indexRecordBytes, sortedRecords, indexBytes}

@@ -10,9 +10,9 @@ use Rattle.refusal.specs.declared.Check.the-variants.{Pass}
 use Rattle.refusal.specs.declared.Refusal.the-variants.{IndexRoom}
 use Rattle.refusal.specs.Checks.{unless}
 use Rattle.refusal.proofs.Checks.{both, andThen-pass, unless-pass}
-use Rattle.wad.specs.Header.{headOf, entryCount, fileHeaderCheck}
-use Rattle.wad.specs.Entries.{fileCheck}
-use Rattle.wad.proofs.Listing.{file-header, file-sound}
+use Rattle.directory.specs.Header.{headOf, entryCount, fileHeaderCheck}
+use Rattle.directory.specs.Entries.{fileCheck}
+use Rattle.directory.proofs.Listing.{file-header, file-sound}
 use Rattle.index.specs.Index.{recordPlace}
 use Rattle.index_build.specs.Building.{buildCheck}
 

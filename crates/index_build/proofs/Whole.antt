@@ -13,8 +13,8 @@ use Rattle.layout.specs.Rows.{laidOut}
 use Rattle.layout.specs.Buffers.{bufferAfter}
 use Rattle.layout.proofs.LaidOut.{laid-none, laid-suc, length-parts, laid-same}
 use Rattle.layout.proofs.Stores.{sets-append, sets-comm}
-use Rattle.wad.specs.Header.{headOf, entryCount}
-use Rattle.wad.specs.Entries.{directoryOf}
+use Rattle.directory.specs.Header.{headOf, entryCount}
+use Rattle.directory.specs.Entries.{directoryOf}
 use Rattle.index.specs.declared.IndexRecord.{IndexRecord}
 use Rattle.index.specs.Records.{noRecord, recordAt}
 use Rattle.index.specs.Index.{indexHeadSize, indexRecordSize, recordPlace, indexHead, indexRecordBytes, sortedRecords, indexBytes}

@@ -10,8 +10,8 @@ use Rattle.refusal.specs.declared.Check.the-variants.{Pass, Refused}
 use Rattle.refusal.specs.declared.Refusal.the-variants.{IndexRoom}
 use Rattle.refusal.specs.Checks.{unless, _andThen_}
 use Rattle.layout.specs.Buffers.{bufferAfter}
-use Rattle.wad.specs.Header.{headOf, entryCount}
-use Rattle.wad.specs.Entries.{fileCheck}
+use Rattle.directory.specs.Header.{headOf, entryCount}
+use Rattle.directory.specs.Entries.{fileCheck}
 use Rattle.index.specs.declared.IndexRecord.{IndexRecord}
 use Rattle.index.specs.Index.{recordPlace, sortedRecords, indexBytes}
 use Rattle.index_build.specs.declared.Building.{Building}

@@ -8,8 +8,8 @@ use Rattle.refusal.specs.declared.Check.{Check}
 use Rattle.refusal.specs.declared.Check.the-variants.{Pass, Refused}
 use Rattle.endian.specs.Unsigned.{u16At, u16Bytes}
 use Rattle.layout.specs.Rows.{laidOut}
-use Rattle.wad.specs.Header.{headOf, entryCount, fileHeaderCheck}
-use Rattle.wad.specs.Entries.{directoryOf}
+use Rattle.directory.specs.Header.{headOf, entryCount, fileHeaderCheck}
+use Rattle.directory.specs.Entries.{directoryOf}
 use Rattle.index.specs.declared.IndexRecord.{IndexRecord}
 use Rattle.index.specs.Records.{noRecord, recordAt, indexOf}
 use Rattle.index.specs.Index.{indexHeadSize, indexRecordSize, recordPlace, indexHead, indexRecordBytes}

@@ -6,8 +6,8 @@ ghost use lib.Seq.{sets};
 ghost use Rattle.refusal.specs.declared.Check.the-variants.{Pass};
 ghost use Rattle.endian.specs.Unsigned.{u16Bytes};
 ghost use Rattle.layout.specs.Rows.{laidOut};
-ghost use Rattle.wad.specs.Header.{headOf, entryCount};
-ghost use Rattle.wad.specs.Entries.{fileCheck};
+ghost use Rattle.directory.specs.Header.{headOf, entryCount};
+ghost use Rattle.directory.specs.Entries.{fileCheck};
 ghost use Rattle.index.specs.Index.{indexHeadSize, indexRecordSize, recordPlace, indexHead};
 ghost use Rattle.index_build.specs.Building.{buildCheck, buildingOf};
 ghost use Rattle.index_build.specs.Inner.{orderBytes, begun, putRecord, written};
@@ -20,10 +20,10 @@ use refusal::Refusal;
 fn judge(wad: &[u8], records: usize, room: usize) -> Check
     ensures { λ r. ⌜ r ≡ buildCheck (now (wad .entry)) records room ⌝ }
 {
-    if let Check::Refused(r) = wad::judge_file(wad) {
+    if let Check::Refused(r) = directory::judge_file(wad) {
         return Check::Refused(r);
     }
-    let count = wad::entry_count(wad);
+    let count = directory::entry_count(wad);
     refusal::pass_if(
         (count <= records) & (11 + 10 * count <= room),
         Refusal::IndexRoom,
@@ -38,7 +38,7 @@ fn put_head(wad: &[u8], out: &mut [u8])
     out[1] = 73;
     out[2] = 88;
     endian::put_u16(out, 3, 1);
-    endian::put_u16(out, 5, wad::entry_count(wad) as u16);
+    endian::put_u16(out, 5, directory::entry_count(wad) as u16);
     endian::put_u32(out, 7, wad.len() as u32);
 }
 
@@ -47,9 +47,9 @@ fn put_order(wad: &[u8], out: &mut [u8])
     requires { ⌜ (fileCheck (now wad) ≡ Pass) × (recordPlace (entryCount (headOf (now wad))) ≤ length (now out)) ⌝ }
     ensures { λ _. ⌜ now (out .exit) ≡ sets (now (out .entry)) indexHeadSize (orderBytes (now (wad .entry))) ⌝ }
 {
-    let count = wad::entry_count(wad);
+    let count = directory::entry_count(wad);
     let mut order = [0u16; 4096];
-    index_order::order_of(wad::directory_of(wad), count, &mut order);
+    index_order::order_of(directory::directory_of(wad), count, &mut order);
     put_numbers(&order, count, out);
 }
 
@@ -72,7 +72,7 @@ pub fn begin(wad: &[u8], records: usize, out: &mut [u8]) -> Building
         Check::Pass => {
             put_head(wad, out);
             put_order(wad, out);
-            Building::Written(11 + 10 * wad::entry_count(wad))
+            Building::Written(11 + 10 * directory::entry_count(wad))
         }
     }
 }

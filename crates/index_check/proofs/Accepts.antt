@@ -11,8 +11,8 @@ use Rattle.refusal.specs.Checks.{unless}
 use Rattle.refusal.proofs.Checks.{andThen-pass, unless-pass}
 use Rattle.name.specs.Names.{sameBytes}
 use Rattle.name.proofs.Bytes.{same-equal, equal-same}
-use Rattle.wad.specs.Header.{headOf, entryCount}
-use Rattle.wad.specs.Entries.{fileCheck}
+use Rattle.directory.specs.Header.{headOf, entryCount}
+use Rattle.directory.specs.Entries.{fileCheck}
 use Rattle.index.specs.Index.{recordPlace, indexBytes}
 use Rattle.index.proofs.Bytes.{index-size, index-count, index-of}
 use Rattle.index_check.specs.Checking.{indexHeadCheck, indexCheck}

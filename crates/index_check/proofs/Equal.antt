@@ -22,9 +22,9 @@ use Rattle.layout.specs.Rows.{laidOut}
 use Rattle.layout.proofs.LaidOut.{laid-none, laid-suc, laid-same}
 use Rattle.name.specs.Names.{sameBytes}
 use Rattle.name.proofs.Bytes.{same-equal, equal-same}
-use Rattle.wad.specs.Slices.{part}
-use Rattle.wad.specs.Header.{headOf, entryCount}
-use Rattle.wad.specs.Entries.{directoryOf, entryName}
+use Rattle.directory.specs.Slices.{part}
+use Rattle.directory.specs.Header.{headOf, entryCount}
+use Rattle.directory.specs.Entries.{directoryOf, entryName}
 use Rattle.index.specs.declared.IndexRecord.{IndexRecord}
 use Rattle.index.specs.Records.{noRecord, padded, precedes, indexOf}
 use Rattle.index.specs.Index.{versionPlace, recordPlace, indexHead, indexRecordBytes, sortedRecords, indexBytes}

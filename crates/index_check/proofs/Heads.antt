@@ -13,8 +13,8 @@ use Rattle.refusal.specs.Checks.{unless, _andThen_}
 use Rattle.refusal.proofs.Checks.{both, andThen-pass, unless-pass}
 use Rattle.name.specs.Names.{sameBytes}
 use Rattle.name.proofs.Bytes.{same-equal}
-use Rattle.wad.specs.Header.{headOf, entryCount}
-use Rattle.wad.specs.Entries.{fileCheck}
+use Rattle.directory.specs.Header.{headOf, entryCount}
+use Rattle.directory.specs.Entries.{fileCheck}
 use Rattle.index.specs.Index.{indexMark, versionPlace, countPlace, lengthPlace, recordPlace}
 use Rattle.index_check.specs.Checking.{indexHeadOk, versionOk, indexHeadCheck}
 use Rattle.index_check.specs.Checking.{headOk}

@@ -11,7 +11,7 @@ use Rattle.endian.specs.Unsigned.{Bytes, u16At, u16Bytes}
 use Rattle.endian.proofs.Unsigned.{u16Bytes-read}
 use Rattle.field.specs.Fields.{nameAt}
 use Rattle.name.specs.Names.{sameBytes}
-use Rattle.wad.specs.Slices.{part}
+use Rattle.directory.specs.Slices.{part}
 
 -- `n` bytes from `at` on, one by one
 abbrev spelt : List ℕ → ℕ → ℕ → List ℕ

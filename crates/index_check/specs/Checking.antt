@@ -9,8 +9,8 @@ use Rattle.refusal.specs.declared.Check.{Check}
 use Rattle.refusal.specs.declared.Refusal.the-variants.{IndexHead, IndexVersion, IndexEntries}
 use Rattle.refusal.specs.Checks.{unless, _andThen_}
 use Rattle.name.specs.Names.{sameBytes}
-use Rattle.wad.specs.Header.{headOf, entryCount}
-use Rattle.wad.specs.Entries.{fileCheck}
+use Rattle.directory.specs.Header.{headOf, entryCount}
+use Rattle.directory.specs.Entries.{fileCheck}
 use Rattle.index.specs.Index.{indexMark, indexVersion, versionPlace, countPlace, lengthPlace, recordPlace, indexBytes}
 
 -- long enough for `count` records, with the mark, and with that count and a file's length, `len`

@@ -9,8 +9,8 @@ use Rattle.refusal.specs.declared.Check.{Check}
 use Rattle.refusal.specs.declared.Refusal.the-variants.{IndexEntries}
 use Rattle.refusal.specs.Checks.{unless, _andThen_, each}
 use Rattle.name.specs.Names.{sameBytes}
-use Rattle.wad.specs.Slices.{part}
-use Rattle.wad.specs.Entries.{entryName}
+use Rattle.directory.specs.Slices.{part}
+use Rattle.directory.specs.Entries.{entryName}
 use Rattle.index.specs.declared.IndexRecord.{IndexRecord}
 use Rattle.index.specs.Records.{padded, precedes}
 use Rattle.index.specs.Index.{recordPlace}

@@ -35,7 +35,7 @@ pub fn head_ok(count: usize, len: usize, index: &[u8]) -> bool
     if index.len() < record_place(count) {
         return false;
     }
-    same_bytes(wad::part(index, 0, 3), b"WIX")
+    same_bytes(directory::part(index, 0, 3), b"WIX")
         & (endian::u16_at(index, 5) as usize == count)
         & (endian::u32_at(index, 7) as usize == len)
 }

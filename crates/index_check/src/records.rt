@@ -33,8 +33,8 @@ fn of_entry(dir: &[u8], count: usize, index: &[u8], i: usize) -> bool
     if count <= number {
         return false;
     }
-    let name = index::names::padded(wad::part(dir, 16 * number + 8, 8));
-    same_bytes(wad::part(index, at, 8), &name)
+    let name = index::names::padded(directory::part(dir, 16 * number + 8, 8));
+    same_bytes(directory::part(index, at, 8), &name)
 }
 
 // The record before precedes it.

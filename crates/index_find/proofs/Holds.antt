@@ -20,10 +20,10 @@ use Rattle.name.proofs.Bytes.{same-equal, equal-same}
 use Rattle.wad.specs.declared.map.Marker.{Marker}
 use Rattle.wad.specs.declared.map.Marker.the-variants.{Entry, Refused as NoMarker}
 use Rattle.wad.specs.declared.map.MarkerSearch.{MarkerSearch}
-use Rattle.wad.specs.Header.{headOf, entryCount}
-use Rattle.wad.specs.Entries.{directoryOf, entryName, fileCheck}
+use Rattle.directory.specs.Header.{headOf, entryCount}
+use Rattle.directory.specs.Entries.{directoryOf, entryName, fileCheck}
 use Rattle.wad.specs.Map.{findMarker, searched}
-use Rattle.wad.proofs.Listing.{file-header, file-sound}
+use Rattle.directory.proofs.Listing.{file-header, file-sound}
 use Rattle.wad.proofs.Search.{findMarker-found, findMarker-on, findMarker-none}
 use Rattle.index.specs.declared.IndexRecord.{IndexRecord}
 use Rattle.index.specs.Records.{noRecord, padded, recordAt, belowFrom, precedes}

@@ -11,9 +11,9 @@ use Rattle.name.specs.Names.{sameBytes, sameName}
 use Rattle.wad.specs.declared.map.Marker.{Marker}
 use Rattle.wad.specs.declared.map.Marker.the-variants.{Entry, Refused as NoMarker}
 use Rattle.wad.specs.declared.map.MarkerSearch.{MarkerSearch}
-use Rattle.wad.specs.Slices.{part}
-use Rattle.wad.specs.Header.{headOf, entryCount}
-use Rattle.wad.specs.Entries.{directoryOf, entryName}
+use Rattle.directory.specs.Slices.{part}
+use Rattle.directory.specs.Header.{headOf, entryCount}
+use Rattle.directory.specs.Entries.{directoryOf, entryName}
 use Rattle.wad.specs.Map.{searched}
 use Rattle.index.specs.Records.{padded, belowFrom}
 use Rattle.index.specs.Index.{recordPlace}

@@ -22,7 +22,7 @@ fn believed(dir: &[u8], count: usize, name: &[u8], number: usize) -> Marker
     if count <= number {
         return Marker::Refused(Refusal::MapMissing);
     }
-    if name::same_name(wad::part(dir, 16 * number + 8, 8), name) {
+    if name::same_name(directory::part(dir, 16 * number + 8, 8), name) {
         return Marker::Entry(number);
     }
     Marker::Refused(Refusal::MapMissing)
@@ -39,7 +39,7 @@ fn last_past(dir: &[u8], count: usize, index: &[u8], name: &[u8], past: usize) -
     }
     let at = record_place(past - 1);
     let asked = index::names::padded(name);
-    if index_check::same_bytes(wad::part(index, at, 8), &asked) {
+    if index_check::same_bytes(directory::part(index, at, 8), &asked) {
         return believed(dir, count, name, endian::u16_at(index, at + 8) as usize);
     }
     Marker::Refused(Refusal::MapMissing)
@@ -76,7 +76,7 @@ pub fn find(wad: &[u8], index: &[u8], name: &[u8]) -> MarkerSearch
         return nothing_compared(r);
     }
     if name.len() == 8 {
-        return look_up(wad::directory_of(wad), wad::entry_count(wad), index, name);
+        return look_up(directory::directory_of(wad), directory::entry_count(wad), index, name);
     }
     nothing_compared(Refusal::MapMissing)
 }

@@ -14,8 +14,8 @@ use Rattle.refusal.specs.Checks.{unless, _andThen_}
 use Rattle.refusal.proofs.Checks.{andThen-pass}
 use Rattle.wad.specs.declared.map.Marker.{Marker}
 use Rattle.wad.specs.declared.map.Marker.the-variants.{Entry, Refused as NoMarker}
-use Rattle.wad.specs.Header.{headOf, entryCount}
-use Rattle.wad.specs.Entries.{directoryOf, entryName, fileCheck}
+use Rattle.directory.specs.Header.{headOf, entryCount}
+use Rattle.directory.specs.Entries.{directoryOf, entryName, fileCheck}
 use Rattle.wad.specs.Map.{findMarker, found, markerAnswer}
 use Rattle.name.specs.Names.{sameName, mapNameOk}
 use Rattle.wad.proofs.Search.{findMarker-none, findMarker-found, findMarker-on}

@@ -11,7 +11,7 @@ use Rattle.refusal.specs.declared.Check.the-variants.{Pass}
 use Rattle.refusal.specs.declared.Refusal.the-variants.{MarkerRun, NodeReference, WorkWords}
 use Rattle.refusal.specs.Checks.{unless, _andThen_}
 use Rattle.refusal.proofs.Checks.{both, andThen-pass, unless-pass, each-pass}
-use Rattle.wad.specs.Entries.{entryName}
+use Rattle.directory.specs.Entries.{entryName}
 use Rattle.wad.specs.Lump.{entrySize}
 use Rattle.name.specs.Names.{sameName}
 use Rattle.table.specs.Lumps.{lumpName, LINEDEFS, SSECTORS, NODES, BLOCKMAP}

@@ -10,8 +10,8 @@ use Rattle.refusal.specs.declared.Refusal.the-variants.{NodeLoop, NodeShared}
 use Rattle.refusal.specs.Checks.{_andThen_}
 use Rattle.wad.specs.declared.map.Marker.{Marker}
 use Rattle.wad.specs.declared.map.Marker.the-variants.{Entry, Refused as NoMarker}
-use Rattle.wad.specs.Header.{headOf, entryCount}
-use Rattle.wad.specs.Entries.{directoryOf}
+use Rattle.directory.specs.Header.{headOf, entryCount}
+use Rattle.directory.specs.Entries.{directoryOf}
 use Rattle.wad.specs.Map.{markerAnswer}
 use Rattle.route.specs.declared.Graph.{Graph}
 use Rattle.route.specs.declared.Graph.the-variants.{HasLoop, HasShared, HasDepth}

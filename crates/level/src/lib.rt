@@ -3,8 +3,8 @@ ghost use mathlib.Core.Path.{_≡_};
 ghost use Prim.Native.Nat.{_*_, _/_, _<_, _≤_};
 ghost use lib.ListN.{length};
 ghost use Rattle.refusal.specs.declared.Check.the-variants.{Pass};
-ghost use Rattle.wad.specs.Header.{headOf, entryCount};
-ghost use Rattle.wad.specs.Entries.{fileCheck};
+ghost use Rattle.directory.specs.Header.{headOf, entryCount};
+ghost use Rattle.directory.specs.Entries.{fileCheck};
 ghost use Rattle.node.specs.Nodes.{nodesOf};
 ghost use Rattle.graph.specs.Judging.{Judgeable};
 ghost use Rattle.lump.specs.Lumps.{mapLumps};
@@ -39,8 +39,8 @@ pub fn judge_at(wad: &[u8], marker: usize, words: &mut [u16]) -> Verdict
     requires { ⌜ (fileCheck (now wad) ≡ Pass) × (marker < entryCount (headOf (now wad))) ⌝ }
     ensures { λ r. ⌜ AnsweredAt (now (wad .entry)) marker (now (words .entry)) r (now (words .exit)) ⌝ }
 {
-    let dir = wad::directory_of(wad);
-    if let Check::Refused(r) = judge_below(wad, dir, wad::entry_count(wad), marker, words.len()) {
+    let dir = directory::directory_of(wad);
+    if let Check::Refused(r) = judge_below(wad, dir, directory::entry_count(wad), marker, words.len()) {
         return Verdict::Refused(r);
     }
     judge_graph(lump::map_lump(wad, dir, marker, Node::PLACE), marker, words)

@@ -9,8 +9,8 @@ use lib.Dec.{leb}
 use lib.ListN.{length}
 use Rattle.refusal.specs.declared.Check.the-variants.{Pass}
 use Rattle.wad.specs.Lump.{entrySize, entryOffset, lumpAt}
-use Rattle.wad.specs.Slices.{part, partIf}
-use Rattle.wad.proofs.Slices.{length-part}
+use Rattle.directory.specs.Slices.{part, partIf}
+use Rattle.directory.proofs.Slices.{length-part}
 use Rattle.linedef.specs.Linedefs.{linedefSize}
 use Rattle.record.specs.Sidedefs.{sidedefSize}
 use Rattle.record.specs.Vertexes.{vertexSize}

@@ -5,7 +5,7 @@ use mathlib.Core.List.{List}
 use mathlib.Core.Path.{_≡_}
 use lib.ListN.{length}
 use Rattle.refusal.specs.declared.Check.the-variants.{Pass}
-use Rattle.wad.specs.Header.{mostBytes}
+use Rattle.directory.specs.Header.{mostBytes}
 use Rattle.linedef.specs.Linedefs.{linedefSize}
 use Rattle.record.specs.Sidedefs.{sidedefSize}
 use Rattle.built.specs.Segs.{segSize}

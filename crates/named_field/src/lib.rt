@@ -2,7 +2,7 @@
 ghost use mathlib.Core.Path.{_≡_};
 ghost use Prim.Native.Nat.{_<_, _≤_};
 ghost use lib.ListN.{length};
-ghost use Rattle.wad.specs.Header.{mostBytes};
+ghost use Rattle.directory.specs.Header.{mostBytes};
 ghost use Rattle.range.specs.Fields.{FieldFits, putField, firstOut};
 ghost use Rattle.field.specs.Records.{recordBytes};
 ghost use Rattle.linedef.specs.Linedefs.{linedefSize};

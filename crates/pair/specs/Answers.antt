@@ -7,7 +7,7 @@ use Rattle.wad.specs.declared.lumps.Entry.{Entry}
 use Rattle.wad.specs.declared.lumps.Entry.the-variants.{At, Refused as NotThere}
 use Rattle.wad.specs.declared.map.Marker.{Marker}
 use Rattle.wad.specs.declared.map.Marker.the-variants.{Entry as Found, Refused as NoMarker}
-use Rattle.wad.specs.Entries.{directoryOf}
+use Rattle.directory.specs.Entries.{directoryOf}
 use Rattle.wad.specs.Lump.{entryOffset, entrySize, partOf}
 use Rattle.level.specs.Verdict.{verdictBy, wordsAfterBy}
 use Rattle.pair_search.specs.declared.PairSearch.{PairSearch}

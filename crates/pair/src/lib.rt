@@ -40,7 +40,7 @@ pub fn find<'a>(base: &'a [u8], patch: &'a [u8], name: &[u8]) -> PairEntry
     let marker = search.marker;
     match marker {
         Marker::Entry(i) => {
-            let dir = wad::directory_of(file_of(base, patch, file));
+            let dir = directory::directory_of(file_of(base, patch, file));
             PairEntry {
                 file,
                 entry: Entry::At {
@@ -64,7 +64,7 @@ pub fn pick<'a>(base: &'a [u8], patch: &'a [u8], name: &[u8]) -> &'a [u8]
     let file = found.file;
     let entry = found.entry;
     match entry {
-        Entry::At { offset, size } => wad::part_if(file_of(base, patch, file), offset, size),
+        Entry::At { offset, size } => directory::part_if(file_of(base, patch, file), offset, size),
         Entry::Refused(_) => &base[0..0],
     }
 }

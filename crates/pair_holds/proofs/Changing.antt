@@ -18,14 +18,14 @@ use Rattle.name.specs.Names.{sameName, mapNameOk}
 use Rattle.wad.specs.declared.lumps.Entry.the-variants.{At}
 use Rattle.wad.specs.declared.map.Marker.{Marker}
 use Rattle.wad.specs.declared.map.Marker.the-variants.{Entry, Refused as NoMarker}
-use Rattle.wad.specs.Header.{headOf, entryCount}
-use Rattle.wad.specs.Entries.{directoryOf, entryName, fileCheck}
+use Rattle.directory.specs.Header.{headOf, entryCount}
+use Rattle.directory.specs.Entries.{directoryOf, entryName, fileCheck}
 use Rattle.wad.specs.Lump.{entryOffset, entrySize, partOf}
 use Rattle.wad.specs.Map.{findMarker}
 use Rattle.wad.proofs.Search.{findMarker-none, findMarker-found, findMarker-on}
 use Rattle.wad.proofs.Answers.{entry-inside}
 use Rattle.level.proofs.Answers.{findMarker-below}
-use Rattle.wad.proofs.Slices.{partIf-inside, length-part}
+use Rattle.directory.proofs.Slices.{partIf-inside, length-part}
 use Rattle.pair_search.specs.declared.PairSearch.{PairSearch}
 use Rattle.pair_search.specs.Search.{noFile, baseFile, patchFile, fileOf, lastNamed, afterCheck, orElse, eitherNamed, searchPair, lumpSearch}
 use Rattle.pair.specs.Answers.{entryBy, entryOf, partBy, verdictOf, wordsOf}

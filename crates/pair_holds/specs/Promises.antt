@@ -7,8 +7,8 @@ use lib.ListN.{length}
 use Rattle.refusal.specs.declared.Check.the-variants.{Pass}
 use Rattle.name.specs.Names.{sameName}
 use Rattle.wad.specs.declared.lumps.Entry.the-variants.{At}
-use Rattle.wad.specs.Header.{headOf, entryCount}
-use Rattle.wad.specs.Entries.{directoryOf, entryName, fileCheck}
+use Rattle.directory.specs.Header.{headOf, entryCount}
+use Rattle.directory.specs.Entries.{directoryOf, entryName, fileCheck}
 use Rattle.wad.specs.Lump.{Whole}
 use Rattle.pair_search.specs.Search.{fileOf}
 use Rattle.pair.specs.Answers.{pairEntry, pairLump, pairVerdict, pairWords}

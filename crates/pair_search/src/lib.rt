@@ -2,7 +2,7 @@
 ghost use mathlib.Core.Path.{_≡_};
 ghost use Rattle.refusal.specs.declared.Check.the-variants.{Pass};
 ghost use Rattle.wad.specs.declared.map.Marker.the-variants.{Refused as NoMarker};
-ghost use Rattle.wad.specs.Entries.{fileCheck};
+ghost use Rattle.directory.specs.Entries.{fileCheck};
 ghost use Rattle.pair_search.specs.Search.{lastNamed, eitherNamed, searchPair, lumpSearch, mapSearch};
 use refusal::Check;
 use refusal::Refusal;
@@ -27,7 +27,7 @@ fn last_named(wad: &[u8], name: &[u8]) -> Marker
     ensures { λ r. ⌜ r ≡ lastNamed (now (wad .entry)) (now (name .entry)) ⌝ }
 {
     if name.len() == 8 {
-        let search = wad::last_named(wad::directory_of(wad), wad::entry_count(wad), name);
+        let search = wad::last_named(directory::directory_of(wad), directory::entry_count(wad), name);
         return search.marker;
     }
     Marker::Refused(Refusal::MapMissing)
@@ -66,10 +66,10 @@ fn either_named(base: &[u8], patch: &[u8], name: &[u8]) -> PairSearch
 fn search_pair(base: &[u8], patch: &[u8], name: &[u8], asked: Check) -> PairSearch
     ensures { λ r. ⌜ r ≡ searchPair (now (base .entry)) (now (patch .entry)) (now (name .entry)) asked ⌝ }
 {
-    if let Check::Refused(r) = wad::judge_file(patch) {
+    if let Check::Refused(r) = directory::judge_file(patch) {
         return not_searched(PATCH, r);
     }
-    if let Check::Refused(r) = wad::judge_file(base) {
+    if let Check::Refused(r) = directory::judge_file(base) {
         return not_searched(BASE, r);
     }
     if let Check::Refused(r) = asked {

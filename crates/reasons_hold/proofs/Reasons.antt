@@ -15,10 +15,10 @@ use Rattle.refusal.specs.declared.Check.the-variants.{Pass, Refused}
 use Rattle.refusal.specs.Table.{numberOf, recordOf}
 use Rattle.wad.specs.declared.map.Marker.{Marker}
 use Rattle.wad.specs.declared.map.Marker.the-variants.{Entry, Refused as NoMarker}
-use Rattle.wad.specs.Header.{headOf, entryCount}
-use Rattle.wad.specs.Entries.{directoryOf}
+use Rattle.directory.specs.Header.{headOf, entryCount}
+use Rattle.directory.specs.Entries.{directoryOf}
 use Rattle.wad.specs.Map.{markerAnswer}
-use Rattle.wad.proofs.Listing.{file-header, file-sound}
+use Rattle.directory.proofs.Listing.{file-header, file-sound}
 use Rattle.wad.proofs.Numbers.{marker-atMost}
 use Rattle.field.specs.Records.{recordBytes}
 use Rattle.linedef.specs.Linedefs.{linedefSize}

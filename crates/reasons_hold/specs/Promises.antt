@@ -13,8 +13,8 @@ use Rattle.refusal.specs.Table.{numberOf, recordOf}
 use Rattle.range.specs.declared.Field.{Field}
 use Rattle.range.specs.Fields.{FirstOut}
 use Rattle.wad.specs.declared.map.Marker.the-variants.{Entry}
-use Rattle.wad.specs.Header.{headOf, entryCount}
-use Rattle.wad.specs.Entries.{directoryOf}
+use Rattle.directory.specs.Header.{headOf, entryCount}
+use Rattle.directory.specs.Entries.{directoryOf}
 use Rattle.wad.specs.Map.{markerAnswer}
 use Rattle.blocklist.specs.Reasons.{SizeTold}
 use Rattle.lump.specs.Lumps.{mapLumps}

@@ -7,8 +7,8 @@ ghost use lib.Dec.{eqb};
 ghost use Rattle.refusal.specs.declared.Check.the-variants.{Pass};
 ghost use Rattle.refusal.specs.declared.Refusal.the-variants.{RenumberLength};
 ghost use Rattle.refusal.specs.Checks.{unless};
-ghost use Rattle.wad.specs.Header.{headOf, entryCount};
-ghost use Rattle.wad.specs.Entries.{fileCheck};
+ghost use Rattle.directory.specs.Header.{headOf, entryCount};
+ghost use Rattle.directory.specs.Entries.{fileCheck};
 ghost use Rattle.node.specs.Nodes.{nodesOf};
 ghost use Rattle.graph.specs.Judging.{Judgeable, cleared};
 ghost use Rattle.graph.specs.Inner.Searching.{Searchable};
@@ -53,8 +53,8 @@ fn renumber_at(
     requires { ⌜ (fileCheck (now wad) ≡ Pass) × (marker < entryCount (headOf (now wad))) ⌝ }
     ensures { λ r. ⌜ RenumbersAt (now (wad .entry)) marker (now (words .entry)) (now (order .entry)) (now (out .entry)) r (now (words .exit)) (now (out .exit)) ⌝ }
 {
-    let dir = wad::directory_of(wad);
-    let count = wad::entry_count(wad);
+    let dir = directory::directory_of(wad);
+    let count = directory::entry_count(wad);
     if let Check::Refused(r) = level::judge_below(wad, dir, count, marker, words.len()) {
         return Renumbering::Refused(r);
     }

@@ -7,8 +7,8 @@ use lib.Dec.{ltb}
 use Rattle.refusal.specs.declared.Refusal.the-variants.{EntryNumber}
 use Rattle.refusal.specs.declared.Check.{Check}
 use Rattle.refusal.specs.Checks.{unless, _andThen_}
-use Rattle.wad.specs.Header.{headOf, entryCount}
-use Rattle.wad.specs.Entries.{directoryOf, fileCheck}
+use Rattle.directory.specs.Header.{headOf, entryCount}
+use Rattle.directory.specs.Entries.{directoryOf, fileCheck}
 use Rattle.run.specs.Games.{gameAt, gameBy, gameAnswer}
 
 -- what is answered by what the file, the marker's number and the eleventh entry after it are

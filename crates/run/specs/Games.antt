@@ -7,8 +7,8 @@ use Rattle.refusal.specs.declared.Check.{Check}
 use Rattle.refusal.specs.declared.Check.the-variants.{Pass, Refused}
 use Rattle.refusal.specs.declared.Refusal.the-variants.{EntryNumber}
 use Rattle.refusal.specs.Checks.{unless, _andThen_}
-use Rattle.wad.specs.Header.{headOf, entryCount}
-use Rattle.wad.specs.Entries.{directoryOf, fileCheck}
+use Rattle.directory.specs.Header.{headOf, entryCount}
+use Rattle.directory.specs.Entries.{directoryOf, fileCheck}
 use Rattle.run.specs.declared.Game.{Game}
 use Rattle.run.specs.declared.Game.the-variants.{Doom, Hexen, Refused as NoGame}
 use Rattle.run.specs.Run.{namedOk}

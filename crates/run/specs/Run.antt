@@ -6,7 +6,7 @@ use lib.Dec.{ltb, eqb}
 use Rattle.refusal.specs.declared.Check.{Check}
 use Rattle.refusal.specs.declared.Refusal.the-variants.{MarkerRun}
 use Rattle.refusal.specs.Checks.{unless, _andThen_}
-use Rattle.wad.specs.Entries.{entryName}
+use Rattle.directory.specs.Entries.{entryName}
 use Rattle.wad.specs.Lump.{entrySize}
 use Rattle.name.specs.Names.{sameName}
 use Rattle.table.specs.Lumps.{lumpName}

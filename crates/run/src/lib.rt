@@ -20,7 +20,7 @@ fn named_ok(dir: &[u8], count: usize, i: usize, name: &[u8]) -> bool
     ensures { λ r. ⌜ r ≡ namedOk (now (dir .entry)) count i (now (name .entry)) ⌝ }
 {
     if i < count {
-        return name::same_name(wad::part(dir, 16 * i + 8, 8), name);
+        return name::same_name(directory::part(dir, 16 * i + 8, 8), name);
     }
     false
 }
@@ -72,14 +72,14 @@ pub fn game_at(dir: &[u8], count: usize, marker: usize) -> bool
 pub fn map_game(wad: &[u8], marker: usize) -> Game
     ensures { λ r. ⌜ r ≡ gameAnswer (now (wad .entry)) marker ⌝ }
 {
-    if let Check::Refused(r) = wad::judge_file(wad) {
+    if let Check::Refused(r) = directory::judge_file(wad) {
         return Game::Refused(r);
     }
-    let count = wad::entry_count(wad);
+    let count = directory::entry_count(wad);
     if count <= marker {
         return Game::Refused(Refusal::EntryNumber);
     }
-    if game_at(wad::directory_of(wad), count, marker) {
+    if game_at(directory::directory_of(wad), count, marker) {
         return Game::Hexen;
     }
     Game::Doom

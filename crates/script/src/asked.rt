@@ -12,7 +12,7 @@ pub fn lent(s: &[u8], from: usize, to: usize) -> &[u8] {
 
 // A number of 32 bits.
 pub fn argument(with: &[u8], at: usize) -> usize {
-    let bytes = wad::part_if(with, at, 4);
+    let bytes = directory::part_if(with, at, 4);
     if bytes.len() == 4 {
         return endian::u32_at(bytes, 0) as usize;
     }

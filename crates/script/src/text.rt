@@ -14,7 +14,7 @@ pub fn minus(m: usize, n: usize) -> usize {
 }
 
 pub fn part(s: &[u8], from: usize, to: usize) -> &[u8] {
-    wad::part_if(s, from, minus(to, from))
+    directory::part_if(s, from, minus(to, from))
 }
 
 pub fn rest(s: &[u8], from: usize) -> &[u8] {

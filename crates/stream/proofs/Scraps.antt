@@ -14,7 +14,7 @@ use lib.ListN.{length, getD, take, drop, take-append-drop}
 use lib.Seq.{take-all, take-length, drop-length, drop-cons}
 use Rattle.endian.specs.Unsigned.{u16At}
 use Rattle.stream.specs.declared.Stream.{Stream}
-use Rattle.wad.specs.Header.{mostBytes}
+use Rattle.directory.specs.Header.{mostBytes}
 use Rattle.stream.specs.Scraps.{badAt, byteCounted, noted, stepOf, fed}
 use Rattle.stream.specs.Inner.{Low, FirstBad, lowAfter}
 

@@ -18,7 +18,7 @@ use Rattle.field.proofs.Records.{u16At-recordBytes}
 use Rattle.reference.specs.References.{sidedefCheck}
 use Rattle.size.specs.Sizes.{sizeCheck}
 use Rattle.stream.specs.declared.Stream.{Stream}
-use Rattle.wad.specs.Header.{mostBytes}
+use Rattle.directory.specs.Header.{mostBytes}
 use Rattle.stream.specs.Scraps.{started, badAt, byteCounted, noted, stepOf, fed, recordsCheck, totalCheck, sectorsCheck, streamVerdict}
 use Rattle.stream.specs.Whole.{lumpsWith, lumpCheck, fedAll, VerdictWhole, CutsAlike, TotalStops}
 use Rattle.stream.proofs.Scraps.{fed-none, fed-cons, fed-append}

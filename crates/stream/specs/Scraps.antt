@@ -7,7 +7,7 @@ use lib.Dec.{leb, ltb, eqb}
 use Rattle.refusal.specs.declared.Check.{Check}
 use Rattle.refusal.specs.declared.Refusal.the-variants.{RecordSize, RecordCount, SidedefReference, StreamSectors, StreamLength}
 use Rattle.refusal.specs.Checks.{unless, _andThen_}
-use Rattle.wad.specs.Header.{mostBytes}
+use Rattle.directory.specs.Header.{mostBytes}
 use Rattle.record.specs.Sidedefs.{sidedefSize}
 use Rattle.table.specs.Lumps.{SIDEDEFS, leastCount, mostCount}
 use Rattle.stream.specs.declared.Stream.{Stream}

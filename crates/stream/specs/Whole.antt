@@ -12,7 +12,7 @@ use Rattle.table.specs.Lumps.{SIDEDEFS}
 use Rattle.size.specs.Sizes.{sizeCheck}
 use Rattle.reference.specs.References.{sidedefCheck}
 use Rattle.stream.specs.declared.Stream.{Stream}
-use Rattle.wad.specs.Header.{mostBytes}
+use Rattle.directory.specs.Header.{mostBytes}
 use Rattle.stream.specs.Scraps.{started, fed, sectorsCheck, totalCheck, streamVerdict}
 
 -- a map's lumps up to SIDEDEFS, the others without bytes

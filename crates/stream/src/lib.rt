@@ -5,13 +5,13 @@ ghost use mathlib.Core.Bool.{cond};
 ghost use Prim.Native.Nat.{_+_, _%_, _≤_, _<_};
 ghost use lib.ListN.{length};
 ghost use Rattle.record.specs.Sidedefs.{sidedefSize};
-ghost use Rattle.wad.specs.Header.{mostBytes};
+ghost use Rattle.directory.specs.Header.{mostBytes};
 ghost use Rattle.stream.specs.Scraps.{highPlace, started, stepOf, fed, sectorsCheck, totalCheck, recordsCheck, streamVerdict};
 ghost use Rattle.stream.specs.Inner.{FirstBad, lowAfter};
 use record::Sidedef;
 use refusal::Check;
 use refusal::Refusal;
-use wad::MOST_BYTES;
+use directory::MOST_BYTES;
 
 // Where the two bytes of a sidedef's sector stand in its record.
 const LOW: usize = 28;

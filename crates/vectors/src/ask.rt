@@ -40,7 +40,7 @@ fn directory(file: &[u8]) {
 // Where an entry lies, after its bytes.
 fn entry(file: &[u8], with: &[u8]) {
     let a = export_files::meshpigeon_entry(file, script::long_argument(with));
-    print::bytes(wad::part_if(file, a.offset, a.size));
+    print::bytes(directory::part_if(file, a.offset, a.size));
     print::answer(a.status, a.offset, a.size);
 }
 

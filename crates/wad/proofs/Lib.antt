@@ -1,8 +1,5 @@
--- The laws of WAD files. Assumes nothing.
+-- The laws of entries and of the search. Assumes nothing.
 
-pub mod Slices
-pub mod Listing
 pub mod Answers
 pub mod Search
-pub mod Longest
 pub mod Numbers

@@ -13,8 +13,8 @@ use Rattle.refusal.specs.Table.{numberOf}
 use Rattle.refusal.proofs.Numbers.{AtMost, unless-atMost, andThen-atMost, each-atMost}
 use Rattle.wad.specs.declared.map.Marker.{Marker}
 use Rattle.wad.specs.declared.map.Marker.the-variants.{Entry, Refused as NoMarker}
-use Rattle.wad.specs.Header.{lengthOk, markOk, entryCountOk, boundsOk, headOf, entryCount}
-use Rattle.wad.specs.Entries.{offsetAt, sizeAt, entryName, insideOk, entryCheck, directoryOf, directoryCheck}
+use Rattle.directory.specs.Header.{lengthOk, markOk, entryCountOk, boundsOk, headOf, entryCount}
+use Rattle.directory.specs.Entries.{offsetAt, sizeAt, entryName, insideOk, entryCheck, directoryOf, directoryCheck}
 use Rattle.name.specs.Names.{nameOk, sameName, mapNameOk}
 use Rattle.wad.proofs.Search.{findMarker-found, findMarker-on, findMarker-none}
 use Rattle.wad.specs.Map.{findMarker, found, markerAnswer}

@@ -5,7 +5,7 @@ use mathlib.Core.List.{List}
 use mathlib.Core.Path.{_≡_, refl, sym, ap, _∙_}
 use Rattle.refusal.specs.declared.Refusal.the-variants.{MapMissing}
 use Rattle.wad.specs.declared.map.Marker.the-variants.{Entry, Refused as NoMarker}
-use Rattle.wad.specs.Entries.{entryName}
+use Rattle.directory.specs.Entries.{entryName}
 use Rattle.name.specs.Names.{sameName}
 use Rattle.wad.specs.Map.{findMarker}
 

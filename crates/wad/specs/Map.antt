@@ -10,8 +10,8 @@ use Rattle.refusal.specs.Checks.{unless, _andThen_}
 use Rattle.wad.specs.declared.map.Marker.{Marker}
 use Rattle.wad.specs.declared.map.Marker.the-variants.{Entry, Refused as NoMarker}
 use Rattle.wad.specs.declared.map.MarkerSearch.{MarkerSearch}
-use Rattle.wad.specs.Header.{headOf, entryCount}
-use Rattle.wad.specs.Entries.{entryName, directoryOf, directoryCheck, fileCheck}
+use Rattle.directory.specs.Header.{headOf, entryCount}
+use Rattle.directory.specs.Entries.{entryName, directoryOf, directoryCheck, fileCheck}
 use Rattle.name.specs.Names.{sameName, mapNameOk}
 
 -- the last of the first `n` entries that has the name

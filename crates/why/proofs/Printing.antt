@@ -15,8 +15,8 @@ use Rattle.refusal.specs.Table.{numberOf, recordOf}
 use Rattle.refusal.proofs.Checks.{both}
 use Rattle.range.specs.Fields.{putField}
 use Rattle.wad.specs.declared.map.Marker.the-variants.{Entry, Refused as NoMarker}
-use Rattle.wad.specs.Header.{headOf, entryCount}
-use Rattle.wad.specs.Entries.{directoryOf}
+use Rattle.directory.specs.Header.{headOf, entryCount}
+use Rattle.directory.specs.Entries.{directoryOf}
 use Rattle.wad.specs.Map.{markerAnswer}
 use Rattle.route.specs.Heights.{graphVerdict}
 use Rattle.lump.specs.Lumps.{mapLumps}

@@ -4,8 +4,8 @@ ghost use mathlib.Core.Path.{_≡_};
 ghost use Prim.Native.Nat.{_*_, _+_, _<_, _≤_};
 ghost use lib.ListN.{length};
 ghost use Rattle.refusal.specs.declared.Check.the-variants.{Pass};
-ghost use Rattle.wad.specs.Header.{headOf, entryCount};
-ghost use Rattle.wad.specs.Entries.{fileCheck};
+ghost use Rattle.directory.specs.Header.{headOf, entryCount};
+ghost use Rattle.directory.specs.Entries.{fileCheck};
 ghost use Rattle.node.specs.Nodes.{nodesOf};
 ghost use Rattle.graph.specs.Judging.{Judgeable};
 ghost use Rattle.lump.specs.Lumps.{mapLumps};
@@ -47,8 +47,8 @@ fn judge_at(wad: &[u8], marker: usize, words: &mut [u16], out: &mut [u8]) -> Rea
     requires { ⌜ (fileCheck (now wad) ≡ Pass) × (marker < entryCount (headOf (now wad))) ⌝ }
     ensures { λ r. ⌜ ReasonToldAt (now (wad .entry)) marker (now (words .entry)) (now (out .entry)) r (now (words .exit)) (now (out .exit)) ⌝ }
 {
-    let dir = wad::directory_of(wad);
-    let count = wad::entry_count(wad);
+    let dir = directory::directory_of(wad);
+    let count = directory::entry_count(wad);
     if let Check::Refused(r) = level::judge_below(wad, dir, count, marker, words.len()) {
         return tell_refusal(wad, dir, count, marker, r, out);
     }

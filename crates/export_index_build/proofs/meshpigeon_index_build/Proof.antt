@@ -39,7 +39,7 @@ use denote.Triple.Walked.{says, Stays, stay-slice, stay-none-slice, walkOf, goes
 use denote.Exit.{yes}
 use denote.Struct.Laws as LL
 use Rattle.layout.specs.Buffers.{bufferAfter}
-use Rattle.wad.specs.Header.{headOf, entryCount}
+use Rattle.directory.specs.Header.{headOf, entryCount}
 use Rattle.index.specs.declared.IndexRecord.{IndexRecord}
 use Rattle.index.specs.Index.{recordPlace, sortedRecords, indexBytes}
 use Rattle.refusal.specs.declared.Check.{Check}

@@ -9,10 +9,10 @@ use denote.Ref.{now}
 use Rattle.refusal.specs.declared.Refusal.the-variants.{MapMissing}
 use Rattle.wad.specs.declared.map.Marker.the-variants.{Refused as NoMarker}
 use Rattle.wad.specs.declared.map.MarkerSearch.{MarkerSearch}
-use Rattle.wad.specs.Header.{headOf, entryCount}
-use Rattle.wad.specs.Entries.{directoryOf}
+use Rattle.directory.specs.Header.{headOf, entryCount}
+use Rattle.directory.specs.Entries.{directoryOf}
 use Rattle.wad.specs.Map.{findMarker, counted}
-use Rattle.wad.proofs.Listing.{file-header}
+use Rattle.directory.proofs.Listing.{file-header}
 use Rattle.pair_search.proofs.Searching.{counted-marker}
 use Rattle.pair_search.proofs.last_named.Statement.{statement}
 use Rattle.pair_search.proofs.last_named.Tie as tie

@@ -4,7 +4,7 @@ use mathlib.Core.Path.{_≡_, sym, _∙_}
 use borrow.Author.Needs.{needs}
 use denote.Ref.{now}
 use Rattle.refusal.specs.declared.Check.the-variants.{Pass}
-use Rattle.wad.specs.Entries.{fileCheck}
+use Rattle.directory.specs.Entries.{fileCheck}
 use Rattle.pair_search.specs.Search.{noFile, baseFile, patchFile, afterCheck, eitherNamed}
 use Rattle.pair_search.proofs.Searching.{after-refused, after-pass}
 use Rattle.pair_search.proofs.search_pair.Statement.{statement}

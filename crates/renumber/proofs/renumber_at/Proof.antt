@@ -7,9 +7,9 @@ use denote.Ref.{now}
 use lib.ListN.{length}
 use Rattle.refusal.specs.declared.Check.the-variants.{Pass}
 use Rattle.refusal.proofs.Checks.{andThen-pass}
-use Rattle.wad.specs.Header.{headOf, entryCount}
-use Rattle.wad.specs.Entries.{directoryOf}
-use Rattle.wad.proofs.Listing.{file-header}
+use Rattle.directory.specs.Header.{headOf, entryCount}
+use Rattle.directory.specs.Entries.{directoryOf}
+use Rattle.directory.proofs.Listing.{file-header}
 use Rattle.table.specs.Lumps.{NODES}
 use Rattle.node.specs.Nodes.{nodesOf}
 use Rattle.graph.specs.Judging.{Judgeable, cleared}

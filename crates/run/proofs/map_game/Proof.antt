@@ -6,9 +6,9 @@ use borrow.Author.Needs.{needs}
 use borrow.Author.Tests.{lt-ltb, le-ltb}
 use denote.Ref.{now}
 use Rattle.refusal.specs.declared.Check.the-variants.{Pass}
-use Rattle.wad.specs.Header.{headOf, entryCount}
-use Rattle.wad.specs.Entries.{directoryOf, fileCheck}
-use Rattle.wad.proofs.Listing.{file-header}
+use Rattle.directory.specs.Header.{headOf, entryCount}
+use Rattle.directory.specs.Entries.{directoryOf, fileCheck}
+use Rattle.directory.proofs.Listing.{file-header}
 use Rattle.run.specs.Games.{gameAt}
 use Rattle.run.proofs.Telling.{game-by}
 use Rattle.run.proofs.map_game.Statement.{statement}

@@ -6,7 +6,7 @@ use borrow.Author.Needs.{needs}
 use denote.Ref.{now}
 use lib.ListN.{length, getD, take, drop}
 use Rattle.stream.specs.declared.Stream.{Stream}
-use Rattle.wad.specs.Header.{mostBytes}
+use Rattle.directory.specs.Header.{mostBytes}
 use Rattle.stream.specs.Scraps.{fed}
 use Rattle.stream.proofs.Scraps.{fed-empty, fed-full, fed-first, step-high}
 use Rattle.stream.proofs.feed.Statement.{statement}

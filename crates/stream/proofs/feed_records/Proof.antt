@@ -7,7 +7,7 @@ use denote.Ref.{now}
 use lib.ListN.{length, take}
 use lib.Seq.{length-take-le}
 use Rattle.stream.specs.declared.Stream.{Stream}
-use Rattle.wad.specs.Header.{mostBytes}
+use Rattle.directory.specs.Header.{mostBytes}
 use Rattle.stream.specs.Scraps.{fed}
 use Rattle.stream.proofs.Scraps.{fed-cut}
 use Rattle.stream.proofs.feed_records.Statement.{statement}

@@ -11,7 +11,7 @@ use lib.Seq.{sets, length-sets}
 use Rattle.refusal.specs.declared.Check.{Check}
 use Rattle.refusal.specs.declared.Check.the-variants.{Pass}
 use Rattle.layout.proofs.Stores.{sets-append}
-use Rattle.wad.specs.Header.{headOf, entryCount}
+use Rattle.directory.specs.Header.{headOf, entryCount}
 use Rattle.index.specs.Index.{indexHeadSize, recordPlace, indexHead}
 use Rattle.index_build.specs.declared.Building.the-variants.{Written}
 use Rattle.index_build.specs.Building.{buildCheck, buildingOf}

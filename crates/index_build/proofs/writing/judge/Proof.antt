@@ -10,8 +10,8 @@ use Rattle.refusal.specs.declared.Check.the-variants.{Pass}
 use Rattle.refusal.specs.declared.Refusal.the-variants.{IndexRoom}
 use Rattle.refusal.specs.Checks.{unless}
 use Rattle.refusal.proofs.Checks.{refused-then, pass-then}
-use Rattle.wad.specs.Entries.{fileCheck}
-use Rattle.wad.proofs.Listing.{file-header, file-sound}
+use Rattle.directory.specs.Entries.{fileCheck}
+use Rattle.directory.proofs.Listing.{file-header, file-sound}
 use Rattle.index.specs.Index.{recordPlace}
 use Rattle.index_build.proofs.writing.judge.Statement.{statement}
 use Rattle.index_build.proofs.writing.judge.Tie as tie

@@ -9,9 +9,9 @@ use lib.ListN.{getD}
 use lib.Seq.{sets}
 use Rattle.endian.specs.Unsigned.{u16Bytes}
 use Rattle.layout.proofs.LaidOut.{laid-same}
-use Rattle.wad.specs.Header.{headOf, entryCount}
-use Rattle.wad.specs.Entries.{directoryOf}
-use Rattle.wad.proofs.Listing.{file-header, file-sound}
+use Rattle.directory.specs.Header.{headOf, entryCount}
+use Rattle.directory.specs.Entries.{directoryOf}
+use Rattle.directory.proofs.Listing.{file-header, file-sound}
 use Rattle.index.specs.Index.{indexHeadSize}
 use Rattle.index_order.specs.Orders.{entryAt, Ordered}
 use Rattle.index_build.proofs.Numbers.{numbers}
