@@ -8,8 +8,8 @@ ghost use Rattle.blockmap.specs.Blockmap.{wordsOf, wordAt, cellsOf};
 ghost use Rattle.range.specs.Fields.{firstOut};
 ghost use Rattle.directory.specs.Header.{mostBytes};
 ghost use Rattle.blocklist.specs.Fields.{sizeField, wordField, lengthFields, numberFields, cellFields, fieldsIfCell, blockmapFields, FitsIf};
-use range::Field;
 use directory::MOST_BYTES;
+use range::Field;
 
 // The mark that ends a list.
 const LIST_END: usize = 65535;

@@ -89,4 +89,3 @@ fn chosen_child(nodes: &[u8], x: i16, y: i16, node: usize) -> usize
         Choice::Left => left,
     }
 }
-

@@ -16,8 +16,8 @@ ghost use Rattle.canvas.specs.Inner.{Room, Stroke, Both, AllColumns};
 use picture::PictureVerdict;
 use picture_header::height_of;
 use picture_header::judge_header;
-use posts::skip_posts;
 use picture_header::width_of;
+use posts::skip_posts;
 use refusal::Check;
 use refusal::Refusal;
 

@@ -117,7 +117,11 @@ fn game_in(wad: &[u8], marker: usize) -> bool
     requires { ⌜ MapIn (now wad) marker ⌝ }
     ensures { λ r. ⌜ r ≡ gameIn (now (wad .entry)) marker ⌝ }
 {
-    run::game_at(directory::directory_of(wad), directory::entry_count(wad), marker)
+    run::game_at(
+        directory::directory_of(wad),
+        directory::entry_count(wad),
+        marker,
+    )
 }
 
 fn same_game(a: bool, b: bool) -> bool

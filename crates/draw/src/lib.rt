@@ -1,7 +1,7 @@
 // The draw order: for a camera point the subsectors of a node graph, front first (W-208). The walk of a child and the walk of a
 // node call each other, and the nodes that may still be passed fall with each node.
-use node::Choice;
 use built::Node;
+use node::Choice;
 use refusal::Check;
 use refusal::Refusal;
 ghost use mathlib.Core.Path.{_≡_};

@@ -4,10 +4,10 @@ ghost use Rattle.directory.specs.Entries.{directoryAnswer};
 ghost use Rattle.wad.specs.Lump.{entryAnswer};
 ghost use Rattle.wad.specs.Map.{searchAnswer};
 ghost use Rattle.export_files.specs.Files.{directoryOut, entryOut, markerOut};
+use directory::Directory;
 use status::Status;
 use status::nothing_refused;
 use status::refused;
-use directory::Directory;
 use wad::Entry;
 use wad::Marker;
 

@@ -2,8 +2,8 @@
 ghost use mathlib.Core.Path.{_≡_};
 ghost use Rattle.export_pictures.specs.Pictures.{pictureOut, pictureJudged, PicturePainted, PictureWritten};
 use encode::Encoding;
-use picture_header::Picture;
 use picture::PictureVerdict;
+use picture_header::Picture;
 use status::LengthAnswer;
 use status::Status;
 use status::length_given;

@@ -33,5 +33,9 @@ pub fn judge(wad: &[u8], index: &[u8]) -> Check
     if let Check::Refused(r) = judge_head(wad, index) {
         return Check::Refused(r);
     }
-    judge_records(directory::directory_of(wad), directory::entry_count(wad), index)
+    judge_records(
+        directory::directory_of(wad),
+        directory::entry_count(wad),
+        index,
+    )
 }

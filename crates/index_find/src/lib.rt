@@ -76,7 +76,12 @@ pub fn find(wad: &[u8], index: &[u8], name: &[u8]) -> MarkerSearch
         return nothing_compared(r);
     }
     if name.len() == 8 {
-        return look_up(directory::directory_of(wad), directory::entry_count(wad), index, name);
+        return look_up(
+            directory::directory_of(wad),
+            directory::entry_count(wad),
+            index,
+            name,
+        );
     }
     nothing_compared(Refusal::MapMissing)
 }

@@ -10,10 +10,10 @@ ghost use Rattle.graph.specs.Judging.{Judgeable};
 ghost use Rattle.lump.specs.Lumps.{mapLumps};
 ghost use Rattle.level.specs.Inner.{AnsweredBy};
 ghost use Rattle.level.specs.Verdict.{mapCheck, graphAnswer, Answered, AnsweredAt};
-use route::Graph;
 use built::Node;
 use refusal::Check;
 use refusal::Refusal;
+use route::Graph;
 use wad::Marker;
 
 // What is answered of a map.
@@ -40,7 +40,13 @@ pub fn judge_at(wad: &[u8], marker: usize, words: &mut [u16]) -> Verdict
     ensures { λ r. ⌜ AnsweredAt (now (wad .entry)) marker (now (words .entry)) r (now (words .exit)) ⌝ }
 {
     let dir = directory::directory_of(wad);
-    if let Check::Refused(r) = judge_below(wad, dir, directory::entry_count(wad), marker, words.len()) {
+    if let Check::Refused(r) = judge_below(
+        wad,
+        dir,
+        directory::entry_count(wad),
+        marker,
+        words.len(),
+    ) {
         return Verdict::Refused(r);
     }
     judge_graph(lump::map_lump(wad, dir, marker, Node::PLACE), marker, words)

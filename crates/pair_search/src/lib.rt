@@ -27,7 +27,11 @@ fn last_named(wad: &[u8], name: &[u8]) -> Marker
     ensures { λ r. ⌜ r ≡ lastNamed (now (wad .entry)) (now (name .entry)) ⌝ }
 {
     if name.len() == 8 {
-        let search = wad::last_named(directory::directory_of(wad), directory::entry_count(wad), name);
+        let search = wad::last_named(
+            directory::directory_of(wad),
+            directory::entry_count(wad),
+            name,
+        );
         return search.marker;
     }
     Marker::Refused(Refusal::MapMissing)

@@ -8,10 +8,10 @@ ghost use Rattle.record.specs.Sidedefs.{sidedefSize};
 ghost use Rattle.directory.specs.Header.{mostBytes};
 ghost use Rattle.stream.specs.Scraps.{highPlace, started, stepOf, fed, sectorsCheck, totalCheck, recordsCheck, streamVerdict};
 ghost use Rattle.stream.specs.Inner.{FirstBad, lowAfter};
+use directory::MOST_BYTES;
 use record::Sidedef;
 use refusal::Check;
 use refusal::Refusal;
-use directory::MOST_BYTES;
 
 // Where the two bytes of a sidedef's sector stand in its record.
 const LOW: usize = 28;

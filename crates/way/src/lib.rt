@@ -1,8 +1,8 @@
 // Why a node graph is judged as it is (W-211): the choices that lead into a loop, or a route as long as the depth. The search that
 // judges the graph leaves both in its marks; they are printed before the words are cleared.
+use graph::Search;
 use node::Choice;
 use route::Graph;
-use graph::Search;
 ghost use mathlib.Core.Path.{_≡_};
 ghost use mathlib.Core.Bool.{cond};
 ghost use mathlib.Core.List.{_++_};
