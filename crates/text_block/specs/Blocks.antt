@@ -6,7 +6,7 @@ use mathlib.Core.List.{List}
 use lib.Dec.{eqb, leb}
 use lib.ListN.{getD, set, replicate}
 use Rattle.text_token.specs.declared.Token.{Token}
-use Rattle.text_token.specs.Bytes.{semicolon, openBrace}
+use Rattle.text_byte.specs.Bytes.{semicolon, openBrace}
 use Rattle.text_field.specs.declared.Scope.{Scope}
 use Rattle.text_field.specs.declared.Scope.the-variants.{Top, Vertex, Linedef, Sidedef, Sector, Thing, Unknown}
 use Rattle.text_field.specs.Table.{isRequired}

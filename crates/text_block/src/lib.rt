@@ -9,9 +9,9 @@ ghost use Rattle.text_field.specs.Table.{table};
 ghost use Rattle.text_field.specs.Names.{every, scopeNumber};
 ghost use Rattle.text_block.specs.declared.Asked.the-variants.{Numbered};
 ghost use Rattle.text_block.specs.Blocks.{countOf, counted, isFull, isAsked, stopsThere, noPlaces, stored, filed, isGiven, allGiven};
+use text_byte as bytes;
 use text_field::Scope;
 use text_token::Token;
-use text_token::bytes;
 
 // What is wanted next: a statement; `=` behind an identifier, from its first byte to the byte behind it; a value for a name of the scope,
 // counted from 1, 0 for an unknown one; `;` behind the value at a place for such a name; or nothing more.

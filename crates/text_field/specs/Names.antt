@@ -4,7 +4,7 @@ use mathlib.Core.Bool.{Bool, true, false, not, _&&_, cond}
 use mathlib.Core.List.{List}
 use lib.Dec.{eqb, ltb}
 use lib.ListN.{length, getD}
-use Rattle.text_token.specs.Bytes.{lowerAt}
+use Rattle.text_byte.specs.Bytes.{lowerAt}
 use Rattle.text_field.specs.declared.Scope.{Scope}
 use Rattle.text_field.specs.declared.Scope.the-variants.{Top, Vertex, Linedef, Sidedef, Sector, Thing, Unknown}
 use Rattle.text_field.specs.Table.{entryAt, nameRoom, rowSize}

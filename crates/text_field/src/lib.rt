@@ -3,10 +3,10 @@ ghost use mathlib.Core.Bool.{cond};
 ghost use mathlib.Core.Path.{_≡_};
 ghost use Prim.Native.Nat.{_+_, _-_, _*_, _≤_, _<_};
 ghost use lib.ListN.{length};
-ghost use Rattle.text_token.specs.Bytes.{lower};
+ghost use Rattle.text_byte.specs.Bytes.{lower};
 ghost use Rattle.text_field.specs.Table.{table, entryAt, holdsOf, defaultOf, isRequired, nameRoom, rowSize};
 ghost use Rattle.text_field.specs.Names.{every, letterAt, sameAt, isName, nameIn, firstRow, rowCount, fieldNamed, scopeNumber, scopeOf, kindNamed, zeroIds};
-use text_token::bytes;
+use text_byte as bytes;
 
 // How many rows there are, the bytes of each, and the room of a name in it.
 pub const ROWS: usize = 91;

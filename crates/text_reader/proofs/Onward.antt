@@ -12,7 +12,8 @@ use Rattle.refusal.specs.declared.Check.{Check}
 use Rattle.refusal.specs.declared.Check.the-variants.{Pass, Refused}
 use Rattle.text_token.specs.declared.Token.{Token}
 use Rattle.text_token.specs.Tokens.{wordOf, tokenAt, Placed, bytesOf}
-use Rattle.text_token.proofs.Tokens.{cond-on, tokenAt-placed}
+use Rattle.text_byte.proofs.Spans.{cond-on}
+use Rattle.text_token.proofs.Tokens.{tokenAt-placed}
 use Rattle.text_value.specs.declared.Reading.{Reading}
 use Rattle.text_value.specs.Values.{tokenRead}
 use Rattle.text_field.specs.declared.Scope.{Scope}

@@ -3,7 +3,7 @@ use Prim.Native.Nat.{ℕ, zero, suc, _+_, _-_, _≤_, _<_}
 use mathlib.Core.Bool.{Bool, true, false, cond}
 use mathlib.Core.Path.{_≡_, refl, sym, ap, _∙_, subst}
 use native.Mathlib.Omega.{arith}
-use Rattle.text_token.proofs.Tokens.{cond-on}
+use Rattle.text_byte.proofs.Spans.{cond-on}
 use Rattle.text_reader.specs.Runs.{runs}
 
 module _ {S : Type 0} (going : S → Bool) (step : S → S) (at : S → ℕ) (end : ℕ) where

@@ -15,9 +15,10 @@ use Rattle.refusal.specs.declared.Check.the-variants.{Pass, Refused}
 use Rattle.refusal.specs.declared.Refusal.the-variants.{TextMissing}
 use Rattle.refusal.specs.Checks.{unless, _andThen_}
 use Rattle.text_token.specs.declared.Token.{Token}
-use Rattle.text_token.specs.Bytes.{semicolon}
+use Rattle.text_byte.specs.Bytes.{semicolon}
 use Rattle.text_token.specs.Tokens.{wordForm, stringForm, tokenAt, wordOf}
-use Rattle.text_token.proofs.Tokens.{cond-on, tokenAt-placed}
+use Rattle.text_byte.proofs.Spans.{cond-on}
+use Rattle.text_token.proofs.Tokens.{tokenAt-placed}
 use Rattle.text_value.specs.declared.Reading.{Reading}
 use Rattle.text_value.specs.declared.Value.the-variants.{Text}
 use Rattle.text_value.specs.declared.Reading.the-variants.{Good, NoValue}

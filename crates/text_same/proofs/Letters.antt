@@ -7,10 +7,10 @@ use native.Mathlib.Omega.{arith}
 use borrow.Author.Tests.{eqb-true, ne-eqb, lt-leb, ltb-true, ltb-false}
 use lib.Dec.{eqb, ltb, leb}
 use lib.ListN.{getD, length}
-use Rattle.text_token.specs.Bytes.{within, isDigit, isLetter, isNameByte, lowerAt}
-use Rattle.text_token.specs.Tokens.{spanEnd}
-use Rattle.text_token.proofs.Tokens.{within-true}
-use Rattle.text_token.proofs.Scans.{span-stop, span-done}
+use Rattle.text_byte.specs.Bytes.{within, isDigit, isLetter, isNameByte, lowerAt}
+use Rattle.text_byte.specs.Spans.{spanEnd}
+use Rattle.text_byte.proofs.Bytes.{within-true}
+use Rattle.text_byte.proofs.Spans.{span-stop, span-done}
 use Rattle.text_value.specs.declared.Reading.{Reading}
 use Rattle.text_value.specs.declared.Reading.the-variants.{NoValue}
 use Rattle.text_value.specs.Numbers.{zeroDigit, plusSign, minusSign, digitsFrom, digitsEnd, hexOk, hexEnd, smallX, wholeOk, decimalOk, isSign, behindSign}

@@ -11,14 +11,14 @@ use lib.Ieee.{Float}
 use lib.ListN.{getD, length, take, drop}
 use lib.Seq.{drop-drop}
 use Rattle.text_token.specs.declared.Token.{Token}
-use Rattle.text_token.specs.declared.gaps.Mode.{Mode}
-use Rattle.text_token.specs.declared.gaps.Mode.the-variants.{Between, Line, Opening, Comment, Star, Stop}
-use Rattle.text_token.specs.declared.gaps.Gap.{Gap}
-use Rattle.text_token.specs.Bytes.{newline, star, slash, doubleQuote, isMark}
-use Rattle.text_token.specs.Gaps.{between, modeAfter, isStop, isOpen, gap, gapFrom}
+use Rattle.text_gap.specs.declared.Mode.{Mode}
+use Rattle.text_gap.specs.declared.Mode.the-variants.{Between, Line, Opening, Comment, Star, Stop}
+use Rattle.text_gap.specs.declared.Gap.{Gap}
+use Rattle.text_byte.specs.Bytes.{newline, star, slash, doubleQuote, isMark}
+use Rattle.text_gap.specs.Gaps.{between, modeAfter, isStop, isOpen, gap, gapFrom}
 use Rattle.text_token.specs.Tokens.{endForm, unclosedForm, wordForm, stringForm, quoteEnd, ended, tokenHere, tokenBehind, tokenAt, bytesOf, wordOf}
-use Rattle.text_token.proofs.Tokens.{cond-on, gap-reach}
-use Rattle.text_token.proofs.Scans.{gap-stop}
+use Rattle.text_byte.proofs.Spans.{cond-on}
+use Rattle.text_gap.proofs.Scans.{gap-stop, gap-reach}
 use Rattle.text_value.specs.declared.Value.{Value}
 use Rattle.text_value.specs.declared.Value.the-variants.{Whole, Decimal, Text, Flag}
 use Rattle.text_value.specs.declared.Reading.{Reading}

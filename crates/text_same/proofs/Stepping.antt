@@ -14,7 +14,7 @@ use Rattle.refusal.specs.declared.Refusal.the-variants.{TextGrammar, TextNumber
 use Rattle.refusal.specs.Table.{numberOf}
 use Rattle.refusal.specs.Checks.{unless}
 use Rattle.text_token.specs.declared.Token.{Token}
-use Rattle.text_token.specs.Bytes.{equalsSign, semicolon, openBrace, closeBrace}
+use Rattle.text_byte.specs.Bytes.{equalsSign, semicolon, openBrace, closeBrace}
 use Rattle.text_token.specs.Tokens.{endForm, wordForm, bytesOf, wordOf}
 use Rattle.text_value.specs.declared.Reading.{Reading}
 use Rattle.text_value.specs.Values.{tokenRead}

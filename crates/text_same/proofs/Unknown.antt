@@ -10,7 +10,7 @@ use lib.ListN.{length}
 use Rattle.refusal.specs.declared.Check.{Check}
 use Rattle.refusal.specs.declared.Check.the-variants.{Pass}
 use Rattle.text_token.specs.declared.Token.{Token}
-use Rattle.text_token.specs.Bytes.{equalsSign, semicolon, openBrace, closeBrace}
+use Rattle.text_byte.specs.Bytes.{equalsSign, semicolon, openBrace, closeBrace}
 use Rattle.text_token.specs.Tokens.{endForm, tokenAt, wordOf}
 use Rattle.text_value.specs.Values.{tokenRead}
 use Rattle.text_field.specs.declared.Scope.{Scope}

@@ -7,7 +7,7 @@ use lib.Dec.{eqb}
 use lib.ListN.{getD, length}
 use Rattle.text_token.specs.declared.Token.{Token}
 use Rattle.refusal.specs.declared.Check.the-variants.{Pass}
-use Rattle.text_token.specs.Bytes.{equalsSign, semicolon, openBrace}
+use Rattle.text_byte.specs.Bytes.{equalsSign, semicolon, openBrace}
 use Rattle.text_token.specs.Tokens.{tokenAt, wordOf}
 use Rattle.text_value.specs.Values.{tokenRead}
 use Rattle.text_field.specs.declared.Scope.{Scope}

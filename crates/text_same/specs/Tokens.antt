@@ -7,7 +7,7 @@ use mathlib.Core.Logic.{_⊎_}
 use mathlib.Core.Path.{_≡_}
 use lib.ListN.{length}
 use Rattle.text_token.specs.declared.Token.{Token}
-use Rattle.text_token.specs.Bytes.{lowerAt}
+use Rattle.text_byte.specs.Bytes.{lowerAt}
 use Rattle.text_token.specs.Tokens.{wordForm, tokenAt, wordOf}
 use Rattle.text_step.specs.Steps.{identifierOk}
 

@@ -11,8 +11,9 @@ use Rattle.refusal.specs.declared.Check.{Check}
 use Rattle.refusal.specs.declared.Check.the-variants.{Pass, Refused}
 use Rattle.refusal.specs.Checks.{unless}
 use Rattle.text_token.specs.declared.Token.{Token}
-use Rattle.text_token.specs.Bytes.{equalsSign, semicolon, openBrace, closeBrace, isLetter, isNameByte}
-use Rattle.text_token.specs.Tokens.{endForm, wordForm, spanEnd, bytesOf, wordOf}
+use Rattle.text_byte.specs.Bytes.{equalsSign, semicolon, openBrace, closeBrace, isLetter, isNameByte}
+use Rattle.text_byte.specs.Spans.{spanEnd}
+use Rattle.text_token.specs.Tokens.{endForm, wordForm, bytesOf, wordOf}
 use Rattle.text_value.specs.declared.Value.{Value as ValueType}
 use Rattle.text_value.specs.declared.Value.the-variants.{Whole, Decimal, Text, Flag}
 use Rattle.text_value.specs.declared.Reading.{Reading}

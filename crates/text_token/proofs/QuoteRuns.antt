@@ -6,7 +6,7 @@ use mathlib.Core.Path.{_≡_, refl, sym, ap, _∙_}
 use native.Mathlib.Omega.{arith}
 use lib.Dec.{eqb}
 use lib.ListN.{getD, length}
-use Rattle.text_token.specs.Bytes.{doubleQuote, backslash}
+use Rattle.text_byte.specs.Bytes.{doubleQuote, backslash}
 use Rattle.text_token.specs.Tokens.{quoteEnd}
 use Rattle.text_token.proofs.Scans.{quote-more, quote-done}
 

@@ -4,11 +4,12 @@ use mathlib.Core.Bool.{Bool, false, not, _&&_, cond}
 use mathlib.Core.List.{List}
 use lib.Dec.{eqb, ltb}
 use lib.ListN.{getD, length, take, drop}
-use Rattle.text_token.specs.declared.gaps.Mode.the-variants.{Between}
-use Rattle.text_token.specs.declared.gaps.Gap.{Gap}
+use Rattle.text_gap.specs.declared.Mode.the-variants.{Between}
+use Rattle.text_gap.specs.declared.Gap.{Gap}
 use Rattle.text_token.specs.declared.Token.{Token}
-use Rattle.text_token.specs.Bytes.{doubleQuote, backslash, isMark, endsWord}
-use Rattle.text_token.specs.Gaps.{isOpen, gapFrom}
+use Rattle.text_byte.specs.Bytes.{doubleQuote, backslash, isMark, endsWord}
+use Rattle.text_byte.specs.Spans.{spanEnd}
+use Rattle.text_gap.specs.Gaps.{isOpen, gapFrom}
 
 -- the forms of tokens: the text's end, a comment or string that is never closed, a word, a string; a mark's form is its own byte
 abbrev pub endForm : ℕ
@@ -26,11 +27,6 @@ stringForm = 34
 -- a token of a form, from its first byte up to the byte behind its last (of a string: the closing quote), and the place to go on
 abbrev pub token : ℕ → ℕ → ℕ → ℕ → Token
 token form start end next = record { form = form; start = start; end = end; next = next }
-
--- of the `n` places from `at` on the first that fails the test, or the place behind them
-unfoldable pub spanEnd : (ℕ → Bool) → ℕ → ℕ → ℕ
-spanEnd test at zero = at
-spanEnd test at (suc n) = cond (test at) (spanEnd test (at + 1) n) at
 
 -- the byte at a place does not end a word
 abbrev pub inWord : List ℕ → ℕ → Bool

@@ -1,15 +1,14 @@
 // The tokens of a text map (W-206): behind white space and comments a mark, a string or a word is cut out, as places in the text. The
 // definitions are in specs/.
-pub mod bytes;
-mod gaps;
-
 ghost use mathlib.Core.Bool.{false, not};
 ghost use mathlib.Core.Path.{_≡_};
 ghost use Prim.Native.Nat.{_+_, _-_, _≤_, _<_};
 ghost use lib.ListN.{length};
-ghost use Rattle.text_token.specs.Tokens.{spanEnd, inWord, quoteEnd, ended, stringTo, wordTo, tokenHere, tokenBehind, tokenAt, bytesOf, wordOf, Placed};
+ghost use Rattle.text_byte.specs.Spans.{spanEnd};
+ghost use Rattle.text_token.specs.Tokens.{inWord, quoteEnd, ended, stringTo, wordTo, tokenHere, tokenBehind, tokenAt, bytesOf, wordOf, Placed};
 ghost use Rattle.text_token.specs.Inner.{StringRun};
-use gaps::Gap;
+use text_byte as bytes;
+use text_gap::Gap;
 
 // The forms of tokens. That of a mark is its own byte.
 pub const END: u8 = 0;
@@ -33,7 +32,7 @@ pub fn token_at(text: &[u8], at: usize) -> Token
     ensures { λ r. ⌜ r ≡ tokenAt (now (text .entry)) at ⌝ }
     ensures { λ r. ⌜ Placed (now (text .entry)) at r ⌝ }
 {
-    token_behind(text, gaps::gap_at(text, at))
+    token_behind(text, text_gap::gap_at(text, at))
 }
 
 fn token_behind(text: &[u8], g: Gap) -> Token
@@ -44,7 +43,7 @@ fn token_behind(text: &[u8], g: Gap) -> Token
         return token_here(text, at);
     }
     let mode = g.mode;
-    if gaps::is_open(mode) {
+    if text_gap::is_open(mode) {
         return ended(text, UNCLOSED);
     }
     ended(text, END)

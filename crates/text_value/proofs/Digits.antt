@@ -13,8 +13,9 @@ use lib.Pow.{pow-add}
 use mir.Syntax.{w32}
 use mir.Val.{toZ}
 use mir.ValLaws.{toZ-neg}
-use Rattle.text_token.specs.Bytes.{within}
-use Rattle.text_token.proofs.Tokens.{cond-on, within-true}
+use Rattle.text_byte.specs.Bytes.{within}
+use Rattle.text_byte.proofs.Spans.{cond-on}
+use Rattle.text_byte.proofs.Bytes.{within-true}
 use Rattle.text_value.specs.Numbers.{digitOf, digitsFrom, digitsEnd, decimalOk, decimalFits, mostOf}
 use Rattle.text_value.specs.Values.{wholeRead}
 

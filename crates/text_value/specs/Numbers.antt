@@ -7,8 +7,8 @@ use lib.Dec.{leb, ltb, eqb}
 use lib.IntN.{ℤ, pos, negℤ}
 use lib.Ieee.{Float, binary64, div, neg, ofInt}
 use lib.ListN.{length, getD}
-use Rattle.text_token.specs.Bytes.{within, isDigit, isHexDigit}
-use Rattle.text_token.specs.Tokens.{spanEnd}
+use Rattle.text_byte.specs.Bytes.{within, isDigit, isHexDigit}
+use Rattle.text_byte.specs.Spans.{spanEnd}
 
 -- the bytes 0, x, + and -, and the point
 abbrev pub zeroDigit : ℕ

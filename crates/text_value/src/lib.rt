@@ -5,8 +5,8 @@ ghost use mathlib.Core.Path.{_≡_};
 ghost use Prim.Native.Nat.{_≤_, _<_};
 ghost use lib.ListN.{length};
 ghost use Rattle.text_value.specs.Values.{isTrue, isFalse, wholeRead, decimalRead, digitsRead, numberRead, wordRead, tokenRead};
+use text_byte as bytes;
 use text_token::Token;
-use text_token::bytes;
 
 // A value: of a string the places after its opening quote and of its closing one.
 pub enum Value {

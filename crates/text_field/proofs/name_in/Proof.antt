@@ -5,7 +5,7 @@ use mathlib.Core.Path.{_≡_, sym, ap, _∙_}
 use native.Mathlib.Omega.{arith}
 use borrow.Author.Needs.{needs}
 use denote.Ref.{now}
-use Rattle.text_token.specs.Bytes.{lower}
+use Rattle.text_byte.specs.Bytes.{lower}
 use Rattle.text_field.specs.Names.{nameIn}
 use Rattle.text_field.proofs.Names.{name-more, name-stop, name-none}
 use Rattle.text_field.proofs.name_in.Statement.{statement}

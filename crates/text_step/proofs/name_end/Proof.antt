@@ -8,9 +8,9 @@ use native.Mathlib.Omega.{arith}
 use borrow.Author.Needs.{needs}
 use denote.Ref.{now}
 use lib.ListN.{length, getD}
-use Rattle.text_token.proofs.Scans.{span-more, span-stop, span-done}
-use Rattle.text_token.specs.Bytes.{isNameByte}
-use Rattle.text_token.specs.Tokens.{spanEnd}
+use Rattle.text_byte.proofs.Spans.{span-more, span-stop, span-done}
+use Rattle.text_byte.specs.Bytes.{isNameByte}
+use Rattle.text_byte.specs.Spans.{spanEnd}
 use Rattle.text_field.proofs.Names.{not-not}
 use Rattle.text_step.proofs.name_end.Statement.{statement}
 use Rattle.text_step.proofs.name_end.Tie as tie

@@ -5,7 +5,7 @@ use mathlib.Core.Path.{_≡_, sym, ap, _∙_}
 use borrow.Author.Needs.{needs}
 use denote.Ref.{now}
 use lib.ListN.{getD}
-use Rattle.text_token.proofs.PlainBytes.{plain-ends}
+use Rattle.text_byte.proofs.Bytes.{plain-ends}
 use Rattle.text_token.proofs.ends_at.Statement.{statement}
 use Rattle.text_token.proofs.ends_at.Tie as tie
 

@@ -9,7 +9,7 @@ use borrow.Author.Tests.{eq-eqb, ne-eqb}
 use denote.Ref.{now}
 use lib.Dec.{eqb}
 use lib.ListN.{getD, length}
-use Rattle.text_token.specs.Bytes.{doubleQuote, backslash}
+use Rattle.text_byte.specs.Bytes.{doubleQuote, backslash}
 use Rattle.text_token.specs.Tokens.{quoteEnd}
 use Rattle.text_token.proofs.Scans.{quote-stop, quote-done}
 use Rattle.text_token.proofs.QuoteRuns.{other, quote-last, quote-taken}

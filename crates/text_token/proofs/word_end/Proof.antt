@@ -5,8 +5,9 @@ use mathlib.Core.Bool.{not}
 use mathlib.Core.Path.{_≡_, refl, sym, ap, _∙_}
 use borrow.Author.Needs.{needs}
 use lib.ListN.{length}
-use Rattle.text_token.specs.Tokens.{spanEnd, inWord}
-use Rattle.text_token.proofs.Scans.{span-more, span-stop, span-done}
+use Rattle.text_byte.specs.Spans.{spanEnd}
+use Rattle.text_token.specs.Tokens.{inWord}
+use Rattle.text_byte.proofs.Spans.{span-more, span-stop, span-done}
 use Rattle.text_token.proofs.word_end.Statement.{statement}
 use Rattle.text_token.proofs.word_end.Tie as tie
 

@@ -1,6 +1,6 @@
 -- `text_value::numbers::digit_of` meets its contract. Assumes nothing.
 use native.Mathlib.Omega.{arith}
-use Rattle.text_token.proofs.Tokens.{within-true}
+use Rattle.text_byte.proofs.Bytes.{within-true}
 use borrow.Author.Needs.{needs}
 use Rattle.text_value.proofs.numbers.digit_of.Statement.{statement}
 use Rattle.text_value.proofs.numbers.digit_of.Tie as tie

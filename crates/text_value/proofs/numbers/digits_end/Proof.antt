@@ -5,7 +5,7 @@ use mathlib.Core.Path.{_≡_, refl, sym, _∙_}
 use borrow.Author.Needs.{needs}
 use borrow.Author.Tests.{not-true, not-false}
 use lib.ListN.{length}
-use Rattle.text_token.proofs.Scans.{span-more, span-stop, span-done}
+use Rattle.text_byte.proofs.Spans.{span-more, span-stop, span-done}
 use Rattle.text_value.specs.Numbers.{digitsEnd}
 use Rattle.text_value.proofs.numbers.digits_end.Statement.{statement}
 use Rattle.text_value.proofs.numbers.digits_end.Tie as tie

@@ -1,0 +1,4 @@
+-- Laws of the bytes of a text map. Assumes nothing.
+
+pub mod Spans
+pub mod Bytes
