@@ -5,8 +5,8 @@ use mathlib.Core.List.{List}
 use mathlib.Core.Path.{_≡_}
 use lib.IntN.{ℤ}
 use Rattle.text_token.specs.Tokens.{bytesOf}
-use Rattle.text_field.specs.declared.Scope.{Scope}
-use Rattle.text_field.specs.declared.Scope.the-variants.{Vertex, Linedef, Sidedef, Sector, Thing}
+use Rattle.text_scope.specs.declared.Scope.{Scope}
+use Rattle.text_scope.specs.declared.Scope.the-variants.{Vertex, Linedef, Sidedef, Sector, Thing}
 use Rattle.text_block.specs.declared.Counts.{Counts}
 use Rattle.text_record.specs.Records.{vertexOf, linedefOf, sidedefOf, sectorOf, thingOf}
 use Rattle.text_map.specs.declared.TextSummary.{TextSummary}

@@ -13,9 +13,9 @@ use records::TextVertexAnswer;
 use status::Status;
 use status::nothing_refused;
 use status::refused;
-use text_field::Scope;
 use text_map::BlockAnswer;
 use text_map::TextAnswer;
+use text_scope::Scope;
 
 #[repr(C)]
 pub struct TextMapAnswer {

@@ -62,7 +62,7 @@ pub fn linedef_by(text: &[u8], id: i32, f: BlockFields) -> TextLinedefAnswer
     requires { ⌜ f .first ≤ 91 ⌝ }
     ensures { λ r. ⌜ r ≡ linedefOut (now (text .entry)) id f ⌝ }
 {
-    let rows = text_field::rows();
+    let rows = text_table::rows();
     let places = f.places;
     let check = f.check;
     let first = f.first;
@@ -77,7 +77,7 @@ pub fn sidedef_by(text: &[u8], f: BlockFields) -> TextSidedefAnswer
     requires { ⌜ f .first ≤ 91 ⌝ }
     ensures { λ r. ⌜ r ≡ sidedefOut (now (text .entry)) f ⌝ }
 {
-    let rows = text_field::rows();
+    let rows = text_table::rows();
     let places = f.places;
     let check = f.check;
     let first = f.first;
@@ -92,7 +92,7 @@ pub fn sector_by(text: &[u8], f: BlockFields) -> TextSectorAnswer
     requires { ⌜ f .first ≤ 91 ⌝ }
     ensures { λ r. ⌜ r ≡ sectorOut (now (text .entry)) f ⌝ }
 {
-    let rows = text_field::rows();
+    let rows = text_table::rows();
     let places = f.places;
     let check = f.check;
     let first = f.first;
@@ -107,7 +107,7 @@ pub fn thing_by(text: &[u8], f: BlockFields) -> TextThingAnswer
     requires { ⌜ f .first ≤ 91 ⌝ }
     ensures { λ r. ⌜ r ≡ thingOut (now (text .entry)) f ⌝ }
 {
-    let rows = text_field::rows();
+    let rows = text_table::rows();
     let places = f.places;
     let check = f.check;
     let first = f.first;

@@ -7,10 +7,11 @@ use lib.Dec.{eqb, leb}
 use lib.ListN.{getD, set, replicate}
 use Rattle.text_token.specs.declared.Token.{Token}
 use Rattle.text_byte.specs.Bytes.{semicolon, openBrace}
-use Rattle.text_field.specs.declared.Scope.{Scope}
-use Rattle.text_field.specs.declared.Scope.the-variants.{Top, Vertex, Linedef, Sidedef, Sector, Thing, Unknown}
-use Rattle.text_field.specs.Table.{isRequired}
-use Rattle.text_field.specs.Names.{every, firstRow, rowCount, scopeNumber}
+use Rattle.text_scope.specs.declared.Scope.{Scope}
+use Rattle.text_scope.specs.declared.Scope.the-variants.{Top, Vertex, Linedef, Sidedef, Sector, Thing, Unknown}
+use Rattle.text_table.specs.Table.{isRequired}
+use Rattle.text_scope.specs.Scopes.{firstRow, rowCount, scopeNumber}
+use Rattle.text_field.specs.Names.{every}
 use Rattle.text_block.specs.declared.Counts.{Counts}
 use Rattle.text_block.specs.declared.Asked.{Asked}
 use Rattle.text_block.specs.declared.Asked.the-variants.{Nothing, Numbered, First, FirstOfAny}

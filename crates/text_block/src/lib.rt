@@ -5,12 +5,13 @@ ghost use mathlib.Core.Path.{_≡_};
 ghost use Prim.Native.Nat.{_+_, _≤_, _<_};
 ghost use lib.Dec.{eqb};
 ghost use lib.ListN.{length};
-ghost use Rattle.text_field.specs.Table.{table};
-ghost use Rattle.text_field.specs.Names.{every, scopeNumber};
+ghost use Rattle.text_table.specs.Table.{table};
+ghost use Rattle.text_scope.specs.Scopes.{scopeNumber};
+ghost use Rattle.text_field.specs.Names.{every};
 ghost use Rattle.text_block.specs.declared.Asked.the-variants.{Numbered};
 ghost use Rattle.text_block.specs.Blocks.{countOf, counted, isFull, isAsked, stopsThere, noPlaces, stored, filed, isGiven, allGiven};
 use text_byte as bytes;
-use text_field::Scope;
+use text_scope::Scope;
 use text_token::Token;
 
 // What is wanted next: a statement; `=` behind an identifier, from its first byte to the byte behind it; a value for a name of the scope,
@@ -100,19 +101,19 @@ pub fn is_asked(asked: Asked, kind: Scope, before: usize) -> bool
 fn is_numbered(of: Scope, number: usize, kind: Scope, before: usize) -> bool
     ensures { λ r. ⌜ r ≡ isAsked (Numbered of number) kind before ⌝ }
 {
-    (text_field::scope_number(of) == text_field::scope_number(kind)) & (before == number)
+    (text_scope::scope_number(of) == text_scope::scope_number(kind)) & (before == number)
 }
 
 fn is_kind(of: Scope, kind: Scope) -> bool
     ensures { λ r. ⌜ r ≡ eqb (scopeNumber of) (scopeNumber kind) ⌝ }
 {
-    text_field::scope_number(of) == text_field::scope_number(kind)
+    text_scope::scope_number(of) == text_scope::scope_number(kind)
 }
 
 fn is_known(kind: Scope) -> bool
     ensures { λ r. ⌜ r ≡ not (eqb (scopeNumber kind) 6) ⌝ }
 {
-    text_field::scope_number(kind) != 6
+    text_scope::scope_number(kind) != 6
 }
 
 // Nothing more is read behind it.
@@ -186,9 +187,9 @@ pub fn all_given(rows: &[u8], kind: Scope, places: &[usize; 34]) -> bool
 {
     given_from(
         rows,
-        text_field::first_row(kind),
+        text_scope::first_row(kind),
         places,
-        text_field::row_count(kind),
+        text_scope::row_count(kind),
     )
 }
 
@@ -198,7 +199,7 @@ fn given_from(rows: &[u8], first: usize, places: &[usize; 34], n: usize) -> bool
     ensures { λ r. ⌜ r ≡ every (isGiven first (now (places .entry))) n ⌝ }
 {
     for k in 0..n {
-        if text_field::is_required(rows, first + k) & (places[k] == 0) {
+        if text_table::is_required(rows, first + k) & (places[k] == 0) {
             return false;
         }
     }

@@ -1,5 +1,5 @@
--- Laws of a word among the known names: the letters of one row, and the rows of a scope. Assumes nothing.
-use Prim.Native.Nat.{ℕ, zero, suc, _+_, _-_, _*_, _≤_, _<_}
+-- Laws of a word among the known names: the letters of one row, and one row after the other. Assumes nothing.
+use Prim.Native.Nat.{ℕ, zero, suc, _+_, _-_, _≤_, _<_}
 use mathlib.Core.Bool.{Bool, true, false, not, _&&_, cond, and-false, and-true}
 use mathlib.Core.List.{List}
 use mathlib.Core.Logic.{⊎-elim}
@@ -7,30 +7,12 @@ use mathlib.Core.Path.{_≡_, refl, sym, ap, _∙_}
 use native.Mathlib.Nat.{eq-or-lt-of-le, le-pred-of-lt}
 use native.Mathlib.Numerals.{add-one}
 use native.Mathlib.Omega.{arith}
-use lib.Dec.{eqb, ltb}
 use lib.ListN.{length}
-use Rattle.text_field.specs.Table.{table}
-use Rattle.text_field.specs.declared.Scope.{Scope}
-use Rattle.text_field.specs.declared.Scope.the-variants.{Top, Vertex, Linedef, Sidedef, Sector, Thing, Unknown}
-use Rattle.text_field.specs.Names.{every, sameAt, longAs, isName, nameIn, firstRow, rowCount}
+use Rattle.text_field.specs.Names.{every, sameAt, longAs, isName, nameIn}
 
 pub not-not : (b : Bool) → not (not b) ≡ b
 not-not true = refl
 not-not false = refl
-
--- the rows of a scope stand in the table
-pub rows-inside : (scope : Scope) → firstRow scope + rowCount scope ≤ 91
-rows-inside Top = omega arith
-rows-inside Vertex = omega arith
-rows-inside Linedef = omega arith
-rows-inside Sidedef = omega arith
-rows-inside Sector = omega arith
-rows-inside Thing = omega arith
-rows-inside Unknown = omega arith
-
-pub length-table : length table ≡ 1638
-unfolding table
-length-table = refl
 
 module _ (test : ℕ → Bool) where
   every-step : (n : ℕ) → every test (suc n) ≡ (every test n && test n)

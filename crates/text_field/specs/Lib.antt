@@ -1,4 +1,3 @@
 -- The names that a text map knows. Assumes nothing.
 
-pub mod Table
 pub mod Names

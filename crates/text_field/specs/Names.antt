@@ -5,9 +5,9 @@ use mathlib.Core.List.{List}
 use lib.Dec.{eqb, ltb}
 use lib.ListN.{length, getD}
 use Rattle.text_byte.specs.Bytes.{lowerAt}
-use Rattle.text_field.specs.declared.Scope.{Scope}
-use Rattle.text_field.specs.declared.Scope.the-variants.{Top, Vertex, Linedef, Sidedef, Sector, Thing, Unknown}
-use Rattle.text_field.specs.Table.{entryAt, nameRoom, rowSize}
+use Rattle.text_scope.specs.declared.Scope.{Scope}
+use Rattle.text_scope.specs.Scopes.{firstRow, rowCount, scopeOf}
+use Rattle.text_table.specs.Table.{entryAt, nameRoom, rowSize}
 
 -- the test holds of 0 to `n - 1`
 unfoldable pub every : (ℕ → Bool) → ℕ → Bool
@@ -45,43 +45,9 @@ namespaceRow = 88
 abbrev pub namespaceRows : ℕ
 namespaceRows = 3
 
--- the first row of a scope's names, and how many it has: at the top the global name, in a block the fields of its kind
-abbrev pub firstRow : Scope → ℕ
-firstRow Top = 5
-firstRow Vertex = 6
-firstRow Linedef = 8
-firstRow Sidedef = 42
-firstRow Sector = 49
-firstRow Thing = 57
-firstRow Unknown = 88
-
-abbrev pub rowCount : Scope → ℕ
-rowCount Top = 1
-rowCount Vertex = 2
-rowCount Linedef = 34
-rowCount Sidedef = 7
-rowCount Sector = 8
-rowCount Thing = 31
-rowCount Unknown = 0
-
 -- which name of a scope the word is, counted from 1; 0 for an unknown one
 abbrev pub fieldNamed : Scope → List ℕ → ℕ
 fieldNamed scope word = nameIn word false (firstRow scope) 0 (rowCount scope)
-
--- a kind's number: 1 to 5, 0 for the top and 6 for a block of another name
-abbrev pub scopeNumber : Scope → ℕ
-scopeNumber Top = 0
-scopeNumber Vertex = 1
-scopeNumber Linedef = 2
-scopeNumber Sidedef = 3
-scopeNumber Sector = 4
-scopeNumber Thing = 5
-scopeNumber Unknown = 6
-
--- the kind of a number
-abbrev pub scopeOf : ℕ → Scope
-scopeOf n =
-    cond (eqb n 1) Vertex (cond (eqb n 2) Linedef (cond (eqb n 3) Sidedef (cond (eqb n 4) Sector (cond (eqb n 5) Thing Unknown))))
 
 -- the kind of block that a word names
 abbrev pub kindNamed : List ℕ → Scope

@@ -6,7 +6,7 @@ use mathlib.Core.Path.{_≡_, refl, ap, _∙_}
 use native.Mathlib.Omega.{arith}
 use lib.IntN.{ℤ, pos}
 use lib.ListN.{length, getD, replicate, List·getD-eq-default}
-use Rattle.text_field.specs.Table.{table, defaultOf}
+use Rattle.text_table.specs.Table.{table, defaultOf}
 use Rattle.text_block.specs.Blocks.{noPlaces}
 use Rattle.text_record.specs.Fields.{valueAt, defaultWhole, wholeOr, decimalOr, stringOr, flagOr, between, zeroPoint, wholeField, decimalField, stringField, flagField}
 use Rattle.text_map.specs.Answers.{noRow}

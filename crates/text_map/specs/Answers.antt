@@ -10,8 +10,9 @@ use Rattle.refusal.specs.declared.Check.{Check}
 use Rattle.refusal.specs.declared.Check.the-variants.{Pass, Refused}
 use Rattle.refusal.specs.Checks.{unless, _andThen_}
 use Rattle.text_token.specs.Tokens.{bytesOf}
-use Rattle.text_field.specs.declared.Scope.{Scope}
-use Rattle.text_field.specs.Names.{zeroIds, firstRow, scopeNumber}
+use Rattle.text_scope.specs.declared.Scope.{Scope}
+use Rattle.text_scope.specs.Scopes.{firstRow, scopeNumber}
+use Rattle.text_field.specs.Names.{zeroIds}
 use Rattle.text_block.specs.declared.Asked.{Asked}
 use Rattle.text_block.specs.declared.Asked.the-variants.{Nothing, Numbered, First, FirstOfAny}
 use Rattle.text_step.specs.declared.Notes.{Notes}

@@ -2,8 +2,8 @@
 // specs/.
 ghost use mathlib.Core.Path.{_≡_};
 ghost use Prim.Native.Nat.{_≤_};
-ghost use Rattle.text_field.specs.Names.{scopeNumber};
-ghost use Rattle.text_field.specs.Table.{table};
+ghost use Rattle.text_scope.specs.Scopes.{scopeNumber};
+ghost use Rattle.text_table.specs.Table.{table};
 ghost use Rattle.text_token.specs.Tokens.{bytesOf};
 ghost use Rattle.text_map.specs.Answers.{namespaceOf, summaryBy, textAnswer, blockCheck, blockBy, blockAnswer};
 ghost use Rattle.text_map.specs.Answers.{fieldsBy, blockFields, numbered, firstFrom, nextFrom, idBy, idOf};
@@ -11,8 +11,8 @@ use refusal::Check;
 use refusal::Refusal;
 use text_block::Asked;
 use text_block::Counts;
-use text_field::Scope;
 use text_record::Places;
+use text_scope::Scope;
 use text_step::Parse;
 
 // The namespace's string, and how many blocks of each kind there are.
@@ -113,7 +113,7 @@ fn block_by(s: Parse) -> BlockAnswer
 fn kind_of(kind: Scope) -> u32
     ensures { λ r. ⌜ r ≡ scopeNumber kind ⌝ }
 {
-    text_field::scope_number(kind) as u32
+    text_scope::scope_number(kind) as u32
 }
 
 // What the record of block `number` of a kind is read from, after the whole text was judged.
@@ -149,14 +149,14 @@ fn fields_by(text: &[u8], s: Parse, kept: [usize; 34]) -> BlockFields
             check: Check::Pass,
             next: notes.next,
             namespace: namespace_of(text, s),
-            first: text_field::first_row(kind),
+            first: text_scope::first_row(kind),
             places: kept,
         },
         Check::Refused(r) => BlockFields {
             check: Check::Refused(r),
             next: 0,
             namespace: Places { start: 0, end: 0 },
-            first: text_field::ROWS,
+            first: text_table::ROWS,
             places: [0; 34],
         },
     }
@@ -173,7 +173,7 @@ pub fn id_of(text: &[u8], namespace: Places) -> i32
 pub fn id_by(text: &[u8], start: usize, end: usize) -> i32
     ensures { λ r. ⌜ r ≡ idBy (bytesOf (now (text .entry)) start end) ⌝ }
 {
-    let rows = text_field::rows();
+    let rows = text_table::rows();
     id_in(&rows, text_token::bytes_of(text, start, end))
 }
 

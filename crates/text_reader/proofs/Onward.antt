@@ -16,7 +16,7 @@ use Rattle.text_byte.proofs.Spans.{cond-on}
 use Rattle.text_token.proofs.Tokens.{tokenAt-placed}
 use Rattle.text_value.specs.declared.Reading.{Reading}
 use Rattle.text_value.specs.Values.{tokenRead}
-use Rattle.text_field.specs.declared.Scope.{Scope}
+use Rattle.text_scope.specs.declared.Scope.{Scope}
 use Rattle.text_field.specs.Names.{kindNamed}
 use Rattle.text_block.specs.declared.Asked.{Asked}
 use Rattle.text_block.specs.declared.Wanted.{Wanted}

@@ -1,13 +1,13 @@
 // A text map read token by token (W-206): one loop over the whole text, up to its end, its first fault, or the end of the block that is
 // asked for. The definitions are in specs/.
 ghost use mathlib.Core.Path.{_≡_};
-ghost use Rattle.text_field.specs.Table.{table};
+ghost use Rattle.text_table.specs.Table.{table};
 ghost use Rattle.text_reader.specs.Texts.{isMore, startAt, textFrom};
 use refusal::Check;
 use text_block::Asked;
 use text_block::Counts;
 use text_block::Wanted;
-use text_field::Scope;
+use text_scope::Scope;
 use text_step::Notes;
 use text_step::Parse;
 
@@ -22,7 +22,7 @@ pub fn read(text: &[u8], asked: Asked, from: usize) -> Outcome
     ensures { λ r. ⌜ r .parse ≡ textFrom (now (text .entry)) asked from .parse ⌝ }
     ensures { λ r. ⌜ r .kept ≡ textFrom (now (text .entry)) asked from .kept ⌝ }
 {
-    let rows = text_field::rows();
+    let rows = text_table::rows();
     read_with(text, &rows, asked, from)
 }
 

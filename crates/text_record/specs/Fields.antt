@@ -12,7 +12,7 @@ use Rattle.text_value.specs.declared.Value.the-variants.{Whole, Decimal, Text, 
 use Rattle.text_value.specs.declared.Reading.{Reading}
 use Rattle.text_value.specs.declared.Reading.the-variants.{Good, WholePast, DecimalPast, NoValue}
 use Rattle.text_value.specs.Values.{tokenRead}
-use Rattle.text_field.specs.Table.{minusOne, light, byNamespace, defaultOf}
+use Rattle.text_table.specs.Table.{minusOne, light, byNamespace, defaultOf}
 use Rattle.text_record.specs.declared.Places.{Places}
 
 -- what is read at the place of a value; none at place 0

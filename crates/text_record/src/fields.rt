@@ -2,7 +2,7 @@
 ghost use mathlib.Core.Path.{_≡_};
 ghost use Prim.Native.Nat.{_≤_};
 ghost use lib.ListN.{getD};
-ghost use Rattle.text_field.specs.Table.{table};
+ghost use Rattle.text_table.specs.Table.{table};
 ghost use Rattle.text_record.specs.Fields.{valueAt, defaultWhole, wholeIn, wholeOr, decimalIn, decimalOr, stringIn, stringOr, flagIn, flagOr};
 ghost use Rattle.text_record.specs.Fields.{wholeField, decimalField, stringField, flagField};
 use crate::Places;
@@ -21,7 +21,7 @@ pub fn whole_field(
     requires { ⌜ (now rows ≡ table) × ((first ≤ 91) × (k ≤ 33)) ⌝ }
     ensures { λ r. ⌜ r ≡ wholeField (now (text .entry)) (now (places .entry)) first id k ⌝ }
 {
-    let letter = text_field::default_of(rows, first + k);
+    let letter = text_table::default_of(rows, first + k);
     whole_or(
         default_whole(id, letter),
         value_at(text, place_at(places, k)),
@@ -74,13 +74,13 @@ fn place_at(places: &[usize], k: usize) -> usize
 fn default_whole(id: i32, letter: u8) -> i32
     ensures { λ r. ⌜ r ≡ defaultWhole id letter ⌝ }
 {
-    if letter == text_field::BY_NAMESPACE {
+    if letter == text_table::BY_NAMESPACE {
         return id;
     }
-    if letter == text_field::MINUS_ONE {
+    if letter == text_table::MINUS_ONE {
         return -1;
     }
-    if letter == text_field::LIGHT {
+    if letter == text_table::LIGHT {
         return 160;
     }
     0

@@ -4,7 +4,7 @@ mod fields;
 
 ghost use mathlib.Core.Path.{_≡_};
 ghost use Prim.Native.Nat.{_≤_};
-ghost use Rattle.text_field.specs.Table.{table};
+ghost use Rattle.text_table.specs.Table.{table};
 ghost use Rattle.text_record.specs.Records.{vertexOf, linedefOf, sidedefOf, sectorOf, thingOf};
 pub use fields::string_at;
 

@@ -15,9 +15,10 @@ use Rattle.text_value.specs.declared.Reading.{Reading}
 use Rattle.text_value.specs.declared.Reading.the-variants.{NoValue}
 use Rattle.text_value.specs.Numbers.{zeroDigit, plusSign, minusSign, digitsFrom, digitsEnd, hexOk, hexEnd, smallX, wholeOk, decimalOk, isSign, behindSign}
 use Rattle.text_value.specs.Values.{isTrue, isFalse, wholeRead, digitsRead, numberRead, wordRead}
-use Rattle.text_field.specs.declared.Scope.{Scope}
-use Rattle.text_field.specs.Table.{entryAt, rowSize}
-use Rattle.text_field.specs.Names.{every, longAs, isName, nameIn, firstRow, rowCount, fieldNamed, kindNamed, scopeOf, kindRows}
+use Rattle.text_scope.specs.declared.Scope.{Scope}
+use Rattle.text_table.specs.Table.{entryAt, rowSize}
+use Rattle.text_scope.specs.Scopes.{firstRow, rowCount, scopeOf}
+use Rattle.text_field.specs.Names.{every, longAs, isName, nameIn, fieldNamed, kindNamed, kindRows}
 use Rattle.text_step.specs.Steps.{identifierOk}
 use Rattle.text_same.specs.Tokens.{SameLetters}
 use Rattle.text_same.proofs.Readings.{cond-both, SameReading, same-flag, same-none}

@@ -11,7 +11,7 @@ use Rattle.refusal.specs.Table.{numberOf}
 use Rattle.text_token.specs.declared.Token.{Token}
 use Rattle.text_token.specs.Tokens.{wordForm, bytesOf, wordOf}
 use Rattle.text_value.specs.Values.{tokenRead}
-use Rattle.text_field.specs.declared.Scope.{Scope}
+use Rattle.text_scope.specs.declared.Scope.{Scope}
 use Rattle.text_field.specs.Names.{fieldNamed, kindNamed}
 use Rattle.text_record.specs.Fields.{valueAt}
 use Rattle.text_block.specs.declared.Wanted.{Wanted}

@@ -13,7 +13,7 @@ use Rattle.text_token.specs.declared.Token.{Token}
 use Rattle.text_byte.specs.Bytes.{equalsSign, semicolon, openBrace, closeBrace}
 use Rattle.text_token.specs.Tokens.{endForm, tokenAt, wordOf}
 use Rattle.text_value.specs.Values.{tokenRead}
-use Rattle.text_field.specs.declared.Scope.{Scope}
+use Rattle.text_scope.specs.declared.Scope.{Scope}
 use Rattle.text_field.specs.Names.{fieldNamed, kindNamed}
 use Rattle.text_block.specs.declared.Asked.{Asked}
 use Rattle.text_block.specs.declared.Wanted.{Wanted}

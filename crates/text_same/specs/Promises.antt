@@ -10,7 +10,7 @@ use Rattle.refusal.specs.declared.Check.the-variants.{Pass}
 use Rattle.text_byte.specs.Bytes.{equalsSign, semicolon, openBrace}
 use Rattle.text_token.specs.Tokens.{tokenAt, wordOf}
 use Rattle.text_value.specs.Values.{tokenRead}
-use Rattle.text_field.specs.declared.Scope.{Scope}
+use Rattle.text_scope.specs.declared.Scope.{Scope}
 use Rattle.text_field.specs.Names.{fieldNamed}
 use Rattle.text_block.specs.declared.Asked.{Asked}
 use Rattle.text_block.specs.declared.Wanted.{Wanted}

@@ -7,7 +7,7 @@ ghost use Rattle.text_byte.specs.Bytes.{isNameByte};
 ghost use Rattle.text_byte.specs.Spans.{spanEnd};
 ghost use Rattle.refusal.specs.declared.Refusal.the-variants.{TextGrammar, TextNumber};
 ghost use Rattle.refusal.specs.declared.Check.the-variants.{Refused};
-ghost use Rattle.text_field.specs.Table.{table};
+ghost use Rattle.text_table.specs.Table.{table};
 ghost use Rattle.text_block.specs.Blocks.{isFull};
 ghost use Rattle.text_step.specs.Steps.{goesOn, refusedWith, misfit, isTop, identifierOk, isIdentifier, isFound, notesAfter, wantedAfter, closedBlock, onStatement, openedBlock, onEquals, heldBy, serves, givenAs, valueCheck, judged, onValue, notesAssigned, onSemicolon, stepBy};
 use refusal::Check;
@@ -16,7 +16,7 @@ use text_block::Asked;
 use text_block::Counts;
 use text_block::Wanted;
 use text_byte as bytes;
-use text_field::Scope;
+use text_scope::Scope;
 use text_token::Token;
 use text_value::Reading;
 use text_value::Value;
@@ -107,7 +107,7 @@ fn misfit(s: Parse, t: Token) -> Parse
 fn is_top(scope: Scope) -> bool
     ensures { λ r. ⌜ r ≡ isTop scope ⌝ }
 {
-    text_field::scope_number(scope) == 0
+    text_scope::scope_number(scope) == 0
 }
 
 // A statement begins with an identifier; in a block a closing brace may come, and at the top the text's end.
@@ -296,10 +296,10 @@ fn held_by(rows: &[u8], scope: Scope, i: usize) -> u8
     if i == 0 {
         return 0;
     }
-    if text_field::ROWS < i {
+    if text_table::ROWS < i {
         return 0;
     }
-    text_field::holds_of(rows, text_field::first_row(scope) + (i - 1))
+    text_table::holds_of(rows, text_scope::first_row(scope) + (i - 1))
 }
 
 // 90 for no value or one of the wrong kind, and 91 for a number past its limits where its kind is right.
@@ -308,8 +308,8 @@ fn value_check(held: u8, reading: Reading, at: usize) -> Check
 {
     match reading {
         Reading::Good(v) => refusal::pass_if(serves(held, given_as(v)), Refusal::TextGrammar(at)),
-        Reading::WholePast => past(serves(held, text_field::WHOLE), at),
-        Reading::DecimalPast => past(serves(held, text_field::DECIMAL), at),
+        Reading::WholePast => past(serves(held, text_table::WHOLE), at),
+        Reading::DecimalPast => past(serves(held, text_table::DECIMAL), at),
         Reading::NoValue => Check::Refused(Refusal::TextGrammar(at)),
     }
 }
@@ -327,17 +327,17 @@ fn given_as(v: Value) -> u8
     ensures { λ r. ⌜ r ≡ givenAs v ⌝ }
 {
     match v {
-        Value::Whole(_) => text_field::WHOLE,
-        Value::Decimal(_) => text_field::DECIMAL,
-        Value::Text(_, _) => text_field::STRING,
-        Value::Flag(_) => text_field::FLAG,
+        Value::Whole(_) => text_table::WHOLE,
+        Value::Decimal(_) => text_table::DECIMAL,
+        Value::Text(_, _) => text_table::STRING,
+        Value::Flag(_) => text_table::FLAG,
     }
 }
 
 fn serves(held: u8, given: u8) -> bool
     ensures { λ r. ⌜ r ≡ serves held given ⌝ }
 {
-    (held == 0) | ((held == given) | ((held == text_field::DECIMAL) & (given == text_field::WHOLE)))
+    (held == 0) | ((held == given) | ((held == text_table::DECIMAL) & (given == text_table::WHOLE)))
 }
 
 fn judged(s: Parse, t: Token, field: usize, check: Check) -> Parse

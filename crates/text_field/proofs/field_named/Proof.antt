@@ -5,7 +5,7 @@ use native.Mathlib.Omega.{arith}
 use borrow.Author.Needs.{needs}
 use denote.Ref.{now}
 use Rattle.text_field.specs.Names.{nameIn}
-use Rattle.text_field.proofs.Names.{rows-inside}
+use Rattle.text_scope.proofs.Scopes.{rows-inside}
 use Rattle.text_field.proofs.field_named.Statement.{statement}
 use Rattle.text_field.proofs.field_named.Tie as tie
 

@@ -8,7 +8,8 @@ use borrow.Author.Tests.{ltb-true}
 use denote.Ref.{now}
 use lib.Dec.{eqb, ltb}
 use lib.ListN.{length, getD}
-use Rattle.text_field.proofs.Names.{not-not, length-table, name-other}
+use Rattle.text_table.proofs.Table.{length-table}
+use Rattle.text_field.proofs.Names.{not-not, name-other}
 use Rattle.text_field.proofs.is_name.Statement.{statement}
 use Rattle.text_field.proofs.is_name.Tie as tie
 

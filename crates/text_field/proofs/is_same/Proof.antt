@@ -9,7 +9,8 @@ use denote.Ref.{now}
 use lib.Dec.{eqb}
 use lib.ListN.{length, getD}
 use Rattle.text_field.specs.Names.{every, sameAt}
-use Rattle.text_field.proofs.Names.{length-table, every-none, every-more, every-stop, every-done}
+use Rattle.text_table.proofs.Table.{length-table}
+use Rattle.text_field.proofs.Names.{every-none, every-more, every-stop, every-done}
 use Rattle.text_field.proofs.is_same.Statement.{statement}
 use Rattle.text_field.proofs.is_same.Tie as tie
 

@@ -6,7 +6,7 @@ use borrow.Author.Tests.{eq-eqb, ne-eqb, lt-ltb, le-ltb}
 use denote.Ref.{now}
 use lib.Dec.{eqb}
 use lib.ListN.{length}
-use Rattle.text_field.specs.Table.{entryAt, rowSize}
+use Rattle.text_table.specs.Table.{entryAt, rowSize}
 use Rattle.text_field.proofs.is_spelled.Statement.{statement}
 use Rattle.text_field.proofs.is_spelled.Tie as tie
 

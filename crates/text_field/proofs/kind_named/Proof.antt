@@ -10,7 +10,7 @@ scope-of-requires : tie.Need-scope-of-requires
 scope-of-requires c κs = search needs
 
 returns : tie.Need-returns
-returns c = cc
+returns c = rw (c .scope-of .ensures, c .before .name-in .ensures)
 
 pub kind-named-spec : {M : Type 1} → statement M
 kind-named-spec = tie.close (tie.spec name-in-requires scope-of-requires returns)

@@ -7,7 +7,7 @@ name-in-requires : tie.Need-name-in-requires
 name-in-requires c κs = search needs
 
 returns : tie.Need-returns
-returns c = cc
+returns c = rw (c .name-in .ensures)
 
 pub zero-ids-spec : {M : Type 1} → statement M
 zero-ids-spec = tie.close (tie.spec name-in-requires returns)

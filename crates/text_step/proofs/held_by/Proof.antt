@@ -5,8 +5,8 @@ use native.Mathlib.Omega.{arith}
 use borrow.Author.Needs.{needs}
 use borrow.Author.Tests.{eq-eqb, ne-eqb}
 use lib.ListN.{List·getD-eq-default}
-use Rattle.text_field.proofs.Names.{length-table}
-use Rattle.text_field.specs.Table.{table, holdsOf}
+use Rattle.text_table.proofs.Table.{length-table}
+use Rattle.text_table.specs.Table.{table, holdsOf}
 use Rattle.text_step.proofs.held_by.Statement.{statement}
 use Rattle.text_step.proofs.held_by.Tie as tie
 

@@ -1,7 +1,7 @@
--- `text_field::scope_of` meets its contract: what its calls answer. Assumes nothing.
+-- `text_scope::scope_of` meets its contract: what its calls answer. Assumes nothing.
 use borrow.Author.Needs.{needs}
-use Rattle.text_field.proofs.scope_of.Statement.{statement}
-use Rattle.text_field.proofs.scope_of.Tie as tie
+use Rattle.text_scope.proofs.scope_of.Statement.{statement}
+use Rattle.text_scope.proofs.scope_of.Tie as tie
 
 pick-requires : tie.Need-pick-requires
 pick-requires c κs = search needs
@@ -19,7 +19,9 @@ pick-requires-5 : tie.Need-pick-requires-5
 pick-requires-5 c κs = search needs
 
 returns : tie.Need-returns
-returns c = cc
+returns c =
+    let d = c .before .before in
+    rw (c .pick5 .ensures, c .before .pick4 .ensures, d .pick3 .ensures, d .before .pick2 .ensures, d .before .before .pick .ensures)
 
 pub scope-of-spec : {M : Type 1} → statement M
 scope-of-spec =

@@ -1,12 +1,12 @@
--- `text_field::row_byte` meets its contract: the rows are the table. Assumes nothing.
+-- `text_table::row_byte` meets its contract: the rows are the table. Assumes nothing.
 use Prim.Native.Nat.{_+_, _*_}
 use mathlib.Core.Path.{ap, _∙_}
 use native.Mathlib.Omega.{arith}
 use borrow.Author.Needs.{needs}
 use lib.ListN.{length, getD}
-use Rattle.text_field.proofs.Names.{length-table}
-use Rattle.text_field.proofs.row_byte.Statement.{statement}
-use Rattle.text_field.proofs.row_byte.Tie as tie
+use Rattle.text_table.proofs.Table.{length-table}
+use Rattle.text_table.proofs.row_byte.Statement.{statement}
+use Rattle.text_table.proofs.row_byte.Tie as tie
 
 in-row : tie.Need-shared-slice-read-result
 in-row c = let e = ap length (c .before .pre .0) ∙ length-table in omega arith

@@ -1,14 +1,14 @@
--- `text_field::letter_of` meets its contract: the rows are the table. Assumes nothing.
+-- `text_table::letter_of` meets its contract: the rows are the table. Assumes nothing.
 use Prim.Native.Nat.{ℕ, _+_, _*_}
 use mathlib.Core.List.{List}
 use mathlib.Core.Path.{sym, ap, _∙_}
 use native.Mathlib.Omega.{arith}
 use borrow.Author.Needs.{needs}
 use lib.ListN.{length, getD, List·getD-eq-default}
-use Rattle.text_field.specs.Table.{table}
-use Rattle.text_field.proofs.Names.{length-table}
-use Rattle.text_field.proofs.letter_of.Statement.{statement}
-use Rattle.text_field.proofs.letter_of.Tie as tie
+use Rattle.text_table.specs.Table.{table}
+use Rattle.text_table.proofs.Table.{length-table}
+use Rattle.text_table.proofs.letter_of.Statement.{statement}
+use Rattle.text_table.proofs.letter_of.Tie as tie
 
 returns : tie.Need-returns
 returns c = let e = length-table in sym (List·getD-eq-default table 0 (omega arith))

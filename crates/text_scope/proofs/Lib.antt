@@ -1,0 +1,3 @@
+-- Laws of the scopes of names. Assumes nothing.
+
+pub mod Scopes

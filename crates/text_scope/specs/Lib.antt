@@ -1,0 +1,3 @@
+-- The scopes of names. Assumes nothing.
+
+pub mod Scopes

@@ -1,0 +1,3 @@
+-- Laws of the table of names. Assumes nothing.
+
+pub mod Table

@@ -1,0 +1,3 @@
+-- The table of the names that a text map knows. Assumes nothing.
+
+pub mod Table
