@@ -13,7 +13,7 @@ use Rattle.text_byte.proofs.Bytes.{within-true}
 use Rattle.text_byte.proofs.Spans.{span-stop, span-done}
 use Rattle.text_value.specs.declared.Reading.{Reading}
 use Rattle.text_value.specs.declared.Reading.the-variants.{NoValue}
-use Rattle.text_value.specs.Numbers.{zeroDigit, plusSign, minusSign, digitsFrom, digitsEnd, hexOk, hexEnd, smallX, wholeOk, decimalOk, isSign, behindSign}
+use Rattle.text_number.specs.Numbers.{zeroDigit, plusSign, minusSign, digitsFrom, digitsEnd, hexOk, hexEnd, smallX, wholeOk, decimalOk, isSign, behindSign}
 use Rattle.text_value.specs.Values.{isTrue, isFalse, wholeRead, digitsRead, numberRead, wordRead}
 use Rattle.text_scope.specs.declared.Scope.{Scope}
 use Rattle.text_table.specs.Table.{entryAt, rowSize}

@@ -1,3 +1,3 @@
--- Laws of digits. Assumes nothing.
+-- Laws of the values of a text map. Assumes nothing.
 
-pub mod Digits
+pub mod Capped

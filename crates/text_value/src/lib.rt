@@ -1,11 +1,10 @@
 // The values of a text map (W-206): a token as a whole number, a decimal, the places of a string or a flag. The definitions are in specs/.
-mod numbers;
-
 ghost use mathlib.Core.Path.{_≡_};
 ghost use Prim.Native.Nat.{_≤_, _<_};
 ghost use lib.ListN.{length};
 ghost use Rattle.text_value.specs.Values.{isTrue, isFalse, wholeRead, decimalRead, digitsRead, numberRead, wordRead, tokenRead};
 use text_byte as bytes;
+use text_number as numbers;
 use text_token::Token;
 
 // A value: of a string the places after its opening quote and of its closing one.

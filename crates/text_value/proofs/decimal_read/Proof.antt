@@ -7,8 +7,8 @@ use lib.Ieee.{Float}
 use lib.ListN.{length}
 use Rattle.text_value.specs.declared.Value.the-variants.{Decimal}
 use Rattle.text_value.specs.declared.Reading.the-variants.{Good}
-use Rattle.text_value.specs.Numbers.{quotient}
-use Rattle.text_value.proofs.Digits.{fits-true}
+use Rattle.text_number.specs.Numbers.{quotient}
+use Rattle.text_number.proofs.Digits.{fits-true}
 use borrow.Author.Needs.{needs}
 use Rattle.text_value.proofs.decimal_read.Statement.{statement}
 use Rattle.text_value.proofs.decimal_read.Tie as tie

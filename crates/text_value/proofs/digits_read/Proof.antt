@@ -4,8 +4,9 @@ use Prim.Native.Nat.{_-_}
 use denote.Ref.{now}
 use lib.ListN.{length}
 use Rattle.text_value.specs.Values.{wholeRead}
-use Rattle.text_value.specs.Numbers.{digitsFrom}
-use Rattle.text_value.proofs.Digits.{decimalOk-true, wholeRead-capped}
+use Rattle.text_number.specs.Numbers.{digitsFrom}
+use Rattle.text_number.proofs.Digits.{decimalOk-true}
+use Rattle.text_value.proofs.Capped.{wholeRead-capped}
 use borrow.Author.Needs.{needs}
 use Rattle.text_value.proofs.digits_read.Statement.{statement}
 use Rattle.text_value.proofs.digits_read.Tie as tie

@@ -3,7 +3,7 @@ use mathlib.Core.Path.{ap, _∙_}
 use denote.Ref.{now}
 use lib.Dec.{eqb}
 use Rattle.text_value.specs.Values.{digitsRead}
-use Rattle.text_value.specs.Numbers.{minusSign, behindSign, digitsEnd}
+use Rattle.text_number.specs.Numbers.{minusSign, behindSign, digitsEnd}
 use borrow.Author.Needs.{needs}
 use Rattle.text_value.proofs.number_read.Statement.{statement}
 use Rattle.text_value.proofs.number_read.Tie as tie

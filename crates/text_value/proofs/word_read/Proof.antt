@@ -5,8 +5,8 @@ use mathlib.Core.Bool.{false}
 use denote.Ref.{now}
 use lib.ListN.{length}
 use Rattle.text_value.specs.Values.{wholeRead}
-use Rattle.text_value.specs.Numbers.{digitsFrom}
-use Rattle.text_value.proofs.Digits.{wholeRead-capped}
+use Rattle.text_number.specs.Numbers.{digitsFrom}
+use Rattle.text_value.proofs.Capped.{wholeRead-capped}
 use borrow.Author.Needs.{needs}
 use Rattle.text_value.proofs.word_read.Statement.{statement}
 use Rattle.text_value.proofs.word_read.Tie as tie

@@ -1,0 +1,3 @@
+-- Laws of the numbers of a text map. Assumes nothing.
+
+pub mod Digits

@@ -1,0 +1,3 @@
+-- The numbers of a text map. Assumes nothing.
+
+pub mod Numbers
