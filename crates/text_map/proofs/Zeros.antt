@@ -8,7 +8,7 @@ use lib.IntN.{ℤ, pos}
 use lib.ListN.{length, getD, replicate, List·getD-eq-default}
 use Rattle.text_table.specs.Table.{table, defaultOf}
 use Rattle.text_block.specs.Blocks.{noPlaces}
-use Rattle.text_record.specs.Fields.{valueAt, defaultWhole, wholeOr, decimalOr, stringOr, flagOr, between, zeroPoint, wholeField, decimalField, stringField, flagField}
+use Rattle.text_given.specs.Fields.{valueAt, defaultWhole, wholeOr, decimalOr, stringOr, flagOr, between, zeroPoint, wholeField, decimalField, stringField, flagField}
 use Rattle.text_map.specs.Answers.{noRow}
 
 getD-zeros : (n k : ℕ) → _≡_ {A = ℕ} (getD (replicate n 0) k 0) 0

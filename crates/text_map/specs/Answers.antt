@@ -19,8 +19,8 @@ use Rattle.text_step.specs.declared.Notes.{Notes}
 use Rattle.text_step.specs.declared.Parse.{Parse}
 use Rattle.text_block.specs.Blocks.{noPlaces}
 use Rattle.text_reader.specs.Texts.{Stand, textFrom}
-use Rattle.text_record.specs.declared.Places.{Places}
-use Rattle.text_record.specs.Fields.{valueAt, between, stringOr}
+use Rattle.text_given.specs.declared.Places.{Places}
+use Rattle.text_given.specs.Fields.{valueAt, between, stringOr}
 use Rattle.text_map.specs.declared.TextSummary.{TextSummary}
 use Rattle.text_map.specs.declared.TextAnswer.{TextAnswer}
 use Rattle.text_map.specs.declared.TextAnswer.the-variants.{Summary, Refused as NoSummary}

@@ -11,7 +11,7 @@ use refusal::Check;
 use refusal::Refusal;
 use text_block::Asked;
 use text_block::Counts;
-use text_record::Places;
+use text_given::Places;
 use text_scope::Scope;
 use text_step::Parse;
 
@@ -75,7 +75,7 @@ fn summary_by(text: &[u8], s: Parse) -> TextAnswer
 fn namespace_of(text: &[u8], s: Parse) -> Places
     ensures { λ r. ⌜ r ≡ namespaceOf (now (text .entry)) s ⌝ }
 {
-    text_record::string_at(text, s.notes.namespace)
+    text_given::string_at(text, s.notes.namespace)
 }
 
 // 94 comes last.

@@ -1,4 +1,3 @@
 -- The records of a text map. Assumes nothing.
 
-pub mod Fields
 pub mod Records

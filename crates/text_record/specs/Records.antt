@@ -3,7 +3,7 @@
 use Prim.Native.Nat.{ℕ}
 use mathlib.Core.List.{List}
 use lib.IntN.{ℤ, pos}
-use Rattle.text_record.specs.Fields.{wholeField, decimalField, stringField, flagField}
+use Rattle.text_given.specs.Fields.{wholeField, decimalField, stringField, flagField}
 use Rattle.text_record.specs.declared.TextVertex.{TextVertex}
 use Rattle.text_record.specs.declared.TextLinedef.{TextLinedef}
 use Rattle.text_record.specs.declared.TextSidedef.{TextSidedef}

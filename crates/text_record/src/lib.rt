@@ -1,19 +1,11 @@
 // The records of a text map (W-206): the fields of a block by document 002, in its order, read off the places of their values. The
 // definitions are in specs/.
-mod fields;
-
 ghost use mathlib.Core.Path.{_≡_};
 ghost use Prim.Native.Nat.{_≤_};
 ghost use Rattle.text_table.specs.Table.{table};
 ghost use Rattle.text_record.specs.Records.{vertexOf, linedefOf, sidedefOf, sectorOf, thingOf};
-pub use fields::string_at;
-
-// A string in the text: after its opening quote, and at its closing one; both 0 where there is none.
-#[repr(C)]
-pub struct Places {
-    pub start: usize,
-    pub end: usize,
-}
+use text_given as fields;
+use text_given::Places;
 
 #[repr(C)]
 pub struct TextVertex {

@@ -25,7 +25,7 @@ use Rattle.text_value.specs.declared.Reading.the-variants.{Good, NoValue}
 use Rattle.text_value.specs.Values.{wordRead, tokenRead}
 use Rattle.text_scope.specs.declared.Scope.{Scope}
 use Rattle.text_field.specs.Names.{fieldNamed, kindNamed}
-use Rattle.text_record.specs.Fields.{valueAt}
+use Rattle.text_given.specs.Fields.{valueAt}
 use Rattle.text_block.specs.declared.Asked.{Asked}
 use Rattle.text_block.specs.declared.Wanted.{Wanted}
 use Rattle.text_block.specs.declared.Wanted.the-variants.{Statement, Equals, Value, Semicolon, NoMore}

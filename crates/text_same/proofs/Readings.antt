@@ -25,7 +25,7 @@ use Rattle.text_value.specs.declared.Reading.{Reading}
 use Rattle.text_value.specs.declared.Reading.the-variants.{Good, WholePast, DecimalPast, NoValue}
 use Rattle.text_number.specs.Numbers.{digitsFrom, digitsEnd, hexOk, wholeOk, decimalOk, minusSign, behindSign, signed, mostOf, decimalFits, decimalDigits, quotient}
 use Rattle.text_value.specs.Values.{isTrue, isFalse, wholeRead, digitsRead, wordRead, tokenRead}
-use Rattle.text_record.specs.Fields.{wholeOr, decimalOr, stringOr, flagOr}
+use Rattle.text_given.specs.Fields.{wholeOr, decimalOr, stringOr, flagOr}
 use Rattle.text_same.specs.Answers.{stringBytes}
 
 -- inside a comment no byte is a token's first, and between tokens one is that stops there

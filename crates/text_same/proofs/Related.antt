@@ -13,7 +13,7 @@ use Rattle.text_token.specs.Tokens.{wordForm, bytesOf, wordOf}
 use Rattle.text_value.specs.Values.{tokenRead}
 use Rattle.text_scope.specs.declared.Scope.{Scope}
 use Rattle.text_field.specs.Names.{fieldNamed, kindNamed}
-use Rattle.text_record.specs.Fields.{valueAt}
+use Rattle.text_given.specs.Fields.{valueAt}
 use Rattle.text_block.specs.declared.Wanted.{Wanted}
 use Rattle.text_block.specs.declared.Wanted.the-variants.{Statement, Equals, Value, Semicolon, NoMore}
 use Rattle.text_step.specs.declared.Notes.{Notes}

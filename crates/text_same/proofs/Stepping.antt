@@ -23,7 +23,7 @@ use Rattle.text_scope.specs.declared.Scope.the-variants.{Top}
 use Rattle.text_table.specs.Table.{isRequired, whole, decimal, string, flag}
 use Rattle.text_scope.specs.Scopes.{firstRow, rowCount, scopeNumber}
 use Rattle.text_field.specs.Names.{every, fieldNamed, kindNamed}
-use Rattle.text_record.specs.Fields.{valueAt}
+use Rattle.text_given.specs.Fields.{valueAt}
 use Rattle.text_block.specs.declared.Asked.{Asked}
 use Rattle.text_block.specs.declared.Counts.{Counts}
 use Rattle.text_block.specs.declared.Wanted.{Wanted}

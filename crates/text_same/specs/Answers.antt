@@ -13,8 +13,8 @@ use Rattle.refusal.specs.Table.{numberOf}
 use Rattle.text_token.specs.Tokens.{bytesOf}
 use Rattle.text_block.specs.declared.Counts.{Counts}
 use Rattle.text_reader.specs.Texts.{Stand}
-use Rattle.text_record.specs.declared.Places.{Places}
-use Rattle.text_record.specs.Fields.{valueAt, wholeOr, decimalOr, stringOr, flagOr}
+use Rattle.text_given.specs.declared.Places.{Places}
+use Rattle.text_given.specs.Fields.{valueAt, wholeOr, decimalOr, stringOr, flagOr}
 use Rattle.text_map.specs.Answers.{blockCheck, namespaceOf}
 
 -- both pass, or both are refused with one number

@@ -1,7 +1,7 @@
 -- `text_record::thing_of` meets its contract: field by field, each as what it holds. Assumes nothing.
 use native.Mathlib.Omega.{arith}
 use borrow.Author.Needs.{needs}
-use Rattle.text_record.proofs.Whole.{whole}
+use Rattle.text_given.proofs.Whole.{whole}
 use Rattle.text_record.proofs.thing_of.Statement.{statement}
 use Rattle.text_record.proofs.thing_of.Tie as tie
 

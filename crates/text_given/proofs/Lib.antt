@@ -1,0 +1,3 @@
+-- Laws of the values of fields. Assumes nothing.
+
+pub mod Whole

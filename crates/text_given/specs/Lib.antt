@@ -1,0 +1,3 @@
+-- The value of one field of a text map. Assumes nothing.
+
+pub mod Fields
