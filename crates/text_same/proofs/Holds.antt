@@ -40,7 +40,7 @@ use Rattle.text_map.specs.Answers.{blockCheck}
 use Rattle.text_same.specs.Tokens.{SameLetters, SameLexeme, placeOf, SameFirst, SameTokens}
 use Rattle.text_same.specs.Answers.{SameCheck, both-pass, both-refused, SameValue, SameStand}
 use Rattle.text_same.specs.Promises.{TokensDecide, after, beginsAt, touches, touchedNext, LastValueCounts}
-use Rattle.text_same.proofs.Readings.{token-again, token-start, token-ended, cond-both, token-same, SameReading, same-none, whole-same, decimal-same, flag-same, string-same}
+use Rattle.text_same.proofs.Readings.{token-again, token-start, token-ended, cond-both, token-same, SameReading, same-none, whole-same, decimal-same, flag-same, string-same, absent-same}
 use Rattle.text_same.proofs.Letters.{field-named, kind-named, letters-read}
 use Rattle.text_same.proofs.Related.{SamePlace, SameName, Begun, SameWanted, want-statement, want-equals, want-value, want-semicolon, want-none, SameParse, SameToken}
 use Rattle.text_same.proofs.Stepping.{stepped-alike, no-places, SameFields, filed-alike}
@@ -246,6 +246,7 @@ stand-alike a b h = record {
   check = h .parse .check;
   asked = asked-alike (h .parse .check) (h .parse .base .notes .found);
   namespace = string-same (h .parse .base .notes .namespace .read);
+  absent = absent-same (h .parse .base .notes .namespace .read);
   counts = h .parse .base .notes .counts;
   kind = h .parse .base .notes .kind;
   values = λ k. let v = h .kept .values k .read in record {
@@ -253,6 +254,7 @@ stand-alike a b h = record {
     decimal = decimal-same v;
     flag = flag-same v;
     string = string-same v;
+    absent = absent-same v;
   };
 }
 

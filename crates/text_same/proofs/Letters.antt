@@ -17,8 +17,8 @@ use Rattle.text_number.specs.Numbers.{zeroDigit, plusSign, minusSign, digitsFro
 use Rattle.text_value.specs.Values.{isTrue, isFalse, wholeRead, digitsRead, numberRead, wordRead}
 use Rattle.text_scope.specs.declared.Scope.{Scope}
 use Rattle.text_table.specs.Table.{entryAt, rowSize}
-use Rattle.text_scope.specs.Scopes.{firstRow, rowCount, scopeOf}
 use Rattle.text_field.specs.Names.{every, longAs, isName, nameIn, fieldNamed, kindNamed, kindRows}
+use Rattle.text_scope.specs.Scopes.{firstRow, rowCount, scopeOf}
 use Rattle.text_step.specs.Steps.{identifierOk}
 use Rattle.text_same.specs.Tokens.{SameLetters}
 use Rattle.text_same.proofs.Readings.{cond-both, SameReading, same-flag, same-none}

@@ -4,7 +4,7 @@ use mathlib.Core.Bool.{Bool, true, false, not, _&&_, cond, true≢false}
 use mathlib.Core.List.{List, [], _∷_}
 use mathlib.Core.Path.{_≡_, refl, sym, ap, _∙_, subst}
 use native.Mathlib.Omega.{arith}
-use borrow.Author.Tests.{ltb-true, lt-ltb, le-ltb}
+use borrow.Author.Tests.{ltb-true, lt-ltb, le-ltb, ne-eqb}
 use lib.Dec.{eqb, ltb, leb}
 use lib.IntN.{ℤ}
 use lib.Ieee.{Float}
@@ -18,7 +18,8 @@ use Rattle.text_byte.specs.Bytes.{newline, star, slash, doubleQuote, isMark}
 use Rattle.text_gap.specs.Gaps.{between, modeAfter, isStop, isOpen, gap, gapFrom}
 use Rattle.text_token.specs.Tokens.{endForm, unclosedForm, wordForm, stringForm, quoteEnd, ended, tokenHere, tokenBehind, tokenAt, bytesOf, wordOf}
 use Rattle.text_byte.proofs.Spans.{cond-on}
-use Rattle.text_gap.proofs.Scans.{gap-stop, gap-reach}
+use Rattle.text_gap.proofs.Scans.{gap-reach}
+use Rattle.text_gap.proofs.Scans.{gap-stop}
 use Rattle.text_value.specs.declared.Value.{Value}
 use Rattle.text_value.specs.declared.Value.the-variants.{Whole, Decimal, Text, Flag}
 use Rattle.text_value.specs.declared.Reading.{Reading}
@@ -26,7 +27,7 @@ use Rattle.text_value.specs.declared.Reading.the-variants.{Good, WholePast, Dec
 use Rattle.text_number.specs.Numbers.{digitsFrom, digitsEnd, hexOk, wholeOk, decimalOk, minusSign, behindSign, signed, mostOf, decimalFits, decimalDigits, quotient}
 use Rattle.text_value.specs.Values.{isTrue, isFalse, wholeRead, digitsRead, wordRead, tokenRead}
 use Rattle.text_given.specs.Fields.{wholeOr, decimalOr, stringOr, flagOr}
-use Rattle.text_same.specs.Answers.{stringBytes}
+use Rattle.text_same.specs.Answers.{stringBytes, isAbsent}
 
 -- inside a comment no byte is a token's first, and between tokens one is that stops there
 module _ (text : List ℕ) where
@@ -150,12 +151,12 @@ cond-both-on P {b} {c} {x} {x′} {y} {y′} e f g = subst (λ (z : Bool). P (co
 pub cond-both : {X Y : Type 0} (P : X → Y → Type 0) {b c : Bool} {x x′ : X} {y y′ : Y} → b ≡ c → P x y → P x′ y′ → P (cond b x x′) (cond c y y′)
 cond-both P e f g = cond-both-on P e (λ _. f) g
 
--- the same reading in two texts: strings by their bytes
+-- the same reading in two texts: strings by their bytes, behind their opening quotes
 pub data SameReading (a b : List ℕ) : Reading → Reading → Type 0 where
   same-whole : (z : ℤ) → SameReading a b (Good (Whole z)) (Good (Whole z))
   same-decimal : (x : Float) → SameReading a b (Good (Decimal x)) (Good (Decimal x))
   same-flag : (f : Bool) → SameReading a b (Good (Flag f)) (Good (Flag f))
-  same-string : (s e p q : ℕ) → bytesOf a s e ≡ bytesOf b p q → SameReading a b (Good (Text s e)) (Good (Text p q))
+  same-string : (s e p q : ℕ) → bytesOf a (s + 1) e ≡ bytesOf b (p + 1) q → SameReading a b (Good (Text (s + 1) e)) (Good (Text (p + 1) q))
   same-whole-past : SameReading a b WholePast WholePast
   same-decimal-past : SameReading a b DecimalPast DecimalPast
   same-none : SameReading a b NoValue NoValue
@@ -196,6 +197,17 @@ module _ {a b : List ℕ} where
   string-same same-whole-past = refl
   string-same same-decimal-past = refl
   string-same same-none = refl
+
+  -- no string that is given begins at 0
+  pub absent-same : {r q : Reading} → SameReading a b r q → isAbsent (stringOr r) ≡ isAbsent (stringOr q)
+  absent-same (same-whole z) = refl
+  absent-same (same-decimal x) = refl
+  absent-same (same-flag f) = refl
+  absent-same (same-string s e p q h) =
+      ap (λ (x : Bool). x && eqb e 0) (ne-eqb (s + 1) 0 (λ z. omega (arith, z))) ∙ sym (ap (λ (x : Bool). x && eqb q 0) (ne-eqb (p + 1) 0 (λ z. omega (arith, z))))
+  absent-same same-whole-past = refl
+  absent-same same-decimal-past = refl
+  absent-same same-none = refl
 
 -- a string's bytes behind its opening quote
 drop-take : (n : ℕ) (xs : List ℕ) → drop 1 (take n xs) ≡ take (n - 1) (drop 1 xs)
@@ -239,5 +251,5 @@ module _ (a b : List ℕ) where
   pub token-same : (t u : Token) → t .form ≡ u .form → wordOf a t ≡ wordOf b u → SameReading a b (tokenRead a t) (tokenRead b u)
   token-same t u e h =
       cond-both (SameReading a b) (ap (λ (f : ℕ). eqb f stringForm) e)
-      (same-string (t .start + 1) (t .end) (u .start + 1) (u .end) (inside-string a (t .start) (t .end) ∙ ap (drop 1) h ∙ sym (inside-string b (u .start) (u .end))))
+      (same-string (t .start) (t .end) (u .start) (u .end) (inside-string a (t .start) (t .end) ∙ ap (drop 1) h ∙ sym (inside-string b (u .start) (u .end))))
       (cond-both (SameReading a b) (ap (λ (f : ℕ). eqb f wordForm) e) (subst (λ (w : List ℕ). SameReading a b (wordRead (wordOf a t)) (wordRead w)) h (word-self (wordOf a t))) same-none)

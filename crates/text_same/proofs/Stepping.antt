@@ -21,8 +21,8 @@ use Rattle.text_value.specs.Values.{tokenRead}
 use Rattle.text_scope.specs.declared.Scope.{Scope}
 use Rattle.text_scope.specs.declared.Scope.the-variants.{Top}
 use Rattle.text_table.specs.Table.{isRequired, whole, decimal, string, flag}
-use Rattle.text_scope.specs.Scopes.{firstRow, rowCount, scopeNumber}
 use Rattle.text_field.specs.Names.{every, fieldNamed, kindNamed}
+use Rattle.text_scope.specs.Scopes.{firstRow, rowCount, scopeNumber}
 use Rattle.text_given.specs.Fields.{valueAt}
 use Rattle.text_block.specs.declared.Asked.{Asked}
 use Rattle.text_block.specs.declared.Counts.{Counts}
