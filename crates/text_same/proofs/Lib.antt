@@ -6,3 +6,8 @@ pub mod Related
 pub mod Stepping
 pub mod Holds
 pub mod Unknown
+pub mod Moved
+pub mod Gaps
+pub mod Front
+pub mod Seams
+pub mod Between

@@ -54,10 +54,10 @@ module _ (text : List ℕ) where
   stops-between Stop i e h = absurd (true≢false e)
 
   -- a gap that ends before the last of its `n` places ends at a token's first byte
-  abbrev Stops : ℕ → Type 0
+  abbrev pub Stops : ℕ → Type 0
   Stops i = isStop (between (getD text i 0) (getD text (i + 1) 0)) ≡ true
 
-  gap-stops : (m : Mode) (at n : ℕ) → isStop m ≡ false → gapFrom text m at n .at < at + n → Stops (gapFrom text m at n .at)
+  pub gap-stops : (m : Mode) (at n : ℕ) → isStop m ≡ false → gapFrom text m at n .at < at + n → Stops (gapFrom text m at n .at)
   unfolding gapFrom
   gap-stops m at zero e h = absurd (omega (arith, h))
   gap-stops m at (suc n) e h =
@@ -66,11 +66,17 @@ module _ (text : List ℕ) where
       (λ q h. stops-between m at e q)
       (λ q h. gap-stops after (at + 1) n q (omega (arith, h))) h
 
+  -- behind a gap that ends inside the text
+  pub behind-inside : (g : Gap) → g .at < length text → tokenBehind text g ≡ tokenHere text (g .at)
+  behind-inside g h =
+      ap (λ (b : Bool). cond b (tokenHere text (g .at)) (cond (isOpen (g .mode)) (ended text unclosedForm) (ended text endForm)))
+      (lt-ltb (g .at) (length text) h)
+
   -- behind a gap that ends at a token's first byte there is no other gap
   here-again : (i : ℕ) → i < length text → Stops i → tokenAt text i ≡ tokenHere text i
   here-again i h e =
       ap (tokenBehind text) (gap-stop text Between i (length text) h refl refl e)
-      ∙ ap (λ (b : Bool). cond b (tokenHere text i) (cond (isOpen (between (getD text i 0) (getD text (i + 1) 0))) (ended text unclosedForm) (ended text endForm))) (lt-ltb i (length text) h)
+      ∙ behind-inside (gap (between (getD text i 0) (getD text (i + 1) 0)) i) h
 
   -- a token's first byte is where it is read
   here-start : (i : ℕ) → wordForm ≤ tokenHere text i .form → tokenHere text i .start ≡ i
@@ -82,6 +88,16 @@ module _ (text : List ℕ) where
     where
       First : Token → Type 0
       First t = wordForm ≤ t .form → t .start ≡ i
+
+  -- and that is where the gap in front of it ends
+  pub gap-start : (at : ℕ) → wordForm ≤ tokenAt text at .form → tokenAt text at .start ≡ gapFrom text Between at (length text - at) .at
+  gap-start at =
+      let g = gapFrom text Between at (length text - at) in
+      cond-on (First (g .at)) (ltb (g .at) (length text)) (λ _. here-start (g .at))
+      (λ _. cond-on (First (g .at)) (isOpen (g .mode)) (λ _ f. absurd (omega (arith, f))) (λ _ f. absurd (omega (arith, f))))
+    where
+      First : ℕ → Token → Type 0
+      First i t = wordForm ≤ t .form → t .start ≡ i
 
   -- a token is found again from its first byte on
   pub token-again : (at : ℕ) → wordForm ≤ tokenAt text at .form → tokenAt text (tokenAt text at .start) ≡ tokenAt text at
@@ -203,8 +219,10 @@ module _ {a b : List ℕ} where
   absent-same (same-whole z) = refl
   absent-same (same-decimal x) = refl
   absent-same (same-flag f) = refl
-  absent-same (same-string s e p q h) =
-      ap (λ (x : Bool). x && eqb e 0) (ne-eqb (s + 1) 0 (λ z. omega (arith, z))) ∙ sym (ap (λ (x : Bool). x && eqb q 0) (ne-eqb (p + 1) 0 (λ z. omega (arith, z))))
+  absent-same (same-string s e p q h) = given s e ∙ sym (given p q)
+    where
+      given : (k n : ℕ) → (eqb (k + 1) 0 && eqb n 0) ≡ false
+      given k n = ap (λ (x : Bool). x && eqb n 0) (ne-eqb (k + 1) 0 (λ z. omega (arith, z)))
   absent-same same-whole-past = refl
   absent-same same-decimal-past = refl
   absent-same same-none = refl

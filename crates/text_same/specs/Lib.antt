@@ -2,4 +2,5 @@
 
 pub mod Tokens
 pub mod Answers
+pub mod Gaps
 pub mod Promises

@@ -1,16 +1,17 @@
 -- What changes nothing but places, and which of several values counts (02, W-206). Assumes nothing.
-use Prim.Native.Nat.{ℕ, zero, suc, _+_, _<_}
-use mathlib.Core.Bool.{Bool, true, false, _&&_}
-use mathlib.Core.List.{List}
+use Prim.Native.Nat.{ℕ, zero, suc, _+_, _-_, _≤_, _<_}
+use mathlib.Core.Bool.{Bool, true, false, not, _&&_}
+use mathlib.Core.List.{List, [], _++_}
 use mathlib.Core.Path.{_≡_}
 use lib.Dec.{eqb}
 use lib.ListN.{getD, length}
 use Rattle.text_token.specs.declared.Token.{Token}
 use Rattle.refusal.specs.declared.Check.the-variants.{Pass}
-use Rattle.text_byte.specs.Bytes.{equalsSign, semicolon, openBrace}
-use Rattle.text_token.specs.Tokens.{tokenAt, wordOf}
+use Rattle.text_byte.specs.Bytes.{slash, equalsSign, semicolon, openBrace}
+use Rattle.text_token.specs.Tokens.{wordForm, tokenAt, wordOf}
 use Rattle.text_value.specs.Values.{tokenRead}
 use Rattle.text_scope.specs.declared.Scope.{Scope}
+use Rattle.text_table.specs.Table.{bytes}
 use Rattle.text_field.specs.Names.{fieldNamed}
 use Rattle.text_block.specs.declared.Asked.{Asked}
 use Rattle.text_block.specs.declared.Wanted.{Wanted}
@@ -18,13 +19,42 @@ use Rattle.text_block.specs.declared.Wanted.the-variants.{Statement, Equals, Va
 use Rattle.text_block.specs.Blocks.{noPlaces}
 use Rattle.text_step.specs.Steps.{isIdentifier, valueCheck}
 use Rattle.text_reader.specs.Texts.{Stand, stand, tokenMore, startAt, textFrom}
-use Rattle.text_same.specs.Tokens.{SameFirst, SameTokens}
+use Rattle.text_same.specs.Tokens.{placeOf, SameFirst, SameTokens}
 use Rattle.text_same.specs.Answers.{SameStand}
+use Rattle.text_same.specs.Gaps.{IsGap}
 
--- two texts with the same tokens have the same answers but for places, whatever is asked for and from whatever places on: neither white space
--- and comments between tokens nor the case of letters in identifiers and keywords change anything else
+-- two texts with the same tokens have the same answers but for places, whatever is asked for and from whatever places on: what stands between
+-- tokens, and the case of letters in identifiers and keywords, changes nothing else
 abbrev pub TokensDecide : Type 0
 TokensDecide = (a b : List ℕ) (asked : Asked) (at from : ℕ) → SameTokens a at b from → SameStand a b (textFrom a asked at) (textFrom b asked from)
+
+-- a token's last byte and a gap's first do not open a comment together: they are not both slashes
+abbrev pub joinsClean : List ℕ → List ℕ → Bool
+joinsClean front gap = not (eqb (getD front (length front - 1) 0) slash && eqb (getD gap 0 0) slash)
+
+-- a text with a gap somewhere
+abbrev pub gapped : List ℕ → List ℕ → List ℕ → List ℕ
+gapped front gap rest = front ++ (gap ++ rest)
+
+-- behind `front`, where the first `n` tokens from `at` on end, `old` may give place to `new`; not to nothing, since the tokens at its sides
+-- could become one
+pub record GapChanged (front old new rest : List ℕ) (at n : ℕ) : Type 0 where
+  pub oldGap : IsGap old
+  pub newGap : IsGap new
+  pub some : 0 < n → 0 < length old → 0 < length new
+  pub clean : 0 < n → joinsClean front new ≡ true
+  pub tokens : (k : ℕ) → k < n → wordForm ≤ tokenAt (gapped front old rest) (placeOf (gapped front old rest) at k) .form
+  pub boundary : placeOf (gapped front old rest) at n ≡ length front
+
+-- white space and comments put between two tokens (`old` is empty, or a part of `new`), or others in their place, change no answer but places,
+-- whatever is asked for and from whatever place on
+abbrev pub GapsDoNotMatter : Type 0
+GapsDoNotMatter = (front old new rest : List ℕ) (asked : Asked) (at n : ℕ) → GapChanged front old new rest at n
+    → let a = gapped front old rest in let b = gapped front new rest in SameStand a b (textFrom a asked at) (textFrom b asked at)
+
+-- for example, a comment behind the first token of ` x = 1;`
+abbrev pub CommentPutIn : Type 0
+CommentPutIn = GapChanged (bytes " x") [] (bytes "/* a */\n") (bytes " = 1;") 0 1
 
 -- `n` tokens more
 unfoldable pub after : List ℕ → Asked → ℕ → Stand → Stand
