@@ -1,21 +1,18 @@
--- Neither white space and comments between tokens nor the case of letters change anything but places: token by token both texts are read to the
--- same point. And of a repeated field the last value counts. Assumes nothing.
-use Prim.Native.Nat.{ℕ, zero, suc, _+_, _-_, _≤_, _<_}
+-- Two texts with the same tokens, up to the case of letters, have the same answers but for places: token by token both are read to the same
+-- point. Assumes nothing.
+use Prim.Native.Nat.{ℕ, zero, suc, _+_, _≤_, _<_}
 use mathlib.Core.Bool.{Bool, true, false, not, _&&_, cond, true≢false}
-use mathlib.Core.List.{List, [], _∷_}
+use mathlib.Core.List.{List}
 use mathlib.Core.Logic.{⊎-elim}
 use mathlib.Core.Path.{_≡_, refl, sym, ap, _∙_, subst}
 use native.Mathlib.Omega.{arith}
-use borrow.Author.Tests.{ne-eqb, eq-eqb, eqb-false, ltb-true, ltb-false}
+use borrow.Author.Tests.{ne-eqb, ltb-true, ltb-false}
 use lib.Dec.{eqb, ltb}
-use lib.ListN.{getD, length, set}
-use lib.Seq.{getD-set-same, getD-set-other}
+use lib.ListN.{length}
 use Rattle.refusal.specs.declared.Check.{Check}
-use Rattle.refusal.specs.declared.Check.the-variants.{Pass, Refused}
 use Rattle.refusal.specs.declared.Refusal.the-variants.{TextMissing}
 use Rattle.refusal.specs.Checks.{unless, _andThen_}
 use Rattle.text_token.specs.declared.Token.{Token}
-use Rattle.text_byte.specs.Bytes.{semicolon}
 use Rattle.text_token.specs.Tokens.{wordForm, stringForm, tokenAt, wordOf}
 use Rattle.text_byte.proofs.Spans.{cond-on}
 use Rattle.text_token.proofs.Tokens.{tokenAt-placed}
@@ -23,23 +20,19 @@ use Rattle.text_value.specs.declared.Reading.{Reading}
 use Rattle.text_value.specs.declared.Value.the-variants.{Text}
 use Rattle.text_value.specs.declared.Reading.the-variants.{Good, NoValue}
 use Rattle.text_value.specs.Values.{wordRead, tokenRead}
-use Rattle.text_scope.specs.declared.Scope.{Scope}
 use Rattle.text_field.specs.Names.{fieldNamed, kindNamed}
-use Rattle.text_given.specs.Fields.{valueAt}
 use Rattle.text_block.specs.declared.Asked.{Asked}
 use Rattle.text_block.specs.declared.Wanted.{Wanted}
 use Rattle.text_block.specs.declared.Wanted.the-variants.{Statement, Equals, Value, Semicolon, NoMore}
-use Rattle.text_step.specs.declared.Parse.{Parse}
 use Rattle.text_reader.specs.Runs.{runs}
-use Rattle.text_block.specs.Blocks.{noPlaces, stored, filed}
+use Rattle.text_block.specs.Blocks.{filed}
 use Rattle.text_step.specs.Steps.{identifierOk, stepBy}
-use Rattle.text_reader.specs.Texts.{Stand, stand, isMore, goes, keptAfter, tokenMore, startAt, textFrom}
+use Rattle.text_reader.specs.Texts.{Stand, stand, isMore, goes, keptAfter, tokenMore, textFrom}
 use Rattle.text_reader.proofs.Runs.{runs-end}
 use Rattle.text_reader.proofs.Onward.{step-next}
-use Rattle.text_map.specs.Answers.{blockCheck}
-use Rattle.text_same.specs.Tokens.{SameLetters, SameLexeme, placeOf, SameFirst, SameTokens}
-use Rattle.text_same.specs.Answers.{SameCheck, both-pass, both-refused, SameValue, SameStand}
-use Rattle.text_same.specs.Promises.{TokensDecide, after, beginsAt, touches, touchedNext, LastValueCounts}
+use Rattle.text_same.specs.Tokens.{SameLetters, SameLexeme, placeOf, SameFirst}
+use Rattle.text_same.specs.Answers.{SameCheck, both-pass, both-refused, SameStand}
+use Rattle.text_same.specs.Promises.{TokensDecide, after, beginsAt}
 use Rattle.text_same.proofs.Readings.{token-again, token-start, token-ended, cond-both, token-same, SameReading, same-none, whole-same, decimal-same, flag-same, string-same, absent-same}
 use Rattle.text_same.proofs.Letters.{field-named, kind-named, letters-read}
 use Rattle.text_same.proofs.Related.{SamePlace, SameName, Begun, SameWanted, want-statement, want-equals, want-value, want-semicolon, want-none, SameParse, SameToken}
@@ -226,7 +219,7 @@ module _ (text : List ℕ) (asked : Asked) where
       let q : suc m + n ≡ suc (m + n) = omega arith in ap (λ (k : ℕ). after text asked k s) q ∙ after-add m n (tokenMore text asked s)
 
   -- a text is read to its end with any number of tokens from its length on
-  text-long : (from n k : ℕ) → n ≡ k + suc (length text) → textFrom text asked from ≡ after text asked n (beginsAt from)
+  pub text-long : (from n k : ℕ) → n ≡ k + suc (length text) → textFrom text asked from ≡ after text asked n (beginsAt from)
   text-long from n k e =
       sym (run-long goes (tokenMore text asked) k (suc (length text)) (beginsAt from)
       (runs-end goes (tokenMore text asked) (λ (s : Stand). s .parse .at) (length text)
@@ -269,43 +262,3 @@ pub tokens-decide : TokensDecide
 tokens-decide a b asked at from h =
     let n = length a + suc (length b) in
     ends-alike a b asked at from n n (length b) (length a) (omega arith) refl (after-alike a b asked n (begins-alike a b n at from (h n)))
-
--- a known field is counted from 1
-field-of : (field i : ℕ) → eqb field 0 ≡ false → i ≡ field - 1 → field ≡ i + 1
-field-of zero i e h = absurd (true≢false e)
-field-of (suc f) i e h = omega (arith, h)
-
-stored-there : (places : List ℕ) (i place : ℕ) → i < length places → getD (stored places (i + 1) place) i 0 ≡ place
-stored-there places i place h =
-    let known : eqb (i + 1) 0 ≡ false = ne-eqb (i + 1) 0 (λ e. omega (arith, e)) in
-    let back : i + 1 - 1 ≡ i = omega arith in
-    ap (λ (x : Bool). getD (cond x places (set places (i + 1 - 1) place)) i 0) known ∙ ap (λ (k : ℕ). getD (set places k place) i 0) back
-    ∙ getD-set-same places i place 0 h
-
--- of a repeated field the last value counts
-kept-place : (i : ℕ) (w : Wanted) (t : Token) (places : List ℕ) → touches i w t ≡ false → getD (filed w t places) i 0 ≡ getD places i 0
-kept-place i Statement t places e = refl
-kept-place i (Equals start end) t places e = ap (λ (x : Bool). getD (cond x noPlaces places) i 0) e
-kept-place i (Value field) t places e = refl
-kept-place i (Semicolon field place) t places e = by (eqb (t .form) semicolon) (eqb field 0) refl e
-  where
-    by : (x y : Bool) → eqb field 0 ≡ y → (x && eqb field (i + 1)) ≡ false → getD (cond x (cond y places (set places (field - 1) place)) places) i 0 ≡ getD places i 0
-    by true true q f = refl
-    by true false q f = getD-set-other places (field - 1) i place 0 (λ h. eqb-false field (i + 1) f (field-of field i q h))
-    by false y q f = refl
-kept-place i NoMore t places e = refl
-
-after-kept : (text : List ℕ) (asked : Asked) (i n : ℕ) (s : Stand) → ((k : ℕ) → k < n → touchedNext text i (after text asked k s) ≡ false)
-    → getD (after text asked n s .places) i 0 ≡ getD (s .places) i 0
-unfolding after
-after-kept text asked i zero s h = refl
-after-kept text asked i (suc n) s h =
-    after-kept text asked i n (tokenMore text asked s) (λ k l. h (suc k) (omega (arith, l)))
-    ∙ kept-place i (s .parse .wanted) (tokenAt text (s .parse .at)) (s .places) (h 0 (omega arith))
-
-pub last-value-counts : LastValueCounts
-last-value-counts text asked s i place n long w f h =
-    after-kept text asked i n (tokenMore text asked s) h
-    ∙ ap (λ (v : Wanted). getD (filed v (tokenAt text (s .parse .at)) (s .places)) i 0) w
-    ∙ ap (λ (x : Bool). getD (cond x (stored (s .places) (i + 1) place) (s .places)) i 0) (eq-eqb _ _ f)
-    ∙ stored-there (s .places) i place long

@@ -5,6 +5,7 @@ pub mod Letters
 pub mod Related
 pub mod Stepping
 pub mod Holds
+pub mod LastValues
 pub mod Unknown
 pub mod Moved
 pub mod Gaps

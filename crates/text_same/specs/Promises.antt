@@ -17,7 +17,7 @@ use Rattle.text_block.specs.declared.Asked.{Asked}
 use Rattle.text_block.specs.declared.Wanted.{Wanted}
 use Rattle.text_block.specs.declared.Wanted.the-variants.{Statement, Equals, Value, Semicolon, NoMore}
 use Rattle.text_block.specs.Blocks.{noPlaces}
-use Rattle.text_step.specs.Steps.{isIdentifier, valueCheck}
+use Rattle.text_step.specs.Steps.{isTop, isIdentifier, valueCheck}
 use Rattle.text_reader.specs.Texts.{Stand, stand, tokenMore, startAt, textFrom}
 use Rattle.text_same.specs.Tokens.{placeOf, SameFirst, SameTokens}
 use Rattle.text_same.specs.Answers.{SameStand}
@@ -81,13 +81,51 @@ touches i NoMore t = false
 abbrev pub touchedNext : List ℕ → ℕ → Stand → Bool
 touchedNext text i s = touches i (s .parse .wanted) (tokenAt text (s .parse .at))
 
+-- the next token ends the block that is asked for
+pub record EndsAsked (text : List ℕ) (asked : Asked) (s : Stand) : Type 0 where
+  pub before : s .parse .notes .found ≡ false
+  pub behind : tokenMore text asked s .parse .notes .found ≡ true
+
+-- `place` is that of field `i` in the open block; and if the next token ends the block that is asked for, it is the one that the field is read
+-- from, over any number of tokens more
+pub record ValueCounts (text : List ℕ) (asked : Asked) (i place : ℕ) (s : Stand) : Type 0 where
+  pub here : getD (s .places) i 0 ≡ place
+  pub kept : EndsAsked text asked s → (m : ℕ) → getD (after text asked m (tokenMore text asked s) .kept) i 0 ≡ place
+
 -- of a repeated field the last value counts: behind an assignment to field `i` its value's place stays that of the field, over any number of
 -- tokens of which none ends another assignment to it or opens a block
 abbrev pub LastValueCounts : Type 0
 LastValueCounts = (text : List ℕ) (asked : Asked) (s : Stand) (i place n : ℕ) → i < length (s .places)
     → s .parse .wanted ≡ Semicolon (i + 1) place → tokenAt text (s .parse .at) .form ≡ semicolon
     → ((k : ℕ) → k < n → touchedNext text i (after text asked k (tokenMore text asked s)) ≡ false)
-    → getD (after text asked n (tokenMore text asked s) .places) i 0 ≡ place
+    → ValueCounts text asked i place (after text asked n (tokenMore text asked s))
+
+-- and the block's record is read from it (`blockFields` of `text_map`): if the assignment ends behind the first `m` tokens, and the block that
+-- is asked for `n` tokens further on, it is the field's place in the text that was read to its end
+abbrev pub LastValueIsRead : Type 0
+LastValueIsRead = (text : List ℕ) (asked : Asked) (from m i place n : ℕ)
+    → let s = after text asked n (tokenMore text asked (after text asked m (beginsAt from))) in
+    ValueCounts text asked i place s → EndsAsked text asked s → getD (textFrom text asked from .kept) i 0 ≡ place
+
+-- a token ends an assignment to a known name
+abbrev pub assigns : Wanted → Token → Bool
+assigns Statement t = false
+assigns (Equals start end) t = false
+assigns (Value field) t = false
+assigns (Semicolon field place) t = eqb (t .form) semicolon && not (eqb field 0)
+assigns NoMore t = false
+
+-- the next token does at the top, which knows the namespace alone
+abbrev pub namesNext : List ℕ → Stand → Bool
+namesNext text s = isTop (s .parse .scope) && assigns (s .parse .wanted) (tokenAt text (s .parse .at))
+
+-- the last namespace counts: behind `m` tokens the next one ends an assignment to it, and none further on does; then its value's place is the
+-- one that the answer is read from (`namespaceOf` of `text_map`)
+abbrev pub LastNamespaceCounts : Type 0
+LastNamespaceCounts = (text : List ℕ) (asked : Asked) (from m place : ℕ) → let s = after text asked m (beginsAt from) in
+    s .parse .wanted ≡ Semicolon 1 place → isTop (s .parse .scope) ≡ true → tokenAt text (s .parse .at) .form ≡ semicolon
+    → ((k : ℕ) → namesNext text (after text asked k (tokenMore text asked s)) ≡ false)
+    → textFrom text asked from .parse .notes .namespace ≡ place
 
 -- four tokens of a text from `at` on assign to a name that the scope does not know, some value within its limits; they end before `next`
 pub record UnknownAssigned (text : List ℕ) (scope : Scope) (at next : ℕ) : Type 0 where
