@@ -24,10 +24,11 @@ use Rattle.node.specs.declared.Choice.the-variants.{Right, Left}
 use Rattle.node.specs.Nodes.{subsectorBit, isNode, childOf}
 use Rattle.route.proofs.Heights.{node-or-end}
 use Rattle.route.proofs.Repeats.{or-either}
-use Rattle.renumber_order.specs.Orders.{indexIn, oldAt}
+use Rattle.renumber_order.specs.Orders.{indexIn}
+use Rattle.renumber_places.specs.Orders.{oldAt}
 use Rattle.renumber.specs.Renumbering.{renamed, newNode, renumbered}
 use Rattle.renumber.specs.Inner.{renamedBy, nodeBy, Writable}
-use Rattle.renumber_order.proofs.Members.{not-both}
+use Rattle.renumber_places.proofs.Members.{not-both}
 use Rattle.renumber_order.proofs.Placing.{own-place}
 use Rattle.renumber_order.proofs.Checking.{children-each, order-inside, child-word}
 

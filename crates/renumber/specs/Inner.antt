@@ -13,7 +13,8 @@ use Rattle.wad.specs.declared.map.Marker.the-variants.{Entry}
 use Rattle.level.specs.Verdict.{verdictBy, wordsAfterBy}
 use Rattle.renumber.specs.declared.Renumbering.{Renumbering}
 use Rattle.renumber_order.specs.Orders.{childrenOk}
-use Rattle.renumber_order.specs.Inner.{nodesCheck, placeWord, Ordered}
+use Rattle.renumber_order.specs.Inner.{nodesCheck, Ordered}
+use Rattle.renumber_places.specs.Inner.{placeWord}
 use Rattle.renumber.specs.Renumbering.{withChildren, checkBy, lumpBy, renumbered, renumberingOf}
 
 -- ---- from a marker on, and from the nodes on

@@ -18,7 +18,8 @@ use Rattle.level.specs.declared.Verdict.the-variants.{Accepted, Refused as NotA
 use Rattle.level.specs.Verdict.{nodesAt, verdict, wordsAfter}
 use Rattle.renumber.specs.declared.Renumbering.{Renumbering}
 use Rattle.renumber.specs.declared.Renumbering.the-variants.{Written, Refused as NotWritten}
-use Rattle.renumber_order.specs.Orders.{indexIn, oldAt, renumberCheck}
+use Rattle.renumber_order.specs.Orders.{indexIn, renumberCheck}
+use Rattle.renumber_places.specs.Orders.{oldAt}
 
 -- a node by its place in the list; a subsector as it is
 abbrev pub renamed : List ℕ → ℕ → ℕ

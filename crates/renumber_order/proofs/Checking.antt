@@ -17,9 +17,11 @@ use Rattle.node.specs.declared.Choice.the-variants.{Right, Left}
 use Rattle.node.specs.Nodes.{nodesOf, subsectorBit, isNode, childOf}
 use Rattle.route.proofs.Heights.{node-or-end}
 use Rattle.node.proofs.Nodes.{nodesOf-whole}
-use Rattle.renumber_order.specs.Orders.{lastOk, oldAt, childFirst, childrenOk}
-use Rattle.renumber_order.specs.Inner.{placed, placeWord, Ordered, ChildrenPlaced, beforeOk, bothBefore}
-use Rattle.renumber_order.proofs.Members.{not-both, not-held, held-both}
+use Rattle.renumber_order.specs.Orders.{lastOk, childFirst, childrenOk}
+use Rattle.renumber_places.specs.Orders.{oldAt}
+use Rattle.renumber_places.specs.Inner.{placed, placeWord}
+use Rattle.renumber_order.specs.Inner.{Ordered, ChildrenPlaced, beforeOk, bothBefore}
+use Rattle.renumber_places.proofs.Members.{not-both, not-held, held-both}
 use Rattle.renumber_order.proofs.Placing.{before-same}
 
 -- ---- 72

@@ -18,10 +18,12 @@ use Rattle.route.specs.Heights.{repeats, graphVerdict}
 use Rattle.route.specs.Reach.{reachedNodes}
 use Rattle.graph.specs.Inner.Searching.{Searchable}
 use Rattle.renumber_order.specs.Orders.{lateCheck, manyOk, onceOk, renumberCheck}
-use Rattle.renumber_order.specs.Inner.{markedOk, markedBelow, Marks, allMarked, PlacesHeld, Emptied, Filled, Ordered, OrderJudged, GraphJudged, graphCheck, nodesCheck}
-use Rattle.renumber_order.proofs.Members.{same-test}
-use Rattle.renumber_order.proofs.Marking.{marked-is, is-marked, below-few, marks-many, all-marked}
-use Rattle.renumber_order.proofs.Placing.{placed-none, all-places}
+use Rattle.renumber_places.specs.Inner.{markedOk, markedBelow, allMarked, PlacesHeld, Emptied, Filled}
+use Rattle.renumber_order.specs.Inner.{Marks, Ordered, OrderJudged, GraphJudged, graphCheck, nodesCheck}
+use Rattle.renumber_places.proofs.Members.{same-test}
+use Rattle.renumber_places.proofs.Marking.{marked-is, is-marked, below-few}
+use Rattle.renumber_order.proofs.Marking.{marks-many, all-marked}
+use Rattle.renumber_places.proofs.Placing.{placed-none, all-places}
 
 -- a refusal does not pass
 refused-passes : {X : Type 0} {r : Refusal} → Refused r ≡ Pass → X

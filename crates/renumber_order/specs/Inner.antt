@@ -1,11 +1,11 @@
--- Not for the reader of promises: what the contracts of the functions cite. After the search of `graph` the first `count` work words
--- mark the nodes that are reached; the next `count` words then hold the place of each node in the list. Assumes nothing.
-use Prim.Native.Nat.{ℕ, zero, suc, _+_, _*_, _≤_, _<_}
-use mathlib.Core.Bool.{Bool, true, false, _&&_, _||_, not, cond}
-use mathlib.Core.List.{List, [], _∷_}
+-- Not for the reader of promises: what the contracts of the functions cite. Marks and places are those of `renumber_places`.
+-- Assumes nothing.
+use Prim.Native.Nat.{ℕ, _+_, _*_, _≤_, _<_}
+use mathlib.Core.Bool.{Bool, false, _&&_, _||_, not}
+use mathlib.Core.List.{List}
 use mathlib.Core.Path.{_≡_}
-use lib.Dec.{ltb, eqb}
-use lib.ListN.{length, getD}
+use lib.Dec.{ltb}
+use lib.ListN.{length}
 use Rattle.refusal.specs.declared.Check.{Check}
 use Rattle.refusal.specs.declared.Check.the-variants.{Pass, Refused}
 use Rattle.refusal.specs.declared.Refusal.the-variants.{NodeLoop, NodeShared}
@@ -18,8 +18,9 @@ use Rattle.node.specs.Nodes.{subsectorBit, isNode, childOf}
 use Rattle.route.specs.Heights.{member, repeats, graphVerdict}
 use Rattle.node.specs.Inner.{NodesInRange}
 use Rattle.route.specs.Reach.{reachedNodes}
-use Rattle.graph.specs.Inner.Looks.{markOf}
-use Rattle.renumber_order.specs.Orders.{oldAt, renumberCheck}
+use Rattle.renumber_places.specs.Orders.{oldAt}
+use Rattle.renumber_order.specs.Orders.{renumberCheck}
+use Rattle.renumber_places.specs.Inner.{markedOk, placeWord, PlacesHeld}
 
 -- ---- the graph and the list
 
@@ -32,59 +33,10 @@ graphCheck (HasDepth depth) nodes order room = renumberCheck nodes order room
 abbrev pub nodesCheck : List ℕ → List ℕ → ℕ → Check
 nodesCheck nodes order room = graphCheck (graphVerdict nodes) nodes order room
 
--- ---- marks
-
--- node `v` is marked
-abbrev pub markedOk : List ℕ → ℕ → ℕ → Bool
-markedOk words count v = ltb v count && not (eqb (markOf words v) 0)
-
--- the marked nodes below `n`
-unfoldable pub markedBelow : List ℕ → ℕ → List ℕ
-markedBelow words zero = []
-markedBelow words (suc n) = cond (eqb (markOf words n) 0) (markedBelow words n) (n ∷ markedBelow words n)
-
 -- the marked nodes are the reached ones, of which there is none twice
 pub record Marks (nodes : List ℕ) (count : ℕ) (words : List ℕ) : Type 0 where
   pub says : (v : ℕ) → member v (reachedNodes nodes) ≡ markedOk words count v
   pub once : repeats (reachedNodes nodes) ≡ false
-
--- every number of the list is a marked node
-abbrev pub allMarked : List ℕ → ℕ → List ℕ → Bool
-allMarked words count [] = true
-allMarked words count (x ∷ xs) = markedOk words count x && allMarked words count xs
-
--- ---- places
-
--- no place
-abbrev pub noPlace : ℕ
-noPlace = 65535
-
--- the place of `v` among the first `n` numbers of the list
-unfoldable pub placed : List ℕ → ℕ → ℕ → ℕ
-placed order zero v = noPlace
-placed order (suc n) v = cond (eqb (oldAt order n) v) n (placed order n v)
-
--- the word that holds the place of `v`
-abbrev pub placeWord : List ℕ → ℕ → ℕ → ℕ
-placeWord words count v = getD words (count + v) 0
-
--- the words hold the places of the first `n` numbers
-abbrev pub PlacesHeld : List ℕ → ℕ → List ℕ → ℕ → Type 0
-PlacesHeld order n words count = (v : ℕ) → v < count → placeWord words count v ≡ placed order n v
-
--- `v` is marked, and has no place yet
-abbrev pub freeOk : List ℕ → ℕ → ℕ → Bool
-freeOk words count v = ltb v count && not (eqb (markOf words v) 0) && eqb (placeWord words count v) noPlace
-
--- what is known after the places were taken away: no place is held, and the marks are as they were
-pub record Emptied (count : ℕ) (before after : List ℕ) : Type 0 where
-  pub marks : (v : ℕ) → v < count → markOf after v ≡ markOf before v
-  pub places : (v : ℕ) → v < count → placeWord after count v ≡ noPlace
-
--- what is answered after the places were given
-pub record Filled (count : ℕ) (before order after : List ℕ) (answer : Bool) : Type 0 where
-  pub tells : answer ≡ allMarked before count order && not (repeats order)
-  pub holds : answer ≡ true → PlacesHeld order (length order) after count
 
 -- a list without repeats of nodes of the lump, whose places the words hold
 pub record Ordered (nodes : List ℕ) (count : ℕ) (words order : List ℕ) : Type 0 where

@@ -4,7 +4,7 @@ use Prim.Native.Nat.{ℕ, zero, suc, _*_}
 use mathlib.Core.Bool.{Bool, true, _&&_, _||_, not, cond}
 use mathlib.Core.List.{List, [], _∷_}
 use lib.Dec.{leb, ltb, eqb}
-use lib.ListN.{length, getD}
+use lib.ListN.{length}
 use Rattle.refusal.specs.declared.Check.{Check}
 use Rattle.refusal.specs.declared.Refusal.the-variants.{RenumberNodes, RenumberChild, RenumberRoot, RenumberLength, RenumberRoom}
 use Rattle.refusal.specs.Checks.{unless, _andThen_}
@@ -14,6 +14,7 @@ use Rattle.node.specs.declared.Choice.the-variants.{Right, Left}
 use Rattle.node.specs.Nodes.{nodesOf, isNode, childOf, root}
 use Rattle.route.specs.Heights.{member, repeats}
 use Rattle.route.specs.Reach.{reachedNodes}
+use Rattle.renumber_places.specs.Orders.{oldAt}
 
 -- how many numbers of the list stand before the first `v`; all where it is not there
 abbrev pub indexIn : List ℕ → ℕ → ℕ
@@ -40,10 +41,6 @@ lastOk v (x ∷ y ∷ ys) = lastOk v (y ∷ ys)
 
 abbrev pub rootOk : List ℕ → List ℕ → Bool
 rootOk nodes order = lastOk (root (nodesOf nodes)) order
-
--- the old number at place `i`
-abbrev pub oldAt : List ℕ → ℕ → ℕ
-oldAt order i = getD order i 0
 
 -- 71: a child of the node at place `i` is a subsector, or stands before it
 abbrev pub childFirst : List ℕ → List ℕ → ℕ → Choice → Bool

@@ -1,7 +1,6 @@
 // The node graph and the list to renumber by (W-212), judged: 31 and 32, then 73, 70, 72, 71 and 74. The search of `graph` leaves its marks in the first run of
-// words; the second run then holds the place of each node in the list. Each number of the list is looked at once for each test.
+// words; `renumber_places` then has the place of each node in the second. Each number of the list is looked at once for each test.
 ghost use mathlib.Core.Path.{_≡_};
-ghost use mathlib.Core.Bool.{cond};
 ghost use Prim.Native.Nat.{_+_, _*_, _≤_, _<_};
 ghost use lib.ListN.{length};
 ghost use Rattle.built.specs.Nodes.{nodeSize};
@@ -9,15 +8,12 @@ ghost use Rattle.node.specs.Nodes.{subsectorBit, root};
 ghost use Rattle.graph.specs.Inner.Looks.{markOf};
 ghost use Rattle.graph.specs.Inner.Searching.{Searchable, Explored};
 ghost use Rattle.renumber_order.specs.Orders.{lastOk, childrenOk, lateCheck};
-ghost use Rattle.renumber_order.specs.Inner.{markedBelow, Marks, PlacesHeld, freeOk, Emptied, Filled, Ordered, OrderJudged, GraphJudged, ChildrenPlaced, beforeOk, bothBefore};
+ghost use Rattle.renumber_order.specs.Inner.{Marks, Ordered, OrderJudged, GraphJudged, ChildrenPlaced, beforeOk, bothBefore};
+use node::Choice;
 use built::Node;
 use graph::Search;
-use node::Choice;
 use refusal::Check;
 use refusal::Refusal;
-
-// The word of a node that has no place. A place is below the count of nodes.
-const NO_PLACE: u16 = 65535;
 
 // 31 and 32, then the list.
 pub fn judge_graph(
@@ -59,68 +55,14 @@ fn judge_order(nodes: &[u8], count: usize, words: &mut [u16], order: &[u16], roo
     requires { ⌜ Searchable (now nodes) count (now words) × Marks (now nodes) count (now words) ⌝ }
     ensures { λ r. ⌜ OrderJudged (now (nodes .entry)) count (now (order .entry)) room (now (words .exit)) r ⌝ }
 {
-    if order.len() != marked_count(words, count) {
+    if order.len() != renumber_places::marked_count(words, count) {
         return Check::Refused(Refusal::RenumberLength);
     }
-    empty_places(words, count);
-    if !fill_places(words, count, order) {
+    renumber_places::empty_places(words, count);
+    if !renumber_places::fill_places(words, count, order) {
         return Check::Refused(Refusal::RenumberNodes);
     }
     judge_places(nodes, count, words, order, room)
-}
-
-// How many nodes are marked.
-fn marked_count(words: &[u16], count: usize) -> usize
-    requires { ⌜ count ≤ length (now words) ⌝ }
-    ensures { λ r. ⌜ r ≡ length (markedBelow (now (words .entry)) count) ⌝ }
-{
-    let mut marked: usize = 0;
-    for i in 0..count {
-        marked = marked + one_if(words[i] != 0);
-    }
-    marked
-}
-
-fn one_if(test: bool) -> usize
-    ensures { λ r. ⌜ (r ≡ cond test 1 0) × (r ≤ 1) ⌝ }
-{
-    if test { 1 } else { 0 }
-}
-
-// No node has a place. The search's path stood there.
-fn empty_places(words: &mut [u16], count: usize)
-    requires { ⌜ 2 * count ≤ length (now words) ⌝ }
-    ensures { λ _. ⌜ Emptied count (now (words .entry)) (now (words .exit)) ⌝ }
-{
-    for i in 0..count {
-        words[count + i] = NO_PLACE;
-    }
-}
-
-// Whether every number of the list is a marked node that has no place before; each is given its own.
-fn fill_places(words: &mut [u16], count: usize, order: &[u16]) -> bool
-    requires { ⌜ (2 * count ≤ length (now words)) × (length (now order) ≤ 32767) ⌝ }
-    requires { ⌜ PlacesHeld (now order) 0 (now words) count ⌝ }
-    ensures { λ r. ⌜ Filled count (now (words .entry)) (now (order .entry)) (now (words .exit)) r ⌝ }
-{
-    for i in 0..order.len() {
-        let node = order[i] as usize;
-        if !free_ok(words, count, node) {
-            return false;
-        }
-        words[count + node] = i as u16;
-    }
-    true
-}
-
-fn free_ok(words: &[u16], count: usize, node: usize) -> bool
-    requires { ⌜ 2 * count ≤ length (now words) ⌝ }
-    ensures { λ r. ⌜ r ≡ freeOk (now (words .entry)) count node ⌝ }
-{
-    if count <= node {
-        return false;
-    }
-    (words[node] != 0) & (words[count + node] == NO_PLACE)
 }
 
 // 72, 71 and 74.

@@ -15,7 +15,7 @@ use Rattle.route.specs.Heights.{member, repeats}
 use Rattle.route.specs.Reach.{HoldsOnce}
 use Rattle.route.proofs.Repeats.{or-neither, member-head, member-tail, member-cons, at-member}
 use Rattle.renumber_order.specs.Orders.{indexIn, allAmong, lastOk}
-use Rattle.renumber_order.proofs.Members.{not-both, no-more}
+use Rattle.renumber_places.proofs.Members.{not-both, no-more}
 
 -- ---- in the list or not
 

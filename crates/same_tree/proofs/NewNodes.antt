@@ -22,7 +22,8 @@ use Rattle.node.specs.declared.Choice.{Choice}
 use Rattle.node.specs.declared.Choice.the-variants.{Right, Left}
 use Rattle.node.specs.Nodes.{nodesOf, subsectorBit, isNode, childOf}
 use Rattle.side.specs.Side.{side, sideAt, chosen}
-use Rattle.renumber_order.specs.Orders.{indexIn, oldAt}
+use Rattle.renumber_order.specs.Orders.{indexIn}
+use Rattle.renumber_places.specs.Orders.{oldAt}
 use Rattle.renumber.specs.Renumbering.{renamed, newNode, renumbered}
 
 -- ---- two bytes of a part

@@ -21,7 +21,8 @@ use Rattle.node.specs.Nodes.{nodesOf, subsectorBit, isNode, childOf, root}
 use Rattle.route.specs.Heights.{member, repeats}
 use Rattle.route.specs.Reach.{reachedNodes, HoldsOnce}
 use Rattle.route.proofs.Heights.{node-or-end}
-use Rattle.renumber_order.specs.Orders.{indexIn, manyOk, onceOk, rootOk, oldAt, childFirst, childrenOk, renumberCheck}
+use Rattle.renumber_order.specs.Orders.{indexIn, manyOk, onceOk, rootOk, childFirst, childrenOk, renumberCheck}
+use Rattle.renumber_places.specs.Orders.{oldAt}
 use Rattle.same_tree.specs.Promises.{ReachedNode, GoodOrder}
 use Rattle.renumber_order.proofs.Checking.{children-none, children-suc, children-each}
 use Rattle.same_tree.proofs.Held.{at-place, place-least, same-length, holds-all, all-member, member-all, last-ends, ends-last}

@@ -30,7 +30,8 @@ use Rattle.route.proofs.Repeats.{at-member}
 use Rattle.route.proofs.Shared.{shared-repeats}
 use Rattle.route.proofs.Verdict.{depth-verdict, verdict-holds}
 use Rattle.bsp.proofs.Descends.{Passed, descent-holds}
-use Rattle.renumber_order.specs.Orders.{indexIn, oldAt}
+use Rattle.renumber_order.specs.Orders.{indexIn}
+use Rattle.renumber_places.specs.Orders.{oldAt}
 use Rattle.renumber.specs.Renumbering.{renamed, renumbered}
 use Rattle.same_tree.specs.Promises.{GoodOrder, SameNodes}
 use Rattle.same_tree.proofs.Held.{clash, place-in, at-place, place-least, place-at}

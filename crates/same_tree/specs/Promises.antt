@@ -17,7 +17,8 @@ use Rattle.route.specs.Reach.{HoldsOnce}
 use Rattle.bsp.specs.Walks.{Walk, descent}
 use Rattle.level.specs.declared.Verdict.the-variants.{Accepted}
 use Rattle.level.specs.Verdict.{nodesAt, subsectorsAt, verdict}
-use Rattle.renumber_order.specs.Orders.{oldAt, renumberCheck}
+use Rattle.renumber_places.specs.Orders.{oldAt}
+use Rattle.renumber_order.specs.Orders.{renumberCheck}
 use Rattle.renumber.specs.Renumbering.{renumbered}
 
 -- a node that some list of choices leads to

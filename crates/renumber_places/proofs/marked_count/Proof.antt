@@ -1,4 +1,4 @@
--- `renumber_order::marked_count` meets its contract. The loop's invariant: the marked nodes below `i` are counted. The measure is what is
+-- `renumber_places::marked_count` meets its contract. The loop's invariant: the marked nodes below `i` are counted. The measure is what is
 -- left of the nodes. Assumes nothing.
 use Prim.Native.Nat.{ℕ, _+_, _-_, _≤_}
 use mathlib.Core.Path.{_≡_, sym, ap, _∙_}
@@ -6,10 +6,10 @@ use native.Mathlib.Omega.{arith}
 use borrow.Author.Needs.{needs}
 use denote.Ref.{now}
 use lib.ListN.{length}
-use Rattle.renumber_order.specs.Inner.{markedBelow}
-use Rattle.renumber_order.proofs.Marking.{below-none, below-few, below-more}
-use Rattle.renumber_order.proofs.marked_count.Statement.{statement}
-use Rattle.renumber_order.proofs.marked_count.Tie as tie
+use Rattle.renumber_places.specs.Inner.{markedBelow}
+use Rattle.renumber_places.proofs.Marking.{below-none, below-few, below-more}
+use Rattle.renumber_places.proofs.marked_count.Statement.{statement}
+use Rattle.renumber_places.proofs.marked_count.Tie as tie
 
 abbrev Inv-loop : tie.InvT-loop
 Inv-loop words count marked₀ i₀ marked i = (i ≤ count) × (marked ≡ length (markedBelow words i))

@@ -13,11 +13,11 @@ use lib.Seq.{getD-set-same, getD-set-other}
 use Rattle.refusal.proofs.Checks.{both}
 use Rattle.route.specs.Heights.{repeats}
 use Rattle.graph.specs.Inner.Looks.{markOf}
-use Rattle.renumber_order.specs.Orders.{oldAt}
-use Rattle.renumber_order.specs.Inner.{markedOk, allMarked, noPlace, placed, placeWord, PlacesHeld, freeOk, Filled}
-use Rattle.renumber_order.proofs.Members.{not-both, not-held, held-both, once-apart, apart-once}
-use Rattle.renumber_order.proofs.Marking.{marked-is, is-marked}
-use Rattle.renumber_order.proofs.Placing.{placed-here, placed-there, placed-absent, absent-placed, free-is, is-free, all-places, places-all}
+use Rattle.renumber_places.specs.Orders.{oldAt}
+use Rattle.renumber_places.specs.Inner.{markedOk, allMarked, noPlace, placed, placeWord, PlacesHeld, freeOk, Filled}
+use Rattle.renumber_places.proofs.Members.{not-both, not-held, held-both, once-apart, apart-once}
+use Rattle.renumber_places.proofs.Marking.{marked-is, is-marked}
+use Rattle.renumber_places.proofs.Placing.{placed-here, placed-there, placed-absent, absent-placed, free-is, is-free, all-places, places-all}
 
 -- ---- no place yet
 

@@ -1,4 +1,4 @@
--- `renumber_order::fill_places` meets its contract. The loop's invariant: the first `i` numbers have their places. The measure is what is
+-- `renumber_places::fill_places` meets its contract. The loop's invariant: the first `i` numbers have their places. The measure is what is
 -- left of the list. Assumes nothing.
 use Prim.Native.Nat.{_+_, _-_, _≤_, _<_}
 use mathlib.Core.Bool.{true}
@@ -8,11 +8,11 @@ use borrow.Author.Needs.{needs}
 use borrow.Author.Tests.{not-true, not-false}
 use denote.Ref.{now}
 use lib.ListN.{length}
-use Rattle.renumber_order.specs.Orders.{oldAt}
-use Rattle.renumber_order.specs.Inner.{freeOk}
-use Rattle.renumber_order.proofs.Filling.{Filling, filling-none, filling-low, filling-more, filling-stop, filling-done}
-use Rattle.renumber_order.proofs.fill_places.Statement.{statement}
-use Rattle.renumber_order.proofs.fill_places.Tie as tie
+use Rattle.renumber_places.specs.Orders.{oldAt}
+use Rattle.renumber_places.specs.Inner.{freeOk}
+use Rattle.renumber_places.proofs.Filling.{Filling, filling-none, filling-low, filling-more, filling-stop, filling-done}
+use Rattle.renumber_places.proofs.fill_places.Statement.{statement}
+use Rattle.renumber_places.proofs.fill_places.Tie as tie
 
 abbrev Inv-loop : tie.InvT-loop
 Inv-loop words₀ count order i₀ i-end words i = (i-end ≡ length order) × (i ≤ i-end) × Filling count words₀ order i words

@@ -1,13 +1,13 @@
--- `renumber_order::empty_places` meets its contract. The loop's invariant: the first `i` nodes have no place, and the marks are as they
+-- `renumber_places::empty_places` meets its contract. The loop's invariant: the first `i` nodes have no place, and the marks are as they
 -- were. The measure is what is left of the nodes. Assumes nothing.
 use Prim.Native.Nat.{_-_, _≤_}
 use mathlib.Core.Path.{_≡_}
 use native.Mathlib.Omega.{arith}
 use borrow.Author.Needs.{needs}
 use denote.Ref.{now}
-use Rattle.renumber_order.proofs.Filling.{Emptying, emptying-none, emptying-more}
-use Rattle.renumber_order.proofs.empty_places.Statement.{statement}
-use Rattle.renumber_order.proofs.empty_places.Tie as tie
+use Rattle.renumber_places.proofs.Filling.{Emptying, emptying-none, emptying-more}
+use Rattle.renumber_places.proofs.empty_places.Statement.{statement}
+use Rattle.renumber_places.proofs.empty_places.Tie as tie
 
 abbrev Inv-loop : tie.InvT-loop
 Inv-loop words₀ count i₀ words i = (i ≤ count) × Emptying count words₀ i words

@@ -1,9 +1,9 @@
--- `renumber_order::free_ok` meets its contract, by the test that led to each answer. Assumes nothing.
+-- `renumber_places::free_ok` meets its contract, by the test that led to each answer. Assumes nothing.
 use native.Mathlib.Omega.{arith}
 use borrow.Author.Needs.{needs}
 use borrow.Author.Tests.{lt-ltb, le-ltb}
-use Rattle.renumber_order.proofs.free_ok.Statement.{statement}
-use Rattle.renumber_order.proofs.free_ok.Tie as tie
+use Rattle.renumber_places.proofs.free_ok.Statement.{statement}
+use Rattle.renumber_places.proofs.free_ok.Tie as tie
 
 returns : tie.Need-returns
 returns c = let a = c .before .args in rw (le-ltb (a .node) (a .count) (omega (arith, c .if1 .taken)))
