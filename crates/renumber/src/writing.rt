@@ -9,8 +9,8 @@ ghost use Rattle.node.specs.Nodes.{subsectorBit};
 ghost use Rattle.renumber.specs.Renumbering.{renumbered};
 ghost use Rattle.renumber.specs.Inner.{renamedBy, nodeBy, Writable};
 ghost use Rattle.renumber_order.specs.Inner.{ChildrenPlaced};
-use node::Choice;
 use built::Node;
+use node::Choice;
 
 // The bytes of a node before its children.
 const LINE_SIZE: usize = 24;

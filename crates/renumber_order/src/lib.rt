@@ -9,9 +9,9 @@ ghost use Rattle.graph.specs.Inner.Looks.{markOf};
 ghost use Rattle.graph.specs.Inner.Searching.{Searchable, Explored};
 ghost use Rattle.renumber_order.specs.Orders.{lastOk, childrenOk, lateCheck};
 ghost use Rattle.renumber_order.specs.Inner.{Marks, Ordered, OrderJudged, GraphJudged, ChildrenPlaced, beforeOk, bothBefore};
-use node::Choice;
 use built::Node;
 use graph::Search;
+use node::Choice;
 use refusal::Check;
 use refusal::Refusal;
 
