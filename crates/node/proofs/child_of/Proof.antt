@@ -1,4 +1,4 @@
--- `bsp::child_of` meets its contract, by the choice. Assumes nothing.
+-- `node::child_of` meets its contract, by the choice. Assumes nothing.
 use mathlib.Core.Path.{sym, ap, _∙_}
 use native.Mathlib.Omega.{arith}
 use denote.Ref.{now}

@@ -1,4 +1,4 @@
--- `bsp::child_ok` meets its contract, by whether the word is a node's. Assumes nothing.
+-- `node::child_ok` meets its contract, by whether the word is a node's. Assumes nothing.
 use borrow.Author.Tests.{lt-ltb, le-ltb}
 use Rattle.node.proofs.child_ok.Statement.{statement}
 use Rattle.node.proofs.child_ok.Tie as tie

@@ -1,4 +1,4 @@
--- `bsp::node_ok` meets its contract, from the tests of its two children. Assumes nothing.
+-- `node::node_ok` meets its contract, from the tests of its two children. Assumes nothing.
 use borrow.Author.Needs.{needs}
 use Rattle.node.proofs.node_ok.Statement.{statement}
 use Rattle.node.proofs.node_ok.Tie as tie

@@ -1,4 +1,4 @@
--- `picture::header::judge_header` meets its contract, by the tests in the definition's order. Assumes nothing.
+-- `picture_header::judge_header` meets its contract, by the tests in the definition's order. Assumes nothing.
 use Prim.Native.Nat.{ℕ, _+_, _*_}
 use mathlib.Core.Bool.{true, false}
 use lib.Dec.{leb}

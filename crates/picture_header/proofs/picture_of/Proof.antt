@@ -1,4 +1,4 @@
--- `picture::header::picture_of` meets its contract, field by field. Assumes nothing.
+-- `picture_header::picture_of` meets its contract, field by field. Assumes nothing.
 use mathlib.Core.Path.{_∙_}
 use mir.Syntax.{w16}
 use mir.ValLaws.{toZ-ofZ}

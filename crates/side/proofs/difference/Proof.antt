@@ -1,4 +1,4 @@
--- `bsp::side::difference` meets its contract: the difference of two numbers of 16 bits fits 64. Assumes nothing.
+-- `side::difference` meets its contract: the difference of two numbers of 16 bits fits 64. Assumes nothing.
 use mathlib.Core.Path.{_≡_, _∙_}
 use borrow.Author.Needs.{needs}
 use mir.Syntax.{w16, w64}

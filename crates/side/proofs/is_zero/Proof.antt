@@ -1,4 +1,4 @@
--- `bsp::side::is_zero` meets its contract: a number is 0 exactly if its bits are. Assumes nothing.
+-- `side::is_zero` meets its contract: a number is 0 exactly if its bits are. Assumes nothing.
 use Rattle.side.proofs.Coordinates.{isZero-ofZ}
 use Rattle.side.proofs.is_zero.Statement.{statement}
 use Rattle.side.proofs.is_zero.Tie as tie

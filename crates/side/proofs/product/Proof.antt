@@ -1,4 +1,4 @@
--- `bsp::side::product` meets its contract: a difference of two numbers of 16 bits times a third fits 64. Assumes nothing.
+-- `side::product` meets its contract: a difference of two numbers of 16 bits times a third fits 64. Assumes nothing.
 use mathlib.Core.Path.{_≡_, _∙_}
 use borrow.Author.Needs.{needs}
 use lib.IntN.{_-ℤ_}

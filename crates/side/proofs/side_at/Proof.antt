@@ -1,4 +1,4 @@
--- `bsp::side::side_at` meets its contract: the point, and the four numbers of the node, passed on. Assumes nothing.
+-- `side::side_at` meets its contract: the point, and the four numbers of the node, passed on. Assumes nothing.
 use Prim.Native.Nat.{ℕ, _+_, _*_, _<_}
 use mathlib.Core.Path.{_≡_, sym, ap, _∙_}
 use native.Mathlib.Omega.{arith}

@@ -1,4 +1,4 @@
--- `bsp::side::side_of` meets its contract: the tests are those of the definition, and each answer is its case's.
+-- `side::side_of` meets its contract: the tests are those of the definition, and each answer is its case's.
 -- Assumes nothing.
 use mathlib.Core.Bool.{Bool}
 use mathlib.Core.Path.{_≡_, sym, ap, _∙_}

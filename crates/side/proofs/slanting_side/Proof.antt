@@ -1,4 +1,4 @@
--- `bsp::side::slanting_side` meets its contract: the test is that of the definition, on the two products. Assumes nothing.
+-- `side::slanting_side` meets its contract: the test is that of the definition, on the two products. Assumes nothing.
 use mathlib.Core.Bool.{Bool, cond}
 use mathlib.Core.Path.{_≡_, sym, ap, _∙_}
 use borrow.Author.Needs.{needs}

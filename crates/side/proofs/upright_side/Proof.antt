@@ -1,4 +1,4 @@
--- `bsp::side::upright_side` meets its contract: the test is that of the definition, and so is the answer on either side of it.
+-- `side::upright_side` meets its contract: the test is that of the definition, and so is the answer on either side of it.
 -- Assumes nothing.
 use mathlib.Core.Path.{ap, _∙_}
 use borrow.Author.Needs.{needs}

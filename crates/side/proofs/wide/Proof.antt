@@ -1,4 +1,4 @@
--- `bsp::side::wide` meets its contract: a number of 16 bits fits 64. Assumes nothing.
+-- `side::wide` meets its contract: a number of 16 bits fits 64. Assumes nothing.
 use mir.Syntax.{w16, w64}
 use mir.ValLaws.{toZ-ofZ}
 use Rattle.side.proofs.Coordinates.{widened}

@@ -1,4 +1,4 @@
--- `text_reader::blocks::all_given` meets its contract: over the rows of the kind. Assumes nothing.
+-- `text_block::all_given` meets its contract: over the rows of the kind. Assumes nothing.
 use mathlib.Core.Path.{_∙_}
 use borrow.Author.Needs.{needs}
 use denote.Ref.{now}

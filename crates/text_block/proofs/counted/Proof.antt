@@ -1,4 +1,4 @@
--- `text_reader::blocks::counted` meets its contract: a kind that is not full has room for one more. Assumes nothing.
+-- `text_block::counted` meets its contract: a kind that is not full has room for one more. Assumes nothing.
 use Prim.Native.Nat.{_<_}
 use mathlib.Core.Path.{_≡_, subst}
 use native.Mathlib.Omega.{arith}

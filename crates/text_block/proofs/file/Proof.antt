@@ -1,4 +1,4 @@
--- `text_reader::blocks::file` meets its contract: by the cases of what was wanted. Assumes nothing.
+-- `text_block::file` meets its contract: by the cases of what was wanted. Assumes nothing.
 use borrow.Author.Needs.{needs}
 use Rattle.text_block.proofs.file.Statement.{statement}
 use Rattle.text_block.proofs.file.Tie as tie

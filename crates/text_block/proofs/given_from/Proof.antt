@@ -1,4 +1,4 @@
--- `text_reader::blocks::given_from` meets its contract: what was passed is given. Assumes nothing.
+-- `text_block::given_from` meets its contract: what was passed is given. Assumes nothing.
 use Prim.Native.Nat.{_-_, _≤_}
 use mathlib.Core.Bool.{true, not, _&&_}
 use mathlib.Core.Path.{_≡_, sym, ap, _∙_}

@@ -1,4 +1,4 @@
--- `text_reader::blocks::is_asked` meets its contract: by the cases of what is asked. Assumes nothing.
+-- `text_block::is_asked` meets its contract: by the cases of what is asked. Assumes nothing.
 use borrow.Author.Needs.{needs}
 use Rattle.text_block.proofs.is_asked.Statement.{statement}
 use Rattle.text_block.proofs.is_asked.Tie as tie

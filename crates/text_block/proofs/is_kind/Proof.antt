@@ -1,4 +1,4 @@
--- `text_reader::blocks::is_kind` meets its contract: what its calls answer. Assumes nothing.
+-- `text_block::is_kind` meets its contract: what its calls answer. Assumes nothing.
 use borrow.Author.Needs.{needs}
 use Rattle.text_block.proofs.is_kind.Statement.{statement}
 use Rattle.text_block.proofs.is_kind.Tie as tie

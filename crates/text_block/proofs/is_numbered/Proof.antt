@@ -1,4 +1,4 @@
--- `text_reader::blocks::is_numbered` meets its contract: what its calls answer. Assumes nothing.
+-- `text_block::is_numbered` meets its contract: what its calls answer. Assumes nothing.
 use borrow.Author.Needs.{needs}
 use Rattle.text_block.proofs.is_numbered.Statement.{statement}
 use Rattle.text_block.proofs.is_numbered.Tie as tie

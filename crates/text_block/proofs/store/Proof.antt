@@ -1,4 +1,4 @@
--- `text_reader::blocks::store` meets its contract: its tests in turn; no field stands behind the last. Assumes nothing.
+-- `text_block::store` meets its contract: its tests in turn; no field stands behind the last. Assumes nothing.
 use Prim.Native.Nat.{_-_}
 use mathlib.Core.Bool.{not}
 use mathlib.Core.Path.{sym, ap, _∙_}

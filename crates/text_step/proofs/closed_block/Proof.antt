@@ -1,4 +1,4 @@
--- `text_reader::steps::closed_block` meets its contract: all fields are given, or one is missing. Assumes nothing.
+-- `text_step::closed_block` meets its contract: all fields are given, or one is missing. Assumes nothing.
 use mathlib.Core.Path.{sym, _∙_}
 use borrow.Author.Needs.{needs}
 use Rattle.refusal.specs.declared.Check.the-variants.{Pass}

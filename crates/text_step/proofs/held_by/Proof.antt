@@ -1,4 +1,4 @@
--- `text_reader::steps::held_by` meets its contract: no row stands behind the last. Assumes nothing.
+-- `text_step::held_by` meets its contract: no row stands behind the last. Assumes nothing.
 use Prim.Native.Nat.{ℕ, _+_, _-_}
 use mathlib.Core.Path.{sym, ap, _∙_}
 use native.Mathlib.Omega.{arith}

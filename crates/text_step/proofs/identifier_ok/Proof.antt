@@ -1,4 +1,4 @@
--- `text_reader::steps::identifier_ok` meets its contract: what its calls answer. Assumes nothing.
+-- `text_step::identifier_ok` meets its contract: what its calls answer. Assumes nothing.
 use borrow.Author.Needs.{needs}
 use Rattle.text_step.proofs.identifier_ok.Statement.{statement}
 use Rattle.text_step.proofs.identifier_ok.Tie as tie

@@ -1,4 +1,4 @@
--- `text_reader::steps::is_found` meets its contract: what its calls answer. Assumes nothing.
+-- `text_step::is_found` meets its contract: what its calls answer. Assumes nothing.
 use borrow.Author.Needs.{needs}
 use Rattle.text_step.proofs.is_found.Statement.{statement}
 use Rattle.text_step.proofs.is_found.Tie as tie

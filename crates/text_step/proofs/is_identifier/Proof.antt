@@ -1,4 +1,4 @@
--- `text_reader::steps::is_identifier` meets its contract: the form tells, then the word. Assumes nothing.
+-- `text_step::is_identifier` meets its contract: the form tells, then the word. Assumes nothing.
 use mathlib.Core.Path.{ap, _∙_}
 use borrow.Author.Needs.{needs}
 use borrow.Author.Tests.{eq-eqb, ne-eqb}

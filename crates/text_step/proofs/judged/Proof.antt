@@ -1,4 +1,4 @@
--- `text_reader::steps::judged` meets its contract: by the cases of the check. Assumes nothing.
+-- `text_step::judged` meets its contract: by the cases of the check. Assumes nothing.
 use borrow.Author.Needs.{needs}
 use Rattle.text_step.proofs.judged.Statement.{statement}
 use Rattle.text_step.proofs.judged.Tie as tie

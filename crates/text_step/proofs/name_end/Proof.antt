@@ -1,4 +1,4 @@
--- `text_reader::steps::name_end` meets its contract: from `at` on the name ends where it ends from 0 on. The
+-- `text_step::name_end` meets its contract: from `at` on the name ends where it ends from 0 on. The
 -- measure is what is left. Assumes nothing.
 use Prim.Native.Nat.{ℕ, _-_}
 use mathlib.Core.Bool.{Bool, not}

@@ -1,4 +1,4 @@
--- `text_reader::steps::notes_after` meets its contract: with the block that is asked for, or without. Assumes nothing.
+-- `text_step::notes_after` meets its contract: with the block that is asked for, or without. Assumes nothing.
 use mathlib.Core.Bool.{true}
 use mathlib.Core.Path.{sym, ap, _∙_}
 use borrow.Author.Needs.{needs}

@@ -1,4 +1,4 @@
--- `text_reader::steps::notes_assigned` meets its contract: the test is that of the definition. Assumes nothing.
+-- `text_step::notes_assigned` meets its contract: the test is that of the definition. Assumes nothing.
 use mathlib.Core.Bool.{Bool, not, _&&_}
 use mathlib.Core.Path.{sym, ap, _∙_}
 use borrow.Author.Needs.{needs}

@@ -1,4 +1,4 @@
--- `text_reader::steps::on_equals` meets its contract: `=`, an opening brace at the top, or a token that does
+-- `text_step::on_equals` meets its contract: `=`, an opening brace at the top, or a token that does
 -- not fit. Assumes nothing.
 use Prim.Native.Nat.{ℕ}
 use mathlib.Core.Bool.{Bool, _&&_}

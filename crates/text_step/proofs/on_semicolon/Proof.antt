@@ -1,4 +1,4 @@
--- `text_reader::steps::on_semicolon` meets its contract: a semicolon, or a token that does not fit. Assumes nothing.
+-- `text_step::on_semicolon` meets its contract: a semicolon, or a token that does not fit. Assumes nothing.
 use mathlib.Core.Path.{ap}
 use borrow.Author.Needs.{needs}
 use borrow.Author.Tests.{eq-eqb, ne-eqb}

@@ -1,4 +1,4 @@
--- `text_reader::steps::on_statement` meets its contract: its tests in turn. Assumes nothing.
+-- `text_step::on_statement` meets its contract: its tests in turn. Assumes nothing.
 use mathlib.Core.Bool.{not, _&&_}
 use mathlib.Core.Path.{sym, _∙_}
 use borrow.Author.Needs.{needs}

@@ -1,4 +1,4 @@
--- `text_reader::steps::on_value` meets its contract: what its calls answer. Assumes nothing.
+-- `text_step::on_value` meets its contract: what its calls answer. Assumes nothing.
 use mathlib.Core.Path.{ap, _∙_}
 use borrow.Author.Needs.{needs}
 use Rattle.text_step.specs.Steps.{valueCheck, judged}

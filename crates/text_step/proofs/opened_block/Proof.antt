@@ -1,4 +1,4 @@
--- `text_reader::steps::opened_block` meets its contract: the kind is full or not. Assumes nothing.
+-- `text_step::opened_block` meets its contract: the kind is full or not. Assumes nothing.
 use mathlib.Core.Path.{sym, _∙_}
 use borrow.Author.Needs.{needs}
 use Rattle.text_step.proofs.opened_block.Statement.{statement}

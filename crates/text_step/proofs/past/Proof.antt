@@ -1,4 +1,4 @@
--- `text_reader::steps::past` meets its contract: its two cases. Assumes nothing.
+-- `text_step::past` meets its contract: its two cases. Assumes nothing.
 use Rattle.text_step.proofs.past.Statement.{statement}
 use Rattle.text_step.proofs.past.Tie as tie
 

@@ -1,4 +1,4 @@
--- `text_reader::steps::step` meets its contract: by the cases of what is wanted. Assumes nothing.
+-- `text_step::step` meets its contract: by the cases of what is wanted. Assumes nothing.
 use mathlib.Core.Path.{sym, ap, _∙_}
 use borrow.Author.Needs.{needs}
 use denote.Ref.{now}

@@ -1,4 +1,4 @@
--- `text_reader::steps::value_check` meets its contract: by the cases of what was read. Assumes nothing.
+-- `text_step::value_check` meets its contract: by the cases of what was read. Assumes nothing.
 use mathlib.Core.Bool.{Bool, cond}
 use mathlib.Core.Path.{ap, _∙_}
 use borrow.Author.Needs.{needs}

@@ -1,4 +1,4 @@
--- `text_reader::steps::wanted_after` meets its contract: its two tests. Assumes nothing.
+-- `text_step::wanted_after` meets its contract: its two tests. Assumes nothing.
 use mathlib.Core.Bool.{_&&_}
 use mathlib.Core.Path.{sym, _∙_}
 use borrow.Author.Needs.{needs}

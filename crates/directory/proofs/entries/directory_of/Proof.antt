@@ -1,4 +1,4 @@
--- `wad::entries::directory_of` meets its contract: the header that passes says that the directory lies inside. Assumes nothing.
+-- `directory::entries::directory_of` meets its contract: the header that passes says that the directory lies inside. Assumes nothing.
 use Prim.Native.Nat.{ℕ, _*_}
 use mathlib.Core.Path.{ap, _∙_}
 use denote.Ref.{now}

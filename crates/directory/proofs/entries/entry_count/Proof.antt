@@ -1,4 +1,4 @@
--- `wad::entries::entry_count` meets its contract: a header that passes has twelve bytes. Assumes nothing.
+-- `directory::entries::entry_count` meets its contract: a header that passes has twelve bytes. Assumes nothing.
 use mathlib.Core.Path.{ap, _∙_}
 use denote.Ref.{now}
 use Rattle.directory.specs.Header.{entryCount}

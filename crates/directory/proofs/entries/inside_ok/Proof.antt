@@ -1,4 +1,4 @@
--- `wad::entries::inside_ok` meets its contract, from those of the functions that it calls. Assumes nothing.
+-- `directory::entries::inside_ok` meets its contract, from those of the functions that it calls. Assumes nothing.
 use mathlib.Core.Path.{sym, _∙_}
 use borrow.Author.Needs.{needs}
 use Rattle.directory.proofs.entries.inside_ok.Statement.{statement}

@@ -1,4 +1,4 @@
--- `wad::entries::judge_directory` meets its contract: the file's refusal, else what the header says. Assumes nothing.
+-- `directory::entries::judge_directory` meets its contract: the file's refusal, else what the header says. Assumes nothing.
 use mathlib.Core.Path.{_≡_, sym, ap, _∙_}
 use denote.Ref.{now}
 use Rattle.refusal.specs.declared.Check.the-variants.{Pass}

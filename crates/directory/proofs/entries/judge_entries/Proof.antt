@@ -1,4 +1,4 @@
--- `wad::entries::judge_entries` meets its contract: the entries before `i` pass. The measure is what is left of the entries.
+-- `directory::entries::judge_entries` meets its contract: the entries before `i` pass. The measure is what is left of the entries.
 -- Assumes nothing.
 use Prim.Native.Nat.{_-_}
 use borrow.Author.Needs.{needs}

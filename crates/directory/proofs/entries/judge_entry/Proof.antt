@@ -1,4 +1,4 @@
--- `wad::entries::judge_entry` meets its contract, from those of the functions that it calls. Assumes nothing.
+-- `directory::entries::judge_entry` meets its contract, from those of the functions that it calls. Assumes nothing.
 use borrow.Author.Needs.{needs}
 use Rattle.directory.proofs.entries.judge_entry.Statement.{statement}
 use Rattle.directory.proofs.entries.judge_entry.Tie as tie

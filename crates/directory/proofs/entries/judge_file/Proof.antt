@@ -1,4 +1,4 @@
--- `wad::entries::judge_file` meets its contract: the header's refusal, else the entries' answer. Assumes nothing.
+-- `directory::entries::judge_file` meets its contract: the header's refusal, else the entries' answer. Assumes nothing.
 use Prim.Native.Nat.{ℕ}
 use mathlib.Core.List.{List}
 use mathlib.Core.Path.{_≡_, sym, ap, _∙_}

@@ -1,4 +1,4 @@
--- `wad::header::bounds_ok` meets its contract, by the answers for start and count. Assumes nothing.
+-- `directory::header::bounds_ok` meets its contract, by the answers for start and count. Assumes nothing.
 use borrow.Author.Needs.{needs}
 use Rattle.directory.proofs.header.bounds_ok.Statement.{statement}
 use Rattle.directory.proofs.header.bounds_ok.Tie as tie

@@ -1,4 +1,4 @@
--- `wad::header::judge_fields` meets its contract, by the answers of its three checks. Assumes nothing.
+-- `directory::header::judge_fields` meets its contract, by the answers of its three checks. Assumes nothing.
 use borrow.Author.Needs.{needs}
 use Rattle.directory.proofs.header.judge_fields.Statement.{statement}
 use Rattle.directory.proofs.header.judge_fields.Tie as tie

@@ -1,4 +1,4 @@
--- `wad::header::judge_header` meets its contract: the length is refused first, else the fields' check answers. Assumes nothing.
+-- `directory::header::judge_header` meets its contract: the length is refused first, else the fields' check answers. Assumes nothing.
 use mathlib.Core.Path.{ap, _∙_}
 use borrow.Author.Tests.{le-leb, lt-leb}
 use denote.Ref.{now}

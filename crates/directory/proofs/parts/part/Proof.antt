@@ -1,4 +1,4 @@
--- `wad::parts::part` meets its contract: the part from `at` to `at + n` has `n` bytes. Assumes nothing.
+-- `directory::parts::part` meets its contract: the part from `at` to `at + n` has `n` bytes. Assumes nothing.
 use Prim.Native.Nat.{_+_, _-_}
 use mathlib.Core.Path.{_≡_, refl}
 use denote.Ref.{now}

@@ -1,4 +1,4 @@
--- `wad::parts::part_if` meets its contract, by the tests that led to each answer. Assumes nothing.
+-- `directory::parts::part_if` meets its contract, by the tests that led to each answer. Assumes nothing.
 use Prim.Native.Nat.{_+_, _-_}
 use mathlib.Core.Path.{_≡_, sym}
 use native.Mathlib.Omega.{arith}

@@ -1,4 +1,4 @@
--- `picture::notes::is_noted` meets its contract: a place without a slot is not noted, nor is one past the notes' end. Assumes
+-- `posts::notes::is_noted` meets its contract: a place without a slot is not noted, nor is one past the notes' end. Assumes
 -- nothing.
 use borrow.Author.Needs.{needs}
 use borrow.Author.Tests.{le-ltb, lt-ltb}

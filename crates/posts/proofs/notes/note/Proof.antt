@@ -1,4 +1,4 @@
--- `picture::notes::note` meets its contract: nothing is stored where there is no slot, or none in these notes. Assumes nothing.
+-- `posts::notes::note` meets its contract: nothing is stored where there is no slot, or none in these notes. Assumes nothing.
 use mathlib.Core.Path.{sym}
 use borrow.Author.Needs.{needs}
 use borrow.Author.Tests.{le-ltb, lt-ltb}

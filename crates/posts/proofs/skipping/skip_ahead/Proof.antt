@@ -1,4 +1,4 @@
--- `picture::skipping::skip_ahead` meets its contract: none is stepped over, or as many as fit. Assumes nothing.
+-- `posts::skipping::skip_ahead` meets its contract: none is stepped over, or as many as fit. Assumes nothing.
 use mathlib.Core.Path.{sym}
 use borrow.Author.Needs.{needs}
 use Rattle.posts.proofs.Inner.{stepped-none}

@@ -1,4 +1,4 @@
--- `picture::skipping::skip_block` meets its contract: a noted block has no pixels, and one that was stepped over whole may be noted.
+-- `posts::skipping::skip_block` meets its contract: a noted block has no pixels, and one that was stepped over whole may be noted.
 -- Assumes nothing.
 use Prim.Native.Nat.{_+_}
 use mathlib.Core.Path.{_≡_, sym, _∙_, subst}

@@ -1,4 +1,4 @@
--- `picture::skipping::skip_empty` meets its contract: each turn goes past one such post. Assumes nothing.
+-- `posts::skipping::skip_empty` meets its contract: each turn goes past one such post. Assumes nothing.
 use Prim.Native.Nat.{ℕ, suc, _+_, _*_, _-_, _≤_}
 use mathlib.Core.Path.{_≡_, sym, ap, _∙_}
 use native.Mathlib.Omega.{arith}

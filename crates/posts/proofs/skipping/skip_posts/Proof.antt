@@ -1,4 +1,4 @@
--- `picture::skipping::skip_posts` meets its contract: each turn goes past one block more. The measure is what is left of the lump.
+-- `posts::skipping::skip_posts` meets its contract: each turn goes past one block more. The measure is what is left of the lump.
 -- Assumes nothing.
 use Prim.Native.Nat.{_-_, _≤_}
 use mathlib.Core.Path.{_≡_}
