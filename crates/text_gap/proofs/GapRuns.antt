@@ -1,6 +1,6 @@
 -- Laws of a gap read run by run. Those of one byte are in Scans. Assumes nothing.
 use Prim.Native.Nat.{ℕ, zero, suc, _+_, _-_, _≤_, _<_}
-use mathlib.Core.Bool.{Bool, true, false, not, cond, true≢false}
+use mathlib.Core.Bool.{Bool, true, false, not, _&&_, cond, and-eq-true-iff, true≢false}
 use mathlib.Core.List.{List}
 use mathlib.Core.Path.{_≡_, refl, sym, ap, _∙_, subst}
 use native.Mathlib.Omega.{arith}
@@ -10,12 +10,12 @@ use lib.ListN.{getD, length}
 use Rattle.text_gap.specs.declared.Mode.{Mode}
 use Rattle.text_gap.specs.declared.Mode.the-variants.{Between, Line, Opening, Comment, Star, Stop}
 use Rattle.text_gap.specs.declared.Gap.{Gap}
-use Rattle.text_byte.specs.Bytes.{newline, star, opensLine, opensComment}
+use Rattle.text_byte.specs.Bytes.{newline, star, slash, isBlank, opensLine, opensComment}
 use Rattle.text_gap.specs.Gaps.{modeAfter, isStop, gap, gapFrom}
 use Rattle.text_byte.specs.Spans.{spanEnd}
-use Rattle.text_gap.specs.Inner.{blankAt, otherAt, starAt, byteBehind, Stays, Runs}
+use Rattle.text_gap.specs.Inner.{blankAt, otherAt, starAt, startsToken, byteBehind, Stays, Runs}
 use Rattle.text_gap.proofs.Scans.{gap-more, gap-stop}
-use Rattle.text_byte.proofs.Spans.{cond-on}
+use Rattle.text_byte.proofs.Spans.{cond-on, span-done, by-test}
 
 -- a gap ends at a token's first byte
 pub gap-ends : (text : List ℕ) (m : Mode) (at n : ℕ) → isStop m ≡ true → gapFrom text m at n ≡ gap m at
@@ -83,3 +83,31 @@ comment-kept text i e = ap (λ (b : Bool). cond b Star Comment) (sym (not-true (
 
 pub star-kept : (text : List ℕ) (i : ℕ) → starAt text i ≡ true → Star ≡ modeAfter Star (getD text i 0) (getD text (i + 1) 0)
 star-kept text i e = let h = eqb-true (getD text i 0) star e in ap (λ (b : ℕ). modeAfter Star b (getD text (i + 1) 0)) (sym h)
+
+-- white space alone is passed over
+pub blanks-same : (text : List ℕ) (from : ℕ) {to : ℕ} → to ≡ spanEnd (blankAt text) from (length text - from)
+    → gapFrom text Between from (length text - from) ≡ gapFrom text Between to (length text - to)
+blanks-same text from {to} e =
+    by-test (ltb (length text) from)
+    (λ l. let h = ltb-true (length text) from l in
+    let same : to ≡ from = e ∙ span-done (blankAt text) from (length text) (omega arith) in
+    ap (λ (k : ℕ). gapFrom text Between k (length text - k)) (sym same))
+    (λ l. let h = ltb-false (length text) from l in
+    stays-span text Between (blankAt text) refl (between-kept text) from (omega arith) e .same)
+
+-- neither white space nor a comment begins with such a byte
+begins : (blank slash′ x y : Bool) → blank ≡ false → slash′ ≡ false
+    → Stop ≡ cond blank Between (cond (slash′ && x) Line (cond (slash′ && y) Opening Stop))
+begins true slash′ x y e f = absurd (true≢false e)
+begins false true x y e f = absurd (true≢false f)
+begins false false x y e f = refl
+
+-- a token begins there
+pub token-starts : (text : List ℕ) (at : ℕ) → startsToken text at ≡ true → gapFrom text Between at (length text - at) ≡ gap Stop at
+token-starts text at e =
+    let b = getD text at 0 in
+    let c = getD text (at + 1) 0 in
+    let inside = and-eq-true-iff (ltb at (length text)) (not (isBlank b) && not (eqb b slash)) .0 e in
+    let other = and-eq-true-iff (not (isBlank b)) (not (eqb b slash)) .0 (inside .1) in
+    gap-stop text Between at (length text) (ltb-true at (length text) (inside .0))
+    (begins (isBlank b) (eqb b slash) (eqb c slash) (eqb c star) (not-true (isBlank b) (other .0)) (not-true (eqb b slash) (other .1))) refl refl

@@ -1,11 +1,11 @@
 -- What only contracts of inner functions cite: a gap read run by run. Assumes nothing.
 use Prim.Native.Nat.{ℕ, _+_, _-_, _≤_, _<_}
-use mathlib.Core.Bool.{Bool, false, not, cond}
+use mathlib.Core.Bool.{Bool, false, not, _&&_, cond}
 use mathlib.Core.List.{List}
 use mathlib.Core.Path.{_≡_}
 use lib.Dec.{eqb, ltb}
 use lib.ListN.{length, getD}
-use Rattle.text_byte.specs.Bytes.{star, isBlank}
+use Rattle.text_byte.specs.Bytes.{star, slash, isBlank}
 use Rattle.text_gap.specs.declared.Mode.{Mode}
 use Rattle.text_gap.specs.declared.Gap.{Gap}
 use Rattle.text_gap.specs.Gaps.{modeAfter, isStop, gap, gapFrom}
@@ -19,6 +19,10 @@ otherAt text b i = not (eqb (getD text i 0) b)
 
 abbrev pub starAt : List ℕ → ℕ → Bool
 starAt text i = eqb (getD text i 0) star
+
+-- neither white space nor a slash stands at a place inside: a token's first byte, whatever follows
+abbrev pub startsToken : List ℕ → ℕ → Bool
+startsToken text at = ltb at (length text) && (not (isBlank (getD text at 0)) && not (eqb (getD text at 0) slash))
 
 -- one byte of a gap, if there is one
 abbrev pub byteBehind : List ℕ → Mode → ℕ → Gap

@@ -6,7 +6,7 @@ ghost use lib.ListN.{length};
 ghost use Rattle.text_gap.specs.declared.Mode.the-variants.{Between};
 ghost use Rattle.text_gap.specs.Gaps.{between, modeAfter, isStop, isOpen, gapFrom};
 ghost use Rattle.text_byte.specs.Spans.{spanEnd};
-ghost use Rattle.text_gap.specs.Inner.{blankAt, otherAt, starAt, byteBehind, Stays, Runs};
+ghost use Rattle.text_gap.specs.Inner.{blankAt, otherAt, starAt, startsToken, byteBehind, Stays, Runs};
 use text_byte as bytes;
 
 // How the reading of a gap goes on: between tokens, in a comment up to the line's end, at the star that opens a comment, in that comment,
@@ -25,8 +25,33 @@ pub struct Gap {
     pub at: usize,
 }
 
-// Past white space and comments, run by run.
+// Past white space and comments. Most gaps are white space alone: so a token's first byte behind it is asked for before anything else.
 pub fn gap_at(text: &[u8], from: usize) -> Gap
+    ensures { λ r. ⌜ r ≡ gapFrom (now (text .entry)) Between from (length (now (text .entry)) - from) ⌝ }
+{
+    let at = blank_end(text, from);
+    if starts_token(text, at) {
+        return Gap {
+            mode: Mode::Stop,
+            at,
+        };
+    }
+    read_gap(text, at)
+}
+
+// A byte that is neither white space nor a slash is a token's first, whatever follows.
+fn starts_token(text: &[u8], at: usize) -> bool
+    ensures { λ r. ⌜ r ≡ startsToken (now (text .entry)) at ⌝ }
+{
+    if at < text.len() {
+        let b = text[at];
+        return !bytes::is_blank(b) & (b != bytes::SLASH);
+    }
+    false
+}
+
+// Past white space and comments, run by run.
+fn read_gap(text: &[u8], from: usize) -> Gap
     ensures { λ r. ⌜ r ≡ gapFrom (now (text .entry)) Between from (length (now (text .entry)) - from) ⌝ }
 {
     let mut mode = Mode::Between;

@@ -6,7 +6,8 @@ ghost use Prim.Native.Nat.{_+_, _-_, _≤_, _<_};
 ghost use lib.ListN.{length};
 ghost use Rattle.text_byte.specs.Spans.{spanEnd};
 ghost use Rattle.text_token.specs.Tokens.{inWord, quoteEnd, ended, stringTo, wordTo, tokenHere, tokenBehind, tokenAt, bytesOf, wordOf, Placed};
-ghost use Rattle.text_token.specs.Inner.{StringRun};
+ghost use Rattle.text_byte.specs.Inner.{Unseen};
+ghost use Rattle.text_token.specs.Inner.{endsRun, PlainRun, StringRun};
 use text_byte as bytes;
 use text_gap::Gap;
 
@@ -150,7 +151,7 @@ fn quote_end(text: &[u8], from: usize) -> usize
 fn string_run(text: &[u8], from: usize) -> usize
     ensures { λ r. ⌜ StringRun (now (text .entry)) from r ⌝ }
 {
-    let mut at = from;
+    let mut at = plain_blocks(text, from);
     while at < text.len() {
         let b = text[at];
         if (b == bytes::DOUBLE_QUOTE) | (b == bytes::BACKSLASH) {
@@ -159,6 +160,35 @@ fn string_run(text: &[u8], from: usize) -> usize
         at += 1;
     }
     at
+}
+
+// Past blocks of 16 bytes that have neither: all of a block are compared at once.
+fn plain_blocks(text: &[u8], from: usize) -> usize
+    ensures { λ r. ⌜ PlainRun (now (text .entry)) from r ⌝ }
+{
+    if text.len() < from {
+        return from;
+    }
+    let mut at = from;
+    while 16 <= text.len() - at {
+        if block_ends(text, at) {
+            return at;
+        }
+        at += 16;
+    }
+    at
+}
+
+fn block_ends(text: &[u8], at: usize) -> bool
+    requires { ⌜ at + 16 ≤ length (now text) ⌝ }
+    ensures { λ r. ⌜ Unseen (endsRun (now (text .entry))) at (at + 16) r ⌝ }
+{
+    let mut has = false;
+    for i in 0..16 {
+        let b = text[at + i];
+        has = has | ((b == bytes::DOUBLE_QUOTE) | (b == bytes::BACKSLASH));
+    }
+    has
 }
 
 // The bytes of a word.

@@ -26,7 +26,7 @@ returns c =
 loop-again : tie.Need-loop-again Inv-loop μ-loop
 loop-again c =
     let l = c .before .before .before in
-    (omega (arith, l .loop .inv .0), l .loop .inv .1 ∙ quote-plain (now (l .before .args .text)) (l .loop .at) (c .before .before .loop-test .taken) (c .if1 .left))
+    (omega (arith, l .loop .inv .0), l .loop .inv .1 ∙ quote-plain (now (l .before .before .before .args .text)) (l .loop .at) (c .before .before .loop-test .taken) (c .if1 .left))
 
 returns-2 : tie.Need-returns-2 Inv-loop μ-loop
 returns-2 c =
@@ -36,4 +36,4 @@ returns-2 c =
 pub string-run-spec : {M : Type 1} → statement M
 string-run-spec =
     tie.close
-    (tie.spec Inv-loop μ-loop (λ c. (omega arith, refl)) (λ c. search needs) returns (λ c. search needs) (λ c. search needs) loop-again returns-2)
+    (tie.spec Inv-loop μ-loop (λ c κs. search needs) (λ c. (c .plain-blocks .ensures .onward, c .plain-blocks .ensures .same)) (λ c. search needs) returns (λ c. search needs) (λ c. search needs) loop-again returns-2)
