@@ -1,41 +1,46 @@
--- Laws of bytes: a range as its two bounds, and a plain byte ends no word. Assumes nothing.
-use Prim.Native.Nat.{ℕ, _≤_, _<_}
-use mathlib.Core.Bool.{Bool, true, false, not, _&&_, _||_, and-eq-true-iff}
-use mathlib.Core.Path.{_≡_, refl}
-use native.Mathlib.Omega.{arith}
-use borrow.Author.Tests.{leb-true, not-true, ne-eqb}
+-- Laws of bytes: a range as its two bounds, and which bytes end a word and which do not. Assumes nothing.
+use Prim.Native.Nat.{ℕ, _≤_}
+use mathlib.Core.Bool.{Bool, true, false, _||_, and-eq-true-iff, true≢false}
+use mathlib.Core.Path.{_≡_, refl, sym, ap, _∙_}
+use borrow.Author.Tests.{leb-true, ne-eqb}
 use lib.Dec.{leb, eqb}
-use Rattle.text_byte.specs.Bytes.{openBrace, closeBrace, within, endsWord}
-use Rattle.text_byte.specs.Inner.{isPlain}
+use Rattle.text_byte.specs.Bytes.{newline, doubleQuote, slash, semicolon, equalsSign, openBrace, closeBrace, within, isBlank, isMark, opensLine, opensComment, endsWord, isNameByte}
+use Rattle.text_byte.specs.Inner.{isPlain, stopsWord}
 
 pub within-true : (least most b : ℕ) → within least most b ≡ true → (least ≤ b) × (b ≤ most)
 within-true least most b e =
     let p = and-eq-true-iff (leb least b) (leb b most) .0 e in
     (leb-true least b (p .0), leb-true b most (p .1))
 
-either : {A : Type 0} (x y : Bool) → (x || y) ≡ true → (x ≡ true → A) → (y ≡ true → A) → A
+pub either : {A : Type 0} (x y : Bool) → (x || y) ≡ true → (x ≡ true → A) → (y ≡ true → A) → A
 either true y e f g = f refl
 either false y e f g = g e
 
-above-plain : (b c : ℕ) → 62 ≤ b → eqb b openBrace ≡ false → eqb b closeBrace ≡ false → endsWord b c ≡ false
-above-plain b c h e f = simp (off 32 (omega arith), off 9 (omega arith), off 10 (omega arith), off 13 (omega arith), e, f, off 40 (omega arith), off 41 (omega arith), off 59 (omega arith), off 61 (omega arith), off 39 (omega arith), off 34 (omega arith), off 47 (omega arith))
-  where
-    off : (k : ℕ) → k < 62 → eqb b k ≡ false
-    off k l = ne-eqb b k (λ q. omega (arith, q, l, h))
+-- a byte that passes a test is none that fails it
+pub unlike : (test : ℕ → Bool) (b k : ℕ) → test b ≡ true → test k ≡ false → eqb b k ≡ false
+unlike test b k e f = ne-eqb b k (λ q. true≢false (sym e ∙ ap test q ∙ f))
 
-digit-plain : (b c : ℕ) → 48 ≤ b → b ≤ 58 → endsWord b c ≡ false
-digit-plain b c h k = simp (low 32 (omega arith), low 9 (omega arith), low 10 (omega arith), low 13 (omega arith), high 123 (omega arith), high 125 (omega arith), low 40 (omega arith), low 41 (omega arith), high 59 (omega arith), high 61 (omega arith), low 39 (omega arith), low 34 (omega arith), low 47 (omega arith))
+-- bytes that pass a test end no word, if those fail it at which a word can end
+ends-none : (test : ℕ → Bool) → test 32 ≡ false → test 9 ≡ false → test newline ≡ false → test 13 ≡ false
+    → test openBrace ≡ false → test closeBrace ≡ false → test 40 ≡ false → test 41 ≡ false → test semicolon ≡ false → test equalsSign ≡ false → test 39 ≡ false
+    → test doubleQuote ≡ false → test slash ≡ false → (b c : ℕ) → test b ≡ true → endsWord b c ≡ false
+ends-none test f g h i j k l m n o p q r b c e =
+    simp (off f, off g, off h, off i, off j, off k, off l, off m, off n, off o, off p, off q, off r)
   where
-    low : (n : ℕ) → n < 48 → eqb b n ≡ false
-    low n l = ne-eqb b n (λ q. omega (arith, q, l, h))
-
-    high : (n : ℕ) → 58 < n → eqb b n ≡ false
-    high n l = ne-eqb b n (λ q. omega (arith, q, l, k))
+    off : {x : ℕ} → test x ≡ false → eqb b x ≡ false
+    off = unlike test b _ e
 
 pub plain-ends : (b c : ℕ) → isPlain b ≡ true → endsWord b c ≡ false
-plain-ends b c e =
-    either (leb 62 b && (not (eqb b openBrace) && not (eqb b closeBrace))) (within 48 58 b) e
-    (λ h. let p = and-eq-true-iff (leb 62 b) (not (eqb b openBrace) && not (eqb b closeBrace)) .0 h in
-    let q = and-eq-true-iff (not (eqb b openBrace)) (not (eqb b closeBrace)) .0 (p .1) in
-    above-plain b c (leb-true 62 b (p .0)) (not-true (eqb b openBrace) (q .0)) (not-true (eqb b closeBrace) (q .1)))
-    (λ h. let p = within-true 48 58 b h in digit-plain b c (p .0) (p .1))
+plain-ends = ends-none isPlain refl refl refl refl refl refl refl refl refl refl refl refl refl
+
+-- a letter or a digit
+pub name-ends : (b c : ℕ) → isNameByte b ≡ true → endsWord b c ≡ false
+name-ends = ends-none isNameByte refl refl refl refl refl refl refl refl refl refl refl refl refl
+
+-- where a word stops, it ends
+pub stops-ends : (b c : ℕ) → stopsWord b ≡ true → endsWord b c ≡ true
+stops-ends b c e = ap (λ (x : Bool). x || (opensLine b c || opensComment b c)) e
+
+-- a mark is no white space
+pub mark-blank : (b : ℕ) → isMark b ≡ true → isBlank b ≡ false
+mark-blank b e = simp (unlike isMark b 32 e refl, unlike isMark b 9 e refl, unlike isMark b newline e refl, unlike isMark b 13 e refl)

@@ -1,4 +1,4 @@
--- Laws of the scans over places: one place more, a stop, the end, and how far one reaches. Assumes nothing.
+-- Laws of the scans over places: one place more, a stop, the end, how far one reaches, and what it passes. Assumes nothing.
 use Prim.Native.Nat.{ℕ, zero, suc, _+_, _-_, _≤_, _<_}
 use mathlib.Core.Bool.{Bool, true, false, _||_, cond, true≢false}
 use mathlib.Core.Path.{_≡_, refl, sym, ap, _∙_, subst}
@@ -16,22 +16,21 @@ left at end h = omega arith
 pub none : (at end : ℕ) → end ≤ at → end - at ≡ 0
 none at end h = omega arith
 
-module _ (test : ℕ → Bool) (at end : ℕ) where
-  step : (n : ℕ) → spanEnd test at (suc n) ≡ cond (test at) (spanEnd test (at + 1) n) at
-  unfolding spanEnd
-  step n = refl
+-- one place more, by the test's value there
+step : (test : ℕ → Bool) (at n : ℕ) {b : Bool} → test at ≡ b → spanEnd test at (suc n) ≡ cond b (spanEnd test (at + 1) n) at
+unfolding spanEnd
+step test at n e = ap (λ (x : Bool). cond x (spanEnd test (at + 1) n) at) e
 
+module _ (test : ℕ → Bool) (at end : ℕ) where
   nothing : spanEnd test at 0 ≡ at
   unfolding spanEnd
   nothing = refl
 
   pub span-more : {b : Bool} → at < end → b ≡ test at → b ≡ true → spanEnd test at (end - at) ≡ spanEnd test (at + 1) (end - (at + 1))
-  span-more h e t =
-      ap (spanEnd test at) (left at end h) ∙ step (end - (at + 1)) ∙ ap (λ (x : Bool). cond x (spanEnd test (at + 1) (end - (at + 1))) at) (sym e ∙ t)
+  span-more h e t = ap (spanEnd test at) (left at end h) ∙ step test at (end - (at + 1)) (sym e ∙ t)
 
   pub span-stop : {b : Bool} → at < end → b ≡ test at → b ≡ false → spanEnd test at (end - at) ≡ at
-  span-stop h e t =
-      ap (spanEnd test at) (left at end h) ∙ step (end - (at + 1)) ∙ ap (λ (x : Bool). cond x (spanEnd test (at + 1) (end - (at + 1))) at) (sym e ∙ t)
+  span-stop h e t = ap (spanEnd test at) (left at end h) ∙ step test at (end - (at + 1)) (sym e ∙ t)
 
   pub span-done : end ≤ at → spanEnd test at (end - at) ≡ at
   span-done h = ap (spanEnd test at) (none at end h) ∙ nothing
@@ -60,6 +59,36 @@ pub by-test : (b : Bool) {G : Type 0} → (b ≡ true → G) → (b ≡ false �
 by-test true f g = f refl
 by-test false f g = g refl
 
+-- each place that is passed over passes the test
+pub span-passes : (test : ℕ → Bool) (n at j : ℕ) → at ≤ j → j < spanEnd test at n → test j ≡ true
+unfolding spanEnd
+span-passes test zero at j h k = absurd (omega (arith, h, k))
+span-passes test (suc n) at j h k =
+    by-test (test at)
+    (λ t. by-test (ltb at j)
+    (λ l. let o = ltb-true at j l in span-passes test n (at + 1) j (omega arith) (subst (λ (x : ℕ). j < x) (step test at n t) k))
+    (λ l. let o = ltb-false at j l in let here : at ≡ j = omega arith in subst (λ (x : ℕ). test x ≡ true) here t))
+    (λ t. absurd (omega (arith, h, subst (λ (x : ℕ). j < x) (step test at n t) k)))
+
+-- where all pass, it ends behind them
+pub span-all : (test : ℕ → Bool) (n at : ℕ) → ((j : ℕ) → at ≤ j → j < at + n → test j ≡ true) → spanEnd test at n ≡ at + n
+unfolding spanEnd
+span-all test zero at f = omega arith
+span-all test (suc n) at f =
+    step test at n (f at (omega arith) (omega arith))
+    ∙ span-all test n (at + 1) (λ (j : ℕ) (a : at + 1 ≤ j) (b : j < at + 1 + n). f j (omega arith) (omega arith)) ∙ omega arith
+
+-- by a wider test it ends at the same place, if that fails it
+pub span-wider : (test wider : ℕ → Bool) → ((j : ℕ) → test j ≡ true → wider j ≡ true) → (n at : ℕ) → wider (spanEnd test at n) ≡ false
+    → spanEnd wider at n ≡ spanEnd test at n
+unfolding spanEnd
+span-wider test wider w zero at e = refl
+span-wider test wider w (suc n) at e =
+    by-test (test at)
+    (λ t. step wider at n (w at t)
+    ∙ span-wider test wider w n (at + 1) (subst (λ (x : ℕ). wider x ≡ false) (step test at n t) e) ∙ sym (step test at n t))
+    (λ t. step wider at n (subst (λ (x : ℕ). wider x ≡ false) (step test at n t) e) ∙ sym (step test at n t))
+
 pub neither : (x y : Bool) → (x || y) ≡ false → (x ≡ false) × (y ≡ false)
 neither true y e = absurd (true≢false e)
 neither false y e = (refl, e)
@@ -76,3 +105,11 @@ unseen-more test at i seen h e j a l =
     (λ t. let k = ltb-false j (at + i) t in
     let here : at + i ≡ j = omega (arith, l, k) in
     subst (λ (x : ℕ). test x ≡ false) here (n .1))
+
+-- what each place that is not seen leaves as it is, `n` of them from `at` to `to` leave as it is
+pub unseen-over : {A : Type 0} (f : ℕ → A) (test : ℕ → Bool) (end : ℕ) → ((j : ℕ) → j < end → test j ≡ false → f j ≡ f (j + 1))
+    → (n at to : ℕ) → n + at ≡ to → to ≤ end → ((j : ℕ) → at ≤ j → j < to → test j ≡ false) → f at ≡ f to
+unseen-over f test end step zero at to e h unseen = let same : at ≡ to = omega arith in ap f same
+unseen-over f test end step (suc n) at to e h unseen =
+    step at (omega arith) (unseen at (omega arith) (omega arith))
+    ∙ unseen-over f test end step n (at + 1) to (omega arith) h (λ (j : ℕ) (a : at + 1 ≤ j) (b : j < to). unseen j (omega arith) b)

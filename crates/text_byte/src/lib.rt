@@ -2,7 +2,7 @@
 ghost use mathlib.Core.Path.{_≡_};
 ghost use lib.ListN.{getD};
 ghost use Rattle.text_byte.specs.Bytes.{isBlank, isMark, opensLine, opensComment, endsWord, isDigit, isHexDigit, isLetter, isNameByte, lower, lowerAt};
-ghost use Rattle.text_byte.specs.Inner.{isPlain};
+ghost use Rattle.text_byte.specs.Inner.{isPlain, stopsWord};
 
 pub const NEWLINE: u8 = 10;
 
@@ -66,14 +66,30 @@ pub fn opens_comment(b: u8, c: u8) -> bool
 pub fn is_plain(b: u8) -> bool
     ensures { λ r. ⌜ r ≡ isPlain b ⌝ }
 {
-    ((62 <= b) & ((b != OPEN_BRACE) & (b != CLOSE_BRACE))) | ((48 <= b) & (b <= 58))
+    if 62 <= b {
+        return (b != OPEN_BRACE) & (b != CLOSE_BRACE);
+    }
+    (48 <= b) & (b <= 58)
+}
+
+// White space, a mark or a quote: a word ends there, whatever follows. Tested first is what most often stands behind a word.
+pub fn stops_word(b: u8) -> bool
+    ensures { λ r. ⌜ r ≡ stopsWord b ⌝ }
+{
+    if (b == 32) | (b == SEMICOLON) {
+        return true;
+    }
+    is_blank(b) | is_mark(b) | (b == DOUBLE_QUOTE)
 }
 
 // A word ends before white space, a mark, a quote, or a comment.
 pub fn ends_word(b: u8, c: u8) -> bool
     ensures { λ r. ⌜ r ≡ endsWord b c ⌝ }
 {
-    is_blank(b) | is_mark(b) | (b == DOUBLE_QUOTE) | (opens_line(b, c) | opens_comment(b, c))
+    if b == SLASH {
+        return (c == SLASH) | (c == STAR);
+    }
+    stops_word(b)
 }
 
 pub fn is_digit(b: u8) -> bool
@@ -94,10 +110,13 @@ pub fn is_letter(b: u8) -> bool
     ((65 <= b) & (b <= 90)) | ((97 <= b) & (b <= 122)) | (b == 95)
 }
 
-// A letter or a digit.
+// A letter or a digit. Small letters are tested first, since most bytes of names are such.
 pub fn is_name_byte(b: u8) -> bool
     ensures { λ r. ⌜ r ≡ isNameByte b ⌝ }
 {
+    if (97 <= b) & (b <= 122) {
+        return true;
+    }
     is_letter(b) | is_digit(b)
 }
 
