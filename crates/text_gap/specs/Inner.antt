@@ -1,4 +1,4 @@
--- What only contracts of inner functions cite: a gap read run by run. Assumes nothing.
+-- What contracts of inner functions cite, and that of `blank_end`: a gap read run by run. Assumes nothing.
 use Prim.Native.Nat.{ℕ, _+_, _-_, _≤_, _<_}
 use mathlib.Core.Bool.{Bool, false, not, _&&_, cond}
 use mathlib.Core.List.{List}
@@ -6,19 +6,27 @@ use mathlib.Core.Path.{_≡_}
 use lib.Dec.{eqb, ltb}
 use lib.ListN.{length, getD}
 use Rattle.text_byte.specs.Bytes.{star, slash, isBlank}
+use Rattle.text_byte.specs.Spans.{spanEnd}
 use Rattle.text_gap.specs.declared.Mode.{Mode}
 use Rattle.text_gap.specs.declared.Gap.{Gap}
 use Rattle.text_gap.specs.Gaps.{modeAfter, isStop, gap, gapFrom}
 
--- the byte at a place is white space; another than `b`; a star
+-- the byte at a place is white space; `b`; another than `b`; a star
 abbrev pub blankAt : List ℕ → ℕ → Bool
 blankAt text i = isBlank (getD text i 0)
 
+abbrev pub byteIs : List ℕ → ℕ → ℕ → Bool
+byteIs text b i = eqb (getD text i 0) b
+
 abbrev pub otherAt : List ℕ → ℕ → ℕ → Bool
-otherAt text b i = not (eqb (getD text i 0) b)
+otherAt text b i = not (byteIs text b i)
 
 abbrev pub starAt : List ℕ → ℕ → Bool
 starAt text i = eqb (getD text i 0) star
+
+-- the first place from `at` on that holds `b`, or the text's end
+abbrev pub otherEnd : List ℕ → ℕ → ℕ → ℕ
+otherEnd text b at = spanEnd (otherAt text b) at (length text - at)
 
 -- neither white space nor a slash stands at a place inside: a token's first byte, whatever follows
 abbrev pub startsToken : List ℕ → ℕ → Bool

@@ -1,12 +1,13 @@
 // White space and comments between the tokens of a text map (W-206). The definitions are in specs/.
 ghost use mathlib.Core.Path.{_≡_};
 ghost use mathlib.Core.Bool.{cond};
-ghost use Prim.Native.Nat.{_-_, _<_};
+ghost use Prim.Native.Nat.{_+_, _-_, _≤_, _<_};
 ghost use lib.ListN.{length};
 ghost use Rattle.text_gap.specs.declared.Mode.the-variants.{Between};
 ghost use Rattle.text_gap.specs.Gaps.{between, modeAfter, isStop, isOpen, gapFrom};
 ghost use Rattle.text_byte.specs.Spans.{spanEnd};
-ghost use Rattle.text_gap.specs.Inner.{blankAt, otherAt, starAt, startsToken, byteBehind, Stays, Runs};
+ghost use Rattle.text_byte.specs.Inner.{Unseen};
+ghost use Rattle.text_gap.specs.Inner.{blankAt, byteIs, otherEnd, starAt, startsToken, byteBehind, Stays, Runs};
 use text_byte as bytes;
 
 // How the reading of a gap goes on: between tokens, in a comment up to the line's end, at the star that opens a comment, in that comment,
@@ -107,7 +108,8 @@ fn byte_behind(text: &[u8], mode: Mode, at: usize) -> Gap
     Gap { mode, at }
 }
 
-fn blank_end(text: &[u8], from: usize) -> usize
+// Past white space.
+pub fn blank_end(text: &[u8], from: usize) -> usize
     ensures { λ r. ⌜ r ≡ spanEnd (blankAt (now (text .entry))) from (length (now (text .entry)) - from) ⌝ }
 {
     let mut at = from;
@@ -122,9 +124,9 @@ fn blank_end(text: &[u8], from: usize) -> usize
 
 // The first byte of a value.
 fn byte_end(text: &[u8], from: usize, b: u8) -> usize
-    ensures { λ r. ⌜ r ≡ spanEnd (otherAt (now (text .entry)) b) from (length (now (text .entry)) - from) ⌝ }
+    ensures { λ r. ⌜ r ≡ otherEnd (now (text .entry)) b from ⌝ }
 {
-    let mut at = from;
+    let mut at = other_blocks(text, from, b);
     while at < text.len() {
         if text[at] == b {
             return at;
@@ -132,6 +134,34 @@ fn byte_end(text: &[u8], from: usize, b: u8) -> usize
         at += 1;
     }
     at
+}
+
+// Past blocks of 8 bytes that do not have it: all of a block are compared at once.
+fn other_blocks(text: &[u8], from: usize, b: u8) -> usize
+    ensures { λ r. ⌜ otherEnd (now (text .entry)) b from ≡ otherEnd (now (text .entry)) b r ⌝ }
+{
+    if text.len() < from {
+        return from;
+    }
+    let mut at = from;
+    while 8 <= text.len() - at {
+        if has_byte(text, at, b) {
+            return at;
+        }
+        at += 8;
+    }
+    at
+}
+
+fn has_byte(text: &[u8], at: usize, b: u8) -> bool
+    requires { ⌜ at + 8 ≤ length (now text) ⌝ }
+    ensures { λ r. ⌜ Unseen (byteIs (now (text .entry)) b) at (at + 8) r ⌝ }
+{
+    let mut has = false;
+    for i in 0..8 {
+        has = has | (text[at + i] == b);
+    }
+    has
 }
 
 fn star_end(text: &[u8], from: usize) -> usize

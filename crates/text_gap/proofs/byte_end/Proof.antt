@@ -5,14 +5,13 @@ use mathlib.Core.Path.{_≡_, refl, sym, ap, _∙_}
 use borrow.Author.Needs.{needs}
 use borrow.Author.Tests.{eq-eqb, ne-eqb}
 use lib.ListN.{length}
-use Rattle.text_byte.specs.Spans.{spanEnd}
-use Rattle.text_gap.specs.Inner.{otherAt}
+use Rattle.text_gap.specs.Inner.{otherEnd}
 use Rattle.text_byte.proofs.Spans.{span-more, span-stop, span-done}
 use Rattle.text_gap.proofs.byte_end.Statement.{statement}
 use Rattle.text_gap.proofs.byte_end.Tie as tie
 
 abbrev Inv-loop : tie.InvT-loop
-Inv-loop text from b at₀ at = spanEnd (otherAt text b) from (length text - from) ≡ spanEnd (otherAt text b) at (length text - at)
+Inv-loop text from b at₀ at = otherEnd text b from ≡ otherEnd text b at
 
 abbrev μ-loop : tie.MeasureT-loop
 μ-loop text from b at₀ at = length text - at
@@ -29,4 +28,4 @@ returns-2 c = sym (c .before .loop .inv ∙ span-done _ _ _ (c .loop-test .left)
 pub byte-end-spec : {M : Type 1} → statement M
 byte-end-spec =
     tie.close
-    (tie.spec Inv-loop μ-loop (λ c. refl) (λ c. search needs) returns (λ c. search needs) (λ c. search needs) loop-again returns-2)
+    (tie.spec Inv-loop μ-loop (λ c κs. search needs) (λ c. c .other-blocks .ensures) (λ c. search needs) returns (λ c. search needs) (λ c. search needs) loop-again returns-2)
