@@ -1,15 +1,14 @@
 -- Laws of a string read run by run: bytes that mean nothing, and a backslash with the byte that it takes. Assumes nothing.
-use Prim.Native.Nat.{ℕ, zero, suc, _+_, _-_, _≤_, _<_}
-use mathlib.Core.Bool.{Bool, true, false, not, _&&_, _||_, true≢false}
+use Prim.Native.Nat.{ℕ, _+_, _-_, _<_}
+use mathlib.Core.Bool.{Bool, true, false, _||_, true≢false}
 use mathlib.Core.List.{List}
-use mathlib.Core.Path.{_≡_, refl, sym, ap, _∙_}
+use mathlib.Core.Path.{_≡_, refl, ap, _∙_}
 use native.Mathlib.Omega.{arith}
 use lib.Dec.{eqb}
 use lib.ListN.{getD, length}
 use Rattle.text_byte.specs.Bytes.{doubleQuote, backslash}
 use Rattle.text_token.specs.Tokens.{quoteEnd}
 use Rattle.text_byte.proofs.Spans.{neither}
-use Rattle.text_token.specs.Inner.{endsRun}
 use Rattle.text_token.proofs.Scans.{quote-more, quote-done}
 
 -- of a quote and a backslash the second, where it is not the first
@@ -40,11 +39,3 @@ module _ (text : List ℕ) (at : ℕ) where
       ∙ ap (λ (x : Bool). quoteEnd text x (at + 1) (length text - (at + 1))) f
       ∙ quote-more text true (at + 1) (length text) h refl
       ∙ ap (λ (k : ℕ). quoteEnd text false k (length text - k)) two
-
--- bytes that mean nothing, `n` of them from `at` to `to`
-pub quote-over : (text : List ℕ) (n at to : ℕ) → n + at ≡ to → to ≤ length text → ((j : ℕ) → at ≤ j → j < to → endsRun text j ≡ false)
-    → quoteEnd text false at (length text - at) ≡ quoteEnd text false to (length text - to)
-quote-over text zero at to e h f = let same : at ≡ to = omega arith in ap (λ (k : ℕ). quoteEnd text false k (length text - k)) same
-quote-over text (suc n) at to e h f =
-    quote-plain text at (omega arith) (f at (omega arith) (omega arith))
-    ∙ quote-over text n (at + 1) to (omega arith) h (λ (j : ℕ) (a : at + 1 ≤ j) (b : j < to). f j (omega arith) b)

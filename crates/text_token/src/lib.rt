@@ -1,9 +1,10 @@
 // The tokens of a text map (W-206): behind white space and comments a mark, a string or a word is cut out, as places in the text. The
 // definitions are in specs/.
-ghost use mathlib.Core.Bool.{false, not};
+ghost use mathlib.Core.Bool.{true, false, not};
 ghost use mathlib.Core.Path.{_≡_};
 ghost use Prim.Native.Nat.{_+_, _-_, _≤_, _<_};
 ghost use lib.ListN.{length};
+ghost use Rattle.text_byte.specs.Bytes.{isMark};
 ghost use Rattle.text_byte.specs.Spans.{spanEnd};
 ghost use Rattle.text_token.specs.Tokens.{inWord, quoteEnd, ended, stringTo, wordTo, tokenHere, tokenBehind, tokenAt, bytesOf, wordOf, Placed};
 ghost use Rattle.text_byte.specs.Inner.{Unseen};
@@ -34,6 +35,26 @@ pub fn token_at(text: &[u8], at: usize) -> Token
     ensures { λ r. ⌜ Placed (now (text .entry)) at r ⌝ }
 {
     token_behind(text, text_gap::gap_at(text, at))
+}
+
+// The same, quick where the token is this mark.
+pub fn mark_at(text: &[u8], from: usize, mark: u8) -> Token
+    requires { ⌜ isMark mark ≡ true ⌝ }
+    ensures { λ r. ⌜ r ≡ tokenAt (now (text .entry)) from ⌝ }
+    ensures { λ r. ⌜ Placed (now (text .entry)) from r ⌝ }
+{
+    let at = text_gap::blank_end(text, from);
+    if at < text.len() {
+        if text[at] == mark {
+            return Token {
+                form: mark,
+                start: at,
+                end: at + 1,
+                next: at + 1,
+            };
+        }
+    }
+    token_at(text, at)
 }
 
 fn token_behind(text: &[u8], g: Gap) -> Token
@@ -83,7 +104,8 @@ fn string_to(text: &[u8], at: usize, end: usize) -> Token
     ended(text, UNCLOSED)
 }
 
-fn word_to(at: usize, end: usize) -> Token
+// A word from its first byte to the byte behind its last.
+pub fn word_to(at: usize, end: usize) -> Token
     ensures { λ r. ⌜ r ≡ wordTo at end ⌝ }
 {
     Token {

@@ -1,13 +1,16 @@
 -- `text_token::plain_blocks` meets its contract: what was passed has neither a quote nor a backslash. The measure is what is left.
 -- Assumes nothing.
-use Prim.Native.Nat.{_+_, _-_, _≤_}
-use mathlib.Core.Path.{_≡_, refl, _∙_}
+use Prim.Native.Nat.{ℕ, _+_, _-_, _≤_}
+use mathlib.Core.Bool.{false}
+use mathlib.Core.Path.{refl, _∙_}
 use native.Mathlib.Omega.{arith}
 use borrow.Author.Needs.{needs}
 use denote.Ref.{now}
 use lib.ListN.{length}
-use Rattle.text_token.specs.Inner.{PlainRun}
-use Rattle.text_token.proofs.QuoteRuns.{quote-over}
+use Rattle.text_byte.proofs.Spans.{unseen-over}
+use Rattle.text_token.specs.Tokens.{quoteEnd}
+use Rattle.text_token.specs.Inner.{endsRun, PlainRun}
+use Rattle.text_token.proofs.QuoteRuns.{quote-plain}
 use Rattle.text_token.proofs.plain_blocks.Statement.{statement}
 use Rattle.text_token.proofs.plain_blocks.Tie as tie
 
@@ -30,7 +33,10 @@ loop-again c =
     let inside : at + 16 ≤ length text = omega (arith, l .loop .inv .0, c .before .before .loop-test .taken) in (
       inside,
       record {
-        same = run .same ∙ quote-over text 16 at (at + 16) (omega arith) inside (c .before .block-ends .ensures (c .if2 .left));
+        same =
+            run .same
+            ∙ unseen-over (λ (k : ℕ). quoteEnd text false k (length text - k)) (endsRun text) (length text) (quote-plain text)
+            16 at (at + 16) (omega arith) inside (c .before .block-ends .ensures (c .if2 .left));
         onward = omega (arith, run .onward);
       },
     )
