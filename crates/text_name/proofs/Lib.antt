@@ -1,0 +1,3 @@
+-- Laws of the identifiers of a text map. Assumes nothing.
+
+pub mod Identifiers

@@ -1,0 +1,3 @@
+-- The identifiers of a text map. Assumes nothing.
+
+pub mod Identifiers
