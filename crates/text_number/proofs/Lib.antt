@@ -1,3 +1,3 @@
 -- Laws of the numbers of a text map. Assumes nothing.
 
-pub mod Digits
+pub mod Numbers

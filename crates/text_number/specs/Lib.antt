@@ -1,3 +1,4 @@
 -- The numbers of a text map. Assumes nothing.
 
 pub mod Numbers
+pub mod Inner

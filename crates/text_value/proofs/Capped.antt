@@ -1,5 +1,5 @@
 -- A whole number read with a cap. Assumes nothing.
-use Prim.Native.Nat.{ℕ, _≤_, _<_, min}
+use Prim.Native.Nat.{ℕ, _<_, min}
 use mathlib.Core.Bool.{Bool, true, false}
 use mathlib.Core.Path.{_≡_, refl, ap, _∙_}
 use native.Mathlib.Nat.{min-eq-left, min-eq-right}
@@ -7,7 +7,7 @@ use native.Mathlib.Omega.{arith}
 use borrow.Author.Tests.{leb-true, leb-false, lt-leb}
 use lib.Dec.{leb}
 use Rattle.text_number.specs.Numbers.{mostOf}
-use Rattle.text_number.proofs.Digits.{cap}
+use Rattle.text_number.proofs.Numbers.{cap}
 use Rattle.text_value.specs.Values.{wholeRead}
 
 -- what is capped beyond the limits reads the same

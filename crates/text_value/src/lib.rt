@@ -1,8 +1,10 @@
 // The values of a text map (W-206): a token as a whole number, a decimal, the places of a string or a flag. The definitions are in specs/.
 ghost use mathlib.Core.Path.{_≡_};
-ghost use Prim.Native.Nat.{_≤_, _<_};
+ghost use Prim.Native.Nat.{_-_, _≤_, _<_, min};
 ghost use lib.ListN.{length};
-ghost use Rattle.text_value.specs.Values.{isTrue, isFalse, wholeRead, decimalRead, digitsRead, numberRead, wordRead, tokenRead};
+ghost use Rattle.text_number.specs.Numbers.{digitsFrom};
+ghost use Rattle.text_value.specs.Values.{isTrue, isFalse, wholeRead, numberRead, wordRead, tokenRead};
+ghost use Rattle.text_value.specs.Inner.{hexRead, pointRead};
 use text_byte as bytes;
 use text_number as numbers;
 use text_token::Token;
@@ -46,10 +48,21 @@ fn word_read(word: &[u8]) -> Reading
     if is_false(word) {
         return Reading::Good(Value::Flag(false));
     }
-    if numbers::hex_ok(word) {
-        return whole_read(false, numbers::digits_from(word, 16, 0, 2, word.len()));
+    if numbers::is_hex(word) {
+        return hex_read(word);
     }
     number_read(word)
+}
+
+// Behind 0x only hexadecimal digits make a value.
+fn hex_read(word: &[u8]) -> Reading
+    ensures { λ r. ⌜ r ≡ hexRead (now (word .entry)) ⌝ }
+{
+    let d = numbers::digits_at(word, 16, 0, 2);
+    if d.end == word.len() {
+        return whole_read(false, d.number);
+    }
+    Reading::NoValue
 }
 
 // The length is asked first: most words are of another.
@@ -81,22 +94,12 @@ fn number_read(word: &[u8]) -> Reading
 {
     let first = bytes::byte_at(word, 0);
     let at = numbers::behind_sign(first);
-    digits_read(
-        word,
-        first == numbers::MINUS_SIGN,
-        at,
-        numbers::digits_end(word, at),
-    )
-}
-
-fn digits_read(word: &[u8], minus: bool, at: usize, behind: usize) -> Reading
-    ensures { λ r. ⌜ r ≡ digitsRead (now (word .entry)) minus at behind ⌝ }
-{
-    if numbers::whole_ok(word, at, behind) {
-        return whole_read(minus, numbers::digits_from(word, 10, 0, at, word.len()));
+    let d = numbers::digits_at(word, 10, 0, at);
+    if numbers::whole_ok(word, at, d.end) {
+        return whole_read(first == numbers::MINUS_SIGN, d.number);
     }
-    if numbers::decimal_ok(word, at, behind) {
-        return decimal_read(word, minus, at, behind);
+    if numbers::is_point(word, at, d.end) {
+        return decimal_read(word, first == numbers::MINUS_SIGN, at, d.end, d.number);
     }
     Reading::NoValue
 }
@@ -110,14 +113,18 @@ fn whole_read(minus: bool, n: u64) -> Reading
     Reading::WholePast
 }
 
-fn decimal_read(word: &[u8], minus: bool, at: usize, point: usize) -> Reading
-    requires { ⌜ (at < point) × (point < length (now word)) ⌝ }
-    ensures { λ r. ⌜ r ≡ decimalRead (now (word .entry)) minus at point ⌝ }
+// The digits before the point come to `before`.
+fn decimal_read(word: &[u8], minus: bool, at: usize, point: usize, before: u64) -> Reading
+    requires { ⌜ (at < point) × ((point < length (now word)) × (before ≡ min (digitsFrom (now word) 10 0 at (point - at)) 9007199254740992)) ⌝ }
+    ensures { λ r. ⌜ r ≡ pointRead (now (word .entry)) minus at point ⌝ }
 {
+    let d = numbers::digits_at(word, 10, before, point + 1);
     let end = word.len();
+    if d.end != end {
+        return Reading::NoValue;
+    }
     if (end - at <= 16) & (end - point <= 7) {
-        let digits = numbers::decimal_digits(word, at, point);
-        return Reading::Good(Value::Decimal(numbers::quotient(minus, digits, end - (point + 1))));
+        return Reading::Good(Value::Decimal(numbers::quotient(minus, d.number, end - (point + 1))));
     }
     Reading::DecimalPast
 }

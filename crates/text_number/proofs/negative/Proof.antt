@@ -2,7 +2,7 @@
 use mathlib.Core.Path.{sym, ap}
 use Prim.Native.Nat.{ℕ}
 use lib.IntN.{negℤ, pos}
-use Rattle.text_number.proofs.Digits.{toZ-negative}
+use Rattle.text_number.proofs.Numbers.{toZ-negative}
 use borrow.Author.Needs.{needs}
 use Rattle.text_number.proofs.negative.Statement.{statement}
 use Rattle.text_number.proofs.negative.Tie as tie

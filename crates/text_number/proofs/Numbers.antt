@@ -1,11 +1,11 @@
--- Laws of digits: one more, the cap of what is counted, and the bound of fifteen. Assumes nothing.
+-- Laws of numbers: one more digit, the cap of what is counted, the bound of fifteen, and what the tests of words say. Assumes nothing.
 use Prim.Native.Nat.{ℕ, zero, suc, _+_, _-_, _*_, _^_, _≤_, _<_, min}
-use mathlib.Core.Bool.{Bool, true, false, _&&_, and-eq-true-iff}
+use mathlib.Core.Bool.{Bool, true, false, _&&_, _||_, not, and-assoc, and-eq-true-iff}
 use mathlib.Core.List.{List}
 use mathlib.Core.Path.{_≡_, refl, sym, ap, _∙_}
 use native.Mathlib.Nat.{mul-le-mul-left, mul-le-mul-right, min-eq-left, min-eq-right, pow-zero, pow-succ', mul-assoc, mul-left-comm, mul-one, pow-le-pow-right}
 use native.Mathlib.Omega.{arith}
-use borrow.Author.Tests.{leb-true, leb-false, ltb-true}
+use borrow.Author.Tests.{leb-true, leb-false, ltb-true, eqb-true}
 use lib.Dec.{leb, ltb, eqb}
 use lib.IntN.{pos, negℤ}
 use lib.ListN.{length, getD}
@@ -16,7 +16,8 @@ use mir.ValLaws.{toZ-neg}
 use Rattle.text_byte.specs.Bytes.{within}
 use Rattle.text_byte.proofs.Spans.{cond-on}
 use Rattle.text_byte.proofs.Bytes.{within-true}
-use Rattle.text_number.specs.Numbers.{digitOf, digitsFrom, digitsEnd, decimalOk, decimalFits}
+use Rattle.text_number.specs.Numbers.{zeroDigit, smallX, decimalPoint, digitOf, digitsFrom, digitsEnd, hexEnd, hexOk, wholeOk, decimalOk, decimalFits}
+use Rattle.text_number.specs.Inner.{isHex, isPoint}
 
 abbrev pub cap : ℕ
 cap = 9007199254740992
@@ -100,10 +101,29 @@ both-below a b c e =
     let p = and-eq-true-iff (ltb a b) (ltb b c) .0 e in
     (ltb-true a b (p .0), ltb-true b c (p .1))
 
-pub decimalOk-true : (word : List ℕ) (at point : ℕ) → decimalOk word at point ≡ true → (at < point) × (point < length word)
-decimalOk-true word at point e =
-    both-below at point (length word)
-    (and-eq-true-iff (ltb at point && ltb point (length word)) (eqb (getD word point 0) 46 && eqb (digitsEnd word (point + 1)) (length word)) .0 e .0)
+-- the 0x form: its mark, as it was tested, and digits up to the end
+pub hexOk-is : (word : List ℕ) {b : Bool} → isHex word ≡ b → hexOk word ≡ (b && eqb (hexEnd word 2) (length word))
+hexOk-is word e =
+    let all = eqb (hexEnd word 2) (length word) in
+    sym (and-assoc (eqb (getD word 0 0) zeroDigit && eqb (getD word 1 0) smallX) (ltb 2 (length word)) all) ∙ ap (_&& all) e
+
+-- a decimal: its point, as it was tested, and digits up to the end
+pub decimalOk-is : (word : List ℕ) (at point : ℕ) {b : Bool} → isPoint word at point ≡ b
+    → decimalOk word at point ≡ (b && eqb (digitsEnd word (point + 1)) (length word))
+decimalOk-is word at point e =
+    let all = eqb (digitsEnd word (point + 1)) (length word) in
+    sym (and-assoc (ltb at point && ltb point (length word)) (eqb (getD word point 0) decimalPoint) all) ∙ ap (_&& all) e
+
+pub isPoint-true : (word : List ℕ) (at point : ℕ) → isPoint word at point ≡ true → (at < point) × (point < length word)
+isPoint-true word at point e =
+    both-below at point (length word) (and-eq-true-iff (ltb at point && ltb point (length word)) (eqb (getD word point 0) decimalPoint) .0 e .0)
+
+-- the digits of a whole number end with the word
+pub wholeOk-end : (word : List ℕ) (at behind : ℕ) → wholeOk word at behind ≡ true → behind ≡ length word
+wholeOk-end word at behind e =
+    let all = ltb at (length word) && eqb behind (length word) in
+    let p = and-eq-true-iff all (not (eqb (getD word at 0) zeroDigit) || eqb (length word) (at + 1)) .0 e .0 in
+    eqb-true behind (length word) (and-eq-true-iff (ltb at (length word)) (eqb behind (length word)) .0 p .1)
 
 -- the machine's complement of one less is the negative
 pub toZ-negative : (n : ℕ) → (n ≡ 0 → ⊥) → n ≤ 2147483648 → toZ w32 (4294967295 - (n - 1)) ≡ negℤ (pos n)
