@@ -53,10 +53,10 @@ summaryOut (NoSummary r) = record {
 abbrev pub TextJudged : List ℕ → TextMapAnswer → Type 0
 TextJudged text answer = answer ≡ summaryOut (textAnswer text)
 
--- a block's kind, the place of its name and the place behind it
+-- a block's kind and the place of its name
 abbrev pub blockOut : BlockAnswer → TextBlockAnswer
-blockOut (Block b) = record { status = accepted; kind = b .kind; start = b .start; next = b .next }
-blockOut (NoBlock r) = record { status = refused r; kind = 0; start = 0; next = 0 }
+blockOut (Block b) = record { status = accepted; kind = b .kind; start = b .start }
+blockOut (NoBlock r) = record { status = refused r; kind = 0; start = 0 }
 
 -- the first block of a known kind from a place on
 abbrev pub BlockFound : List ℕ → ℕ → TextBlockAnswer → Type 0

@@ -34,7 +34,6 @@ pub struct TextBlockAnswer {
     pub status: Status,
     pub kind: u32,
     pub start: usize,
-    pub next: usize,
 }
 
 // The namespace and how many blocks of each kind, 90 to 93.
@@ -70,7 +69,7 @@ pub extern "C" fn meshpigeon_text_map(text: &[u8]) -> TextMapAnswer
     }
 }
 
-// The first block of a known kind among the statements from a place on, 90 to 94.
+// The first block of a known kind among the statements from a place on, up to its opening brace, 90 to 94.
 #[no_mangle]
 pub extern "C" fn meshpigeon_text_block(text: &[u8], place: usize) -> TextBlockAnswer
     ensures { λ r. ⌜ BlockFound (now (text .entry)) place r ⌝ }
@@ -80,13 +79,11 @@ pub extern "C" fn meshpigeon_text_block(text: &[u8], place: usize) -> TextBlockA
             status: nothing_refused(),
             kind: b.kind,
             start: b.start,
-            next: b.next,
         },
         BlockAnswer::Refused(r) => TextBlockAnswer {
             status: refused(r),
             kind: 0,
             start: 0,
-            next: 0,
         },
     }
 }

@@ -14,7 +14,7 @@ use Rattle.text_scope.specs.Scopes.{firstRow, rowCount, scopeNumber}
 use Rattle.text_field.specs.Names.{every}
 use Rattle.text_block.specs.declared.Counts.{Counts}
 use Rattle.text_block.specs.declared.Asked.{Asked}
-use Rattle.text_block.specs.declared.Asked.the-variants.{Nothing, Numbered, First, FirstOfAny}
+use Rattle.text_block.specs.declared.Asked.the-variants.{Nothing, Numbered, First, Opening}
 use Rattle.text_block.specs.declared.Wanted.{Wanted}
 use Rattle.text_block.specs.declared.Wanted.the-variants.{Statement, Equals, Value, Semicolon, NoMore}
 
@@ -56,14 +56,21 @@ abbrev pub isAsked : Asked → Scope → ℕ → Bool
 isAsked Nothing kind before = false
 isAsked (Numbered asked number) kind before = eqb (scopeNumber asked) (scopeNumber kind) && eqb before number
 isAsked (First asked) kind before = eqb (scopeNumber asked) (scopeNumber kind)
-isAsked FirstOfAny kind before = not (eqb (scopeNumber kind) 6)
+isAsked Opening kind before = false
 
 -- nothing more is read behind it
 abbrev pub stopsThere : Asked → Bool
 stopsThere Nothing = false
 stopsThere (Numbered asked number) = false
 stopsThere (First asked) = true
-stopsThere FirstOfAny = true
+stopsThere Opening = false
+
+-- a block of any known kind is asked for, and nothing behind its opening brace
+abbrev pub stopsInside : Asked → Scope → Bool
+stopsInside Nothing kind = false
+stopsInside (Numbered asked number) kind = false
+stopsInside (First asked) kind = false
+stopsInside Opening kind = not (eqb (scopeNumber kind) 6)
 
 -- the most fields of a kind
 abbrev pub fieldRoom : ℕ

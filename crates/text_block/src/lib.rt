@@ -9,10 +9,8 @@ ghost use Rattle.text_table.specs.Table.{table};
 ghost use Rattle.text_scope.specs.Scopes.{scopeNumber};
 ghost use Rattle.text_field.specs.Names.{every};
 ghost use Rattle.text_block.specs.declared.Asked.the-variants.{Numbered};
-ghost use Rattle.text_block.specs.Blocks.{countOf, counted, isFull, isAsked, stopsThere, noPlaces, stored, filed, isGiven, allGiven};
-use text_byte as bytes;
+ghost use Rattle.text_block.specs.Blocks.{countOf, counted, isFull, isAsked, stopsThere, stopsInside, noPlaces, stored, isGiven, allGiven};
 use text_scope::Scope;
-use text_token::Token;
 
 // What is wanted next: a statement; `=` behind an identifier, from its first byte to the byte behind it; a value for a name of the scope,
 // counted from 1, 0 for an unknown one; `;` behind the value at a place for such a name; or nothing more.
@@ -24,12 +22,13 @@ pub enum Wanted {
     NoMore,
 }
 
-// Which block is asked for: none; a kind's block of a number; the first of a kind, or of any known kind, and nothing behind it.
+// Which block is asked for: none; a kind's block of a number; the first of a kind, and nothing behind it; or the first of any known kind,
+// and nothing behind its opening brace.
 pub enum Asked {
     Nothing,
     Numbered(Scope, usize),
     First(Scope),
-    FirstOfAny,
+    Opening,
 }
 
 // How many blocks of each kind.
@@ -94,7 +93,7 @@ pub fn is_asked(asked: Asked, kind: Scope, before: usize) -> bool
         Asked::Nothing => false,
         Asked::Numbered(of, number) => is_numbered(of, number, kind, before),
         Asked::First(of) => is_kind(of, kind),
-        Asked::FirstOfAny => is_known(kind),
+        Asked::Opening => false,
     }
 }
 
@@ -124,7 +123,19 @@ pub fn stops_there(asked: Asked) -> bool
         Asked::Nothing => false,
         Asked::Numbered(_, _) => false,
         Asked::First(_) => true,
-        Asked::FirstOfAny => true,
+        Asked::Opening => false,
+    }
+}
+
+// Nothing more is read behind the opening brace of a block of this kind.
+pub fn stops_inside(asked: Asked, kind: Scope) -> bool
+    ensures { λ r. ⌜ r ≡ stopsInside asked kind ⌝ }
+{
+    match asked {
+        Asked::Nothing => false,
+        Asked::Numbered(_, _) => false,
+        Asked::First(_) => false,
+        Asked::Opening => is_known(kind),
     }
 }
 
@@ -137,22 +148,8 @@ pub fn keep(ok: bool, places: &[usize; 34], kept: &mut [usize; 34])
     }
 }
 
-// Of each field of the open block the place of its last value, behind one more token.
-pub fn file(wanted: Wanted, t: Token, places: &mut [usize; 34])
-    requires { ⌜ length (now places) ≡ 34 ⌝ }
-    ensures { λ _. ⌜ now (places .exit) ≡ filed wanted t (now (places .entry)) ⌝ }
-    ensures { λ _. ⌜ length (now (places .exit)) ≡ 34 ⌝ }
-{
-    match wanted {
-        Wanted::Statement => {}
-        Wanted::Equals(_, _) => clear(t.form == bytes::OPEN_BRACE, places),
-        Wanted::Value(_) => {}
-        Wanted::Semicolon(field, place) => store(t.form == bytes::SEMICOLON, places, field, place),
-        Wanted::NoMore => {}
-    }
-}
-
-fn clear(ok: bool, places: &mut [usize; 34])
+// No field of a block has a value where it opens.
+pub fn clear(ok: bool, places: &mut [usize; 34])
     requires { ⌜ length (now places) ≡ 34 ⌝ }
     ensures { λ _. ⌜ now (places .exit) ≡ cond ok noPlaces (now (places .entry)) ⌝ }
     ensures { λ _. ⌜ length (now (places .exit)) ≡ 34 ⌝ }
@@ -162,8 +159,8 @@ fn clear(ok: bool, places: &mut [usize; 34])
     }
 }
 
-// The value of an unknown field, 0, is passed over. (No kind has more than 34 fields.)
-fn store(ok: bool, places: &mut [usize; 34], i: usize, place: usize)
+// Of a field of the open block the place of its last value. That of an unknown field, 0, is passed over. (No kind has more than 34.)
+pub fn store(ok: bool, places: &mut [usize; 34], i: usize, place: usize)
     requires { ⌜ length (now places) ≡ 34 ⌝ }
     ensures { λ _. ⌜ now (places .exit) ≡ cond ok (stored (now (places .entry)) i place) (now (places .entry)) ⌝ }
     ensures { λ _. ⌜ length (now (places .exit)) ≡ 34 ⌝ }

@@ -1,7 +1,7 @@
 -- What a text map answers (02, W-206): its namespace and counts; and the fields of a block, by its kind and number or from a place on.
 -- Assumes nothing.
 use Prim.Native.Nat.{ℕ}
-use mathlib.Core.Bool.{Bool, cond}
+use mathlib.Core.Bool.{Bool, not, cond}
 use mathlib.Core.List.{List}
 use lib.IntN.{ℤ, pos, negsuc}
 use Rattle.refusal.specs.declared.Refusal.{Refusal}
@@ -14,10 +14,10 @@ use Rattle.text_scope.specs.declared.Scope.{Scope}
 use Rattle.text_scope.specs.Scopes.{firstRow, scopeNumber}
 use Rattle.text_field.specs.Names.{zeroIds}
 use Rattle.text_block.specs.declared.Asked.{Asked}
-use Rattle.text_block.specs.declared.Asked.the-variants.{Nothing, Numbered, First, FirstOfAny}
-use Rattle.text_step.specs.declared.Notes.{Notes}
+use Rattle.text_block.specs.declared.Asked.the-variants.{Nothing, Numbered, First, Opening}
 use Rattle.text_step.specs.declared.Parse.{Parse}
 use Rattle.text_block.specs.Blocks.{noPlaces}
+use Rattle.text_step.specs.Steps.{isTop}
 use Rattle.text_reader.specs.Texts.{Stand, textFrom}
 use Rattle.text_given.specs.declared.Places.{Places}
 use Rattle.text_given.specs.Fields.{valueAt, between, stringOr}
@@ -46,14 +46,17 @@ textAnswer text = let s = textFrom text Nothing 0 .parse in summaryBy text s (s 
 abbrev pub blockCheck : Parse → Check
 blockCheck s = s .check andThen unless (s .notes .found) TextMissing
 
--- a block's kind as its number, the place of its name, and the place behind it
-abbrev pub blockBy : Notes → Check → BlockAnswer
-blockBy n Pass = Block (record { kind = scopeNumber (n .kind); start = n .block; next = n .next })
-blockBy n (Refused r) = NoBlock r
+-- 90 to 93 of what was read, then 94 where no block opened
+abbrev pub openedCheck : Parse → Check
+openedCheck s = s .check andThen unless (not (isTop (s .scope))) TextMissing
 
--- the block that is asked for
+-- an open block: its kind as its number, and the place of its name
+abbrev pub blockBy : Parse → Check → BlockAnswer
+blockBy s Pass = Block (record { kind = scopeNumber (s .scope); start = s .block })
+blockBy s (Refused r) = NoBlock r
+
 abbrev pub blockAnswer : Stand → BlockAnswer
-blockAnswer s = blockBy (s .parse .notes) (blockCheck (s .parse))
+blockAnswer s = blockBy (s .parse) (openedCheck (s .parse))
 
 -- the row behind the table's last: from there on every default is 0
 abbrev pub noRow : ℕ
@@ -88,9 +91,9 @@ numbered text kind number = textFrom text (Numbered kind number) 0
 abbrev pub firstFrom : List ℕ → Scope → ℕ → Stand
 firstFrom text kind place = textFrom text (First kind) place
 
--- the first block of any known kind among them
+-- the first block of any known kind among them, up to its opening brace
 abbrev pub nextFrom : List ℕ → ℕ → Stand
-nextFrom text place = textFrom text FirstOfAny place
+nextFrom text place = textFrom text Opening place
 
 -- a linedef's id by default: 0 in the namespaces Doom, Heretic and Strife, else -1
 abbrev pub idBy : List ℕ → ℤ

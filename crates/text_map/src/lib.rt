@@ -5,7 +5,7 @@ ghost use Prim.Native.Nat.{_≤_};
 ghost use Rattle.text_scope.specs.Scopes.{scopeNumber};
 ghost use Rattle.text_table.specs.Table.{table};
 ghost use Rattle.text_token.specs.Tokens.{bytesOf};
-ghost use Rattle.text_map.specs.Answers.{namespaceOf, summaryBy, textAnswer, blockCheck, blockBy, blockAnswer};
+ghost use Rattle.text_map.specs.Answers.{namespaceOf, summaryBy, textAnswer, blockCheck, openedCheck, blockBy, blockAnswer};
 ghost use Rattle.text_map.specs.Answers.{fieldsBy, blockFields, numbered, firstFrom, nextFrom, idBy, idOf};
 use refusal::Check;
 use refusal::Refusal;
@@ -26,11 +26,10 @@ pub enum TextAnswer {
     Refused(Refusal),
 }
 
-// A block: its kind, 1 to 5, the place of its name, and the place behind it.
+// A block: its kind, 1 to 5, and the place of its name.
 pub struct TextBlock {
     pub kind: u32,
     pub start: usize,
-    pub next: usize,
 }
 
 pub enum BlockAnswer {
@@ -86,25 +85,35 @@ fn block_check(s: Parse) -> Check
     refusal::then(check, refusal::pass_if(s.notes.found, Refusal::TextMissing))
 }
 
-// The first block of a known kind among the statements from a place on.
+// The first block of a known kind among the statements from a place on. Its fields are not read.
 pub fn next_block(text: &[u8], place: usize) -> BlockAnswer
     ensures { λ r. ⌜ r ≡ blockAnswer (nextFrom (now (text .entry)) place) ⌝ }
 {
-    let o = text_reader::read(text, Asked::FirstOfAny, place);
+    let o = text_reader::read(text, Asked::Opening, place);
     let s = o.parse;
     block_by(s)
 }
 
-fn block_by(s: Parse) -> BlockAnswer
-    ensures { λ r. ⌜ r ≡ blockBy (s .notes) (blockCheck s) ⌝ }
+// 94 comes last.
+fn opened_check(s: Parse) -> Check
+    ensures { λ r. ⌜ r ≡ openedCheck s ⌝ }
 {
-    let notes = s.notes;
-    let kind = notes.kind;
-    match block_check(s) {
+    let check = s.check;
+    let scope = s.scope;
+    refusal::then(
+        check,
+        refusal::pass_if(!text_step::is_top(scope), Refusal::TextMissing),
+    )
+}
+
+fn block_by(s: Parse) -> BlockAnswer
+    ensures { λ r. ⌜ r ≡ blockBy s (openedCheck s) ⌝ }
+{
+    let scope = s.scope;
+    match opened_check(s) {
         Check::Pass => BlockAnswer::Block(TextBlock {
-            kind: kind_of(kind),
-            start: notes.block,
-            next: notes.next,
+            kind: kind_of(scope),
+            start: s.block,
         }),
         Check::Refused(r) => BlockAnswer::Refused(r),
     }

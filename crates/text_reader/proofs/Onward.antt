@@ -23,7 +23,8 @@ use Rattle.text_block.specs.declared.Wanted.{Wanted}
 use Rattle.text_block.specs.declared.Wanted.the-variants.{Statement, Equals, Value, Semicolon, NoMore}
 use Rattle.text_step.specs.declared.Parse.{Parse}
 use Rattle.text_block.specs.Blocks.{isFull, allGiven}
-use Rattle.text_step.specs.Steps.{goesOn, refusedWith, isTop, identifierOk, isIdentifier, closedBlock, onStatement, openedBlock, onEquals, heldBy, valueCheck, judged, onValue, onSemicolon, stepBy}
+use Rattle.text_name.specs.Identifiers.{identifierOk, isIdentifier}
+use Rattle.text_step.specs.Steps.{goesOn, refusedWith, isTop, closedBlock, onStatement, openedBlock, onEquals, heldBy, valueCheck, judged, onValue, onSemicolon, stepBy}
 use Rattle.text_reader.specs.Texts.{isMore}
 
 module _ (text : List ℕ) (asked : Asked) (places : List ℕ) (s : Parse) where
@@ -62,11 +63,11 @@ module _ (text : List ℕ) (asked : Asked) (places : List ℕ) (s : Parse) where
       (λ e. closed-next (ahead 125 (omega arith) (and-eq-true-iff (not (isTop (s .scope))) (eqb (t .form) 125) .0 e .1)))
       (λ _. cond-on Next (isTop (s .scope) && eqb (t .form) 0) (λ _. record { onward = λ e. ended e; room = λ e. e }) (λ _. refused _)))
 
-  opened-next : (start : ℕ) (kind : Scope) → (s .at < t .next) × (t .next ≤ length text) → Next (openedBlock s t start kind)
+  opened-next : (start : ℕ) (kind : Scope) → (s .at < t .next) × (t .next ≤ length text) → Next (openedBlock asked s t start kind)
   opened-next start kind h =
       cond-on Next (isFull (s .notes .counts) kind) (λ _. refused _) (λ e. record { onward = λ _. h; room = λ _. e })
 
-  equals-next : (start end : ℕ) → Next (onEquals text s t start end)
+  equals-next : (start end : ℕ) → Next (onEquals text asked s t start end)
   equals-next start end =
       cond-on Next (eqb (t .form) 61) (λ e. fits _ (ahead 61 (omega arith) e))
       (λ _. cond-on Next (isTop (s .scope) && eqb (t .form) 123)

@@ -1,12 +1,19 @@
-// A text map read token by token (W-206): one loop over the whole text, up to its end, its first fault, or the end of the block that is
-// asked for. The definitions are in specs/.
+// A text map read statement by statement (W-206): one loop over the whole text, up to its end, its first fault, or what is asked for. The
+// definitions are in specs/: there a text is read token by token.
+ghost use mathlib.Core.Bool.{false};
 ghost use mathlib.Core.Path.{_≡_};
+ghost use lib.ListN.{length};
 ghost use Rattle.text_table.specs.Table.{table};
-ghost use Rattle.text_reader.specs.Texts.{isMore, startAt, textFrom};
+ghost use Rattle.text_block.specs.declared.Asked.{Asked};
+ghost use Rattle.text_block.specs.declared.Wanted.the-variants.{Statement, Equals, Value, Semicolon};
+ghost use Rattle.text_block.specs.Blocks.{isFull};
+ghost use Rattle.text_reader.specs.Texts.{stand, isMore, startAt, textFrom};
+ghost use Rattle.text_reader.specs.Inner.{Leads, ReadsOn, Rests};
 use refusal::Check;
 use text_block::Asked;
 use text_block::Counts;
 use text_block::Wanted;
+use text_byte as bytes;
 use text_scope::Scope;
 use text_step::Notes;
 use text_step::Parse;
@@ -36,14 +43,104 @@ fn read_with(text: &[u8], rows: &[u8], asked: Asked, from: usize) -> Outcome
     let mut kept = [0; 34];
     let mut wanted = Wanted::Statement;
     while is_more(wanted) {
-        let t = text_token::token_at(text, s.at);
-        let after = text_step::step(text, rows, asked, &places, s, t);
-        text_block::keep(!s.notes.found & after.notes.found, &places, &mut kept);
-        text_block::file(wanted, t, &mut places);
-        s = after;
+        s = statement(text, rows, asked, s, &mut places, &mut kept);
         wanted = s.wanted;
     }
     Outcome { parse: s, kept }
+}
+
+// A whole statement, or what ends a block or the text.
+fn statement(
+    text: &[u8],
+    rows: &[u8],
+    asked: Asked,
+    s: Parse,
+    places: &mut [usize; 34],
+    kept: &mut [usize; 34],
+) -> Parse
+    requires { ⌜ now rows ≡ table ⌝ }
+    requires { ⌜ (s .wanted ≡ Statement) × (isFull (s .notes .counts) (s .scope) ≡ false) ⌝ }
+    requires { ⌜ length (now places) ≡ 34 ⌝ }
+    ensures { λ r. ⌜ Leads (now (text .entry)) asked (stand s (now (places .entry)) (now (kept .entry))) (stand r (now (places .exit)) (now (kept .exit))) ⌝ }
+    ensures { λ r. ⌜ Rests (r .wanted) × (length (now (places .exit)) ≡ 34) ⌝ }
+{
+    let n = text_name::name_at(text, s.at);
+    let t = n.token;
+    if n.good {
+        let named = text_step::goes_on(s, t, Wanted::Equals(t.start, t.end));
+        return behind_name(text, rows, asked, named, t.start, t.end, places);
+    }
+    let after = text_step::on_end(rows, asked, places, s, t);
+    text_block::keep(!s.notes.found & after.notes.found, places, kept);
+    after
+}
+
+// Behind a name: `=` and what follows it, or an opening brace.
+fn behind_name(
+    text: &[u8],
+    rows: &[u8],
+    asked: Asked,
+    s: Parse,
+    start: usize,
+    end: usize,
+    places: &mut [usize; 34],
+) -> Parse
+    requires { ⌜ now rows ≡ table ⌝ }
+    requires { ⌜ (s .wanted ≡ Equals start end) × (length (now places) ≡ 34) ⌝ }
+    ensures { λ r. ⌜ ReadsOn (now (text .entry)) asked s (now (places .entry)) r (now (places .exit)) ⌝ }
+    ensures { λ r. ⌜ Rests (r .wanted) × (length (now (places .exit)) ≡ 34) ⌝ }
+{
+    let t = text_token::mark_at(text, s.at, bytes::EQUALS_SIGN);
+    let name = text_token::bytes_of(text, start, end);
+    if t.form == bytes::EQUALS_SIGN {
+        let scope = s.scope;
+        let field = text_field::field_named(rows, scope, name);
+        let given = text_step::goes_on(s, t, Wanted::Value(field));
+        return behind_equals(text, rows, given, field, places);
+    }
+    text_block::clear(t.form == bytes::OPEN_BRACE, places);
+    text_step::on_brace(rows, asked, s, t, start, name)
+}
+
+// Behind `=`: the value and what follows it.
+fn behind_equals(
+    text: &[u8],
+    rows: &[u8],
+    s: Parse,
+    field: usize,
+    places: &mut [usize; 34],
+) -> Parse
+    requires { ⌜ now rows ≡ table ⌝ }
+    requires { ⌜ (s .wanted ≡ Value field) × (length (now places) ≡ 34) ⌝ }
+    ensures { λ r. ⌜ ((asked : Asked) → ReadsOn (now (text .entry)) asked s (now (places .entry)) r (now (places .exit))) ⌝ }
+    ensures { λ r. ⌜ Rests (r .wanted) × (length (now (places .exit)) ≡ 34) ⌝ }
+{
+    let t = text_token::token_at(text, s.at);
+    let scope = s.scope;
+    match text_step::judge_value(text, rows, scope, t, field) {
+        Check::Pass => {
+            let judged = text_step::goes_on(s, t, Wanted::Semicolon(field, t.start));
+            behind_value(text, judged, field, t.start, places)
+        }
+        Check::Refused(r) => text_step::refused_with(s, r),
+    }
+}
+
+// Behind the value: `;`.
+fn behind_value(
+    text: &[u8],
+    s: Parse,
+    field: usize,
+    place: usize,
+    places: &mut [usize; 34],
+) -> Parse
+    requires { ⌜ (s .wanted ≡ Semicolon field place) × (length (now places) ≡ 34) ⌝ }
+    ensures { λ r. ⌜ ((asked : Asked) → ReadsOn (now (text .entry)) asked s (now (places .entry)) r (now (places .exit))) ⌝ }
+    ensures { λ r. ⌜ Rests (r .wanted) × (length (now (places .exit)) ≡ 34) ⌝ }
+{
+    let t = text_token::mark_at(text, s.at, bytes::SEMICOLON);
+    text_block::store(t.form == bytes::SEMICOLON, places, field, place);
+    text_step::on_semicolon(s, t, field, place)
 }
 
 fn is_more(wanted: Wanted) -> bool

@@ -26,7 +26,9 @@ use Rattle.text_block.specs.declared.Wanted.{Wanted}
 use Rattle.text_block.specs.declared.Wanted.the-variants.{Statement, Equals, Value, Semicolon, NoMore}
 use Rattle.text_reader.specs.Runs.{runs}
 use Rattle.text_block.specs.Blocks.{filed}
-use Rattle.text_step.specs.Steps.{identifierOk, stepBy}
+use Rattle.text_name.specs.Identifiers.{identifierOk}
+use Rattle.text_scope.specs.declared.Scope.{Scope}
+use Rattle.text_step.specs.Steps.{isTop, stepBy}
 use Rattle.text_reader.specs.Texts.{Stand, stand, isMore, goes, keptAfter, tokenMore, textFrom}
 use Rattle.text_reader.proofs.Runs.{runs-end}
 use Rattle.text_reader.proofs.Onward.{step-next}
@@ -237,6 +239,8 @@ asked-alike {c} {d} {x} {y} h e = subst (λ (z : Bool). SameCheck (c andThen unl
 stand-alike : (a b : List ℕ) {n : ℕ} {s r : Stand} → Alike a b n s r → SameStand a b s r
 stand-alike a b h = record {
   check = h .parse .check;
+  opened = asked-alike (h .parse .check) (ap (λ (x : Scope). not (isTop x)) (h .parse .base .scope));
+  scope = h .parse .base .scope;
   asked = asked-alike (h .parse .check) (h .parse .base .notes .found);
   namespace = string-same (h .parse .base .notes .namespace .read);
   absent = absent-same (h .parse .base .notes .namespace .read);

@@ -22,7 +22,8 @@ use Rattle.text_block.specs.declared.Wanted.the-variants.{Statement, Equals, Va
 use Rattle.text_step.specs.declared.Notes.{Notes}
 use Rattle.text_step.specs.declared.Parse.{Parse}
 use Rattle.text_block.specs.Blocks.{noPlaces, isFull, allGiven, stored, filed}
-use Rattle.text_step.specs.Steps.{parse, misfit, isTop, isIdentifier, isFound, notesAfter, heldBy, valueCheck, judged, notesAssigned, stepBy}
+use Rattle.text_name.specs.Identifiers.{isIdentifier}
+use Rattle.text_step.specs.Steps.{parse, misfit, isTop, isFound, notesAfter, heldBy, valueCheck, judged, notesAssigned, stepBy}
 use Rattle.text_reader.specs.Texts.{Stand, tokenMore, textFrom}
 use Rattle.text_same.specs.Promises.{after, beginsAt, touches, touchedNext, EndsAsked, LastValueCounts, LastValueIsRead, assigns, namesNext, LastNamespaceCounts}
 use Rattle.text_same.proofs.Holds.{text-long, after-add}

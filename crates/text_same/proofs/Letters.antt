@@ -19,7 +19,7 @@ use Rattle.text_scope.specs.declared.Scope.{Scope}
 use Rattle.text_table.specs.Table.{entryAt, rowSize}
 use Rattle.text_field.specs.Names.{every, longAs, isName, nameIn, fieldNamed, kindNamed, kindRows}
 use Rattle.text_scope.specs.Scopes.{firstRow, rowCount, scopeOf}
-use Rattle.text_step.specs.Steps.{identifierOk}
+use Rattle.text_name.specs.Identifiers.{identifierOk}
 use Rattle.text_same.specs.Tokens.{SameLetters}
 use Rattle.text_same.proofs.Readings.{cond-both, SameReading, same-flag, same-none}
 

@@ -18,7 +18,7 @@ use Rattle.text_block.specs.declared.Wanted.{Wanted}
 use Rattle.text_block.specs.declared.Wanted.the-variants.{Statement, Equals, Value, Semicolon, NoMore}
 use Rattle.text_step.specs.declared.Notes.{Notes}
 use Rattle.text_step.specs.declared.Parse.{Parse}
-use Rattle.text_step.specs.Steps.{isIdentifier}
+use Rattle.text_name.specs.Identifiers.{isIdentifier}
 use Rattle.text_same.specs.Tokens.{SameFirst}
 use Rattle.text_same.specs.Answers.{SameCheck}
 use Rattle.text_same.proofs.Readings.{SameReading}

@@ -30,7 +30,7 @@ use Rattle.text_block.specs.declared.Wanted.{Wanted}
 use Rattle.text_block.specs.declared.Wanted.the-variants.{Statement, Equals, Value, Semicolon, NoMore}
 use Rattle.text_step.specs.declared.Notes.{Notes}
 use Rattle.text_step.specs.declared.Parse.{Parse}
-use Rattle.text_block.specs.Blocks.{countOf, counted, isFull, isAsked, stopsThere, isGiven, allGiven, stored, filed, noPlaces}
+use Rattle.text_block.specs.Blocks.{countOf, counted, isFull, isAsked, stopsThere, stopsInside, isGiven, allGiven, stored, filed, noPlaces}
 use Rattle.text_step.specs.Steps.{goesOn, refusedWith, misfit, isTop, isFound, notesAfter, wantedAfter, closedBlock, onStatement, openedBlock, onEquals, heldBy, serves, valueCheck, judged, onValue, notesAssigned, onSemicolon, stepBy}
 use Rattle.text_same.specs.Tokens.{SameFirst}
 use Rattle.text_same.specs.Answers.{SameCheck, both-pass, both-refused}
@@ -117,19 +117,23 @@ module _ (a b : List ℕ) where
         (cond-both (SameParse a b n) (λ i. not (top i) && has closeBrace i) (closed asked ps qs h)
         (cond-both (SameParse a b n) (λ i. top i && has endForm i) (on want-none) unfit))
 
-    opened : (s₀ p₀ : ℕ) {x y : Scope} → x ≡ y → SameParse a b n (openedBlock p t s₀ x) (openedBlock q u p₀ y)
-    opened s₀ p₀ {x} {y} e =
+    opened : (asked : Asked) (s₀ p₀ : ℕ) {x y : Scope} → x ≡ y → SameParse a b n (openedBlock asked p t s₀ x) (openedBlock asked q u p₀ y)
+    opened asked s₀ p₀ {x} {y} e =
         cond-both (SameParse a b n) (λ i. isFull (s .notes .counts i) (e i)) (off refl)
-        (record { base = record { scope = e; notes = s .notes; tokens = l .next }; wanted = want-statement; check = both-pass })
+        (record {
+          base = record { scope = e; notes = s .notes; tokens = l .next };
+          wanted = cond-both (SameWanted a b (t .next) (u .next)) (ap (stopsInside asked) e) want-none want-statement;
+          check = both-pass;
+        })
 
     -- a value where the token is `=`: it stands behind a place that is not 0
-    on-equals : (s₀ e₀ p₀ q₀ : ℕ) → SameName a b s₀ e₀ p₀ q₀ → SameParse a b n (onEquals a p t s₀ e₀) (onEquals b q u p₀ q₀)
-    on-equals s₀ e₀ p₀ q₀ same =
+    on-equals : (asked : Asked) (s₀ e₀ p₀ q₀ : ℕ) → SameName a b s₀ e₀ p₀ q₀ → SameParse a b n (onEquals a asked p t s₀ e₀) (onEquals b asked q u p₀ q₀)
+    on-equals asked s₀ e₀ p₀ q₀ same =
         cond-both-on (SameParse a b n) (has equalsSign)
         (λ e. on (subst (λ (f : ℕ). SameWanted a b (t .next) (u .next) (Value (fieldNamed (p .scope) (bytesOf a s₀ e₀))) (Value f))
         (same .field (p .scope) ∙ ap (λ (z : Scope). fieldNamed z (bytesOf b p₀ q₀)) (s .scope))
         (want-value (fieldNamed (p .scope) (bytesOf a s₀ e₀)) (l .begun (let h = eqb-true (t .form) equalsSign e in omega (arith, h))))))
-        (cond-both (SameParse a b n) (λ i. top i && has openBrace i) (opened s₀ p₀ (same .kind)) unfit)
+        (cond-both (SameParse a b n) (λ i. top i && has openBrace i) (opened asked s₀ p₀ (same .kind)) unfit)
 
     judged-alike : (f : ℕ) {c d : Check} → SamePlace a b (t .start) (u .start) → SameCheck c d → SameParse a b n (judged p t f c) (judged q u f d)
     judged-alike f v both-pass = on (want-semicolon f (t .start) (u .start) v)
@@ -162,7 +166,7 @@ module _ (a b : List ℕ) where
       → (Begun a b (p .at) (q .at) → SamePlace a b (t .start) (u .start)) → SameWanted a b (p .at) (q .at) w v
       → SameParse a b n (stepBy a asked ps p t w) (stepBy b asked qs q u v)
   stepped-alike asked ps qs s l h v want-statement = on-statement (s .base) l asked ps qs h
-  stepped-alike asked ps qs s l h v (want-equals s₀ e₀ p₀ q₀ n) = on-equals (s .base) l s₀ e₀ p₀ q₀ n
+  stepped-alike asked ps qs s l h v (want-equals s₀ e₀ p₀ q₀ n) = on-equals (s .base) l asked s₀ e₀ p₀ q₀ n
   stepped-alike asked ps qs s l h v (want-value f g) = on-value (s .base) l f (v g)
   stepped-alike asked ps qs s l h v (want-semicolon f p₀ q₀ g) = on-semicolon (s .base) l f p₀ q₀ g
   stepped-alike asked ps qs s l h v want-none = weaker s

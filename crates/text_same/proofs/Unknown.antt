@@ -21,7 +21,8 @@ use Rattle.text_block.specs.declared.Wanted.the-variants.{Statement, Equals, Va
 use Rattle.text_step.specs.declared.Notes.{Notes}
 use Rattle.text_step.specs.declared.Parse.{Parse}
 use Rattle.text_block.specs.Blocks.{noPlaces, stored, filed}
-use Rattle.text_step.specs.Steps.{notes, parse, goesOn, misfit, isTop, isIdentifier, closedBlock, openedBlock, valueCheck, judged, stepBy}
+use Rattle.text_name.specs.Identifiers.{isIdentifier}
+use Rattle.text_step.specs.Steps.{notes, parse, goesOn, misfit, isTop, closedBlock, openedBlock, valueCheck, judged, stepBy}
 use Rattle.text_reader.specs.Texts.{Stand, stand, tokenMore, textFrom}
 use Rattle.text_same.specs.Tokens.{SameFirst, SameTokens}
 use Rattle.text_same.specs.Answers.{SameCheck, both-pass}
@@ -96,7 +97,7 @@ module _ (text : List ℕ) (asked : Asked) where
     first = plain-step s Statement (s₁ .parse) e (taken (isIdentifier text t₁) other (u .name)) refl refl
 
     abbrev opens : Parse
-    opens = cond (isTop (p .scope) && eqb (t₂ .form) openBrace) (openedBlock (s₁ .parse) t₂ (t₁ .start) (kindNamed (wordOf text t₁))) (misfit (s₁ .parse) t₂)
+    opens = cond (isTop (p .scope) && eqb (t₂ .form) openBrace) (openedBlock asked (s₁ .parse) t₂ (t₁ .start) (kindNamed (wordOf text t₁))) (misfit (s₁ .parse) t₂)
 
     second : tokenMore text asked s₁ ≡ s₂
     second =

@@ -17,7 +17,7 @@ use Rattle.text_block.specs.declared.Counts.{Counts}
 use Rattle.text_reader.specs.Texts.{Stand}
 use Rattle.text_given.specs.declared.Places.{Places}
 use Rattle.text_given.specs.Fields.{valueAt, wholeOr, decimalOr, stringOr, flagOr}
-use Rattle.text_map.specs.Answers.{blockCheck, namespaceOf}
+use Rattle.text_map.specs.Answers.{blockCheck, openedCheck, namespaceOf}
 
 -- both pass, or both are refused with one number
 pub data SameCheck : Check → Check → Type 0 where
@@ -40,10 +40,12 @@ pub record SameValue (a : List ℕ) (at : ℕ) (b : List ℕ) (from : ℕ) : Typ
   pub string : stringBytes a (stringOr (valueAt a at)) ≡ stringBytes b (stringOr (valueAt b from))
   pub absent : isAbsent (stringOr (valueAt a at)) ≡ isAbsent (stringOr (valueAt b from))
 
--- two texts read to their ends: the fault; the namespace, by its bytes and whether there is one; the counts; and the block that was asked for
--- with all of its values
+-- two texts read to their ends: the fault; the block that opened, by its kind; the namespace, by its bytes and whether there is one; the
+-- counts; and the block that was asked for with all of its values
 pub record SameStand (a b : List ℕ) (s t : Stand) : Type 0 where
   pub check : SameCheck (s .parse .check) (t .parse .check)
+  pub opened : SameCheck (openedCheck (s .parse)) (openedCheck (t .parse))
+  pub scope : s .parse .scope ≡ t .parse .scope
   pub asked : SameCheck (blockCheck (s .parse)) (blockCheck (t .parse))
   pub namespace : stringBytes a (namespaceOf a (s .parse)) ≡ stringBytes b (namespaceOf b (t .parse))
   pub absent : isAbsent (namespaceOf a (s .parse)) ≡ isAbsent (namespaceOf b (t .parse))

@@ -17,7 +17,8 @@ use Rattle.text_block.specs.declared.Asked.{Asked}
 use Rattle.text_block.specs.declared.Wanted.{Wanted}
 use Rattle.text_block.specs.declared.Wanted.the-variants.{Statement, Equals, Value, Semicolon, NoMore}
 use Rattle.text_block.specs.Blocks.{noPlaces}
-use Rattle.text_step.specs.Steps.{isTop, isIdentifier, valueCheck}
+use Rattle.text_name.specs.Identifiers.{isIdentifier}
+use Rattle.text_step.specs.Steps.{isTop, valueCheck}
 use Rattle.text_reader.specs.Texts.{Stand, stand, tokenMore, startAt, textFrom}
 use Rattle.text_same.specs.Tokens.{placeOf, SameFirst, SameTokens}
 use Rattle.text_same.specs.Answers.{SameStand}

@@ -9,7 +9,7 @@ use lib.ListN.{length}
 use Rattle.text_token.specs.declared.Token.{Token}
 use Rattle.text_byte.specs.Bytes.{lowerAt}
 use Rattle.text_token.specs.Tokens.{wordForm, tokenAt, wordOf}
-use Rattle.text_step.specs.Steps.{identifierOk}
+use Rattle.text_name.specs.Identifiers.{identifierOk}
 
 -- two identifiers, or keywords, that differ in the case of letters alone
 pub record SameLetters (v w : List ℕ) : Type 0 where

@@ -4,16 +4,15 @@ use Prim.Native.Nat.{ℕ, _+_, _-_}
 use mathlib.Core.Bool.{Bool, true, false, not, _&&_, _||_, cond}
 use mathlib.Core.List.{List}
 use lib.Dec.{eqb}
-use lib.ListN.{length, getD}
 use Rattle.refusal.specs.declared.Refusal.{Refusal}
 use Rattle.refusal.specs.declared.Refusal.the-variants.{TextGrammar, TextNumber, TextField, TextBlocks}
 use Rattle.refusal.specs.declared.Check.{Check}
 use Rattle.refusal.specs.declared.Check.the-variants.{Pass, Refused}
 use Rattle.refusal.specs.Checks.{unless}
 use Rattle.text_token.specs.declared.Token.{Token}
-use Rattle.text_byte.specs.Bytes.{equalsSign, semicolon, openBrace, closeBrace, isLetter, isNameByte}
-use Rattle.text_byte.specs.Spans.{spanEnd}
-use Rattle.text_token.specs.Tokens.{endForm, wordForm, bytesOf, wordOf}
+use Rattle.text_byte.specs.Bytes.{equalsSign, semicolon, openBrace, closeBrace}
+use Rattle.text_token.specs.Tokens.{endForm, bytesOf}
+use Rattle.text_name.specs.Identifiers.{isIdentifier}
 use Rattle.text_value.specs.declared.Value.{Value as ValueType}
 use Rattle.text_value.specs.declared.Value.the-variants.{Whole, Decimal, Text, Flag}
 use Rattle.text_value.specs.declared.Reading.{Reading}
@@ -30,7 +29,7 @@ use Rattle.text_block.specs.declared.Wanted.the-variants.{Statement, Equals, Va
 use Rattle.text_block.specs.declared.Counts.{Counts}
 use Rattle.text_step.specs.declared.Notes.{Notes}
 use Rattle.text_step.specs.declared.Parse.{Parse}
-use Rattle.text_block.specs.Blocks.{countOf, counted, isFull, isAsked, stopsThere, allGiven}
+use Rattle.text_block.specs.Blocks.{countOf, counted, isFull, isAsked, stopsThere, stopsInside, allGiven}
 
 -- what was noted so far: the place of the last namespace's value, 0 for none; the counts; and whether the block that is asked for was
 -- found, its kind, the place of its name, and the place behind it
@@ -60,13 +59,6 @@ misfit s t = refusedWith s (TextGrammar (t .start))
 abbrev pub isTop : Scope → Bool
 isTop scope = eqb (scopeNumber scope) 0
 
--- a letter, and then letters and digits
-abbrev pub identifierOk : List ℕ → Bool
-identifierOk word = isLetter (getD word 0 0) && eqb (spanEnd (λ i. isNameByte (getD word i 0)) 0 (length word)) (length word)
-
-abbrev pub isIdentifier : List ℕ → Token → Bool
-isIdentifier text t = eqb (t .form) wordForm && identifierOk (wordOf text t)
-
 -- the open block is the one that is asked for
 abbrev pub isFound : Asked → Parse → Bool
 isFound asked s = isAsked asked (s .scope) (countOf (s .notes .counts) (s .scope))
@@ -89,24 +81,34 @@ closedBlock asked places s t =
     cond (allGiven (s .scope) places) (parse (wantedAfter asked s) Top 0 (t .next) Pass (notesAfter asked s (t .next)))
     (refusedWith s (TextField (t .start)))
 
--- a statement begins with an identifier; in a block a closing brace may come, and at the top the text's end
+-- no statement: in a block a closing brace may come, and at the top the text's end
+abbrev pub onEnd : Asked → List ℕ → Parse → Token → Parse
+onEnd asked places s t =
+    cond (not (isTop (s .scope)) && eqb (t .form) closeBrace) (closedBlock asked places s t)
+    (cond (isTop (s .scope) && eqb (t .form) endForm) (goesOn s t NoMore) (misfit s t))
+
+-- a statement begins with an identifier
 abbrev pub onStatement : List ℕ → Asked → List ℕ → Parse → Token → Parse
-onStatement text asked places s t =
-    cond (isIdentifier text t) (goesOn s t (Equals (t .start) (t .end)))
-    (cond (not (isTop (s .scope)) && eqb (t .form) closeBrace) (closedBlock asked places s t)
-    (cond (isTop (s .scope) && eqb (t .form) endForm) (goesOn s t NoMore) (misfit s t)))
+onStatement text asked places s t = cond (isIdentifier text t) (goesOn s t (Equals (t .start) (t .end))) (onEnd asked places s t)
+
+-- what is wanted behind the opening brace of a block of a kind
+abbrev pub wantedInside : Asked → Scope → Wanted
+wantedInside asked kind = cond (stopsInside asked kind) NoMore Statement
 
 -- a block of a kind opens: 93 at its name where there are too many
-abbrev pub openedBlock : Parse → Token → ℕ → Scope → Parse
-openedBlock s t start kind =
-    cond (isFull (s .notes .counts) kind) (refusedWith s (TextBlocks start)) (parse Statement kind start (t .next) Pass (s .notes))
+abbrev pub openedBlock : Asked → Parse → Token → ℕ → Scope → Parse
+openedBlock asked s t start kind =
+    cond (isFull (s .notes .counts) kind) (refusedWith s (TextBlocks start)) (parse (wantedInside asked kind) kind start (t .next) Pass (s .notes))
+
+-- an opening brace behind a name at the top
+abbrev pub onBrace : Asked → Parse → Token → ℕ → List ℕ → Parse
+onBrace asked s t start name = cond (isTop (s .scope) && eqb (t .form) openBrace) (openedBlock asked s t start (kindNamed name)) (misfit s t)
 
 -- `=` behind an identifier, from `start` to `end`; or at the top an opening brace
-abbrev pub onEquals : List ℕ → Parse → Token → ℕ → ℕ → Parse
-onEquals text s t start end =
+abbrev pub onEquals : List ℕ → Asked → Parse → Token → ℕ → ℕ → Parse
+onEquals text asked s t start end =
     let name = bytesOf text start end in
-    cond (eqb (t .form) equalsSign) (goesOn s t (Value (fieldNamed (s .scope) name)))
-    (cond (isTop (s .scope) && eqb (t .form) openBrace) (openedBlock s t start (kindNamed name)) (misfit s t))
+    cond (eqb (t .form) equalsSign) (goesOn s t (Value (fieldNamed (s .scope) name))) (onBrace asked s t start name)
 
 -- what name `i` of a scope holds, counted from 1; 0, which is anything, for an unknown one
 abbrev pub heldBy : Scope → ℕ → ℕ
@@ -153,7 +155,7 @@ onSemicolon s t field place =
 -- one token more
 abbrev pub stepBy : List ℕ → Asked → List ℕ → Parse → Token → Wanted → Parse
 stepBy text asked places s t Statement = onStatement text asked places s t
-stepBy text asked places s t (Equals start end) = onEquals text s t start end
+stepBy text asked places s t (Equals start end) = onEquals text asked s t start end
 stepBy text asked places s t (Value field) = onValue text s t field
 stepBy text asked places s t (Semicolon field place) = onSemicolon s t field place
 stepBy text asked places s t NoMore = s

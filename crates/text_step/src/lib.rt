@@ -1,15 +1,15 @@
-// One token of a text map (W-206): what it does where a statement, `=`, a value or `;` is wanted. The definitions are in specs/.
+// What a token of a text map does (W-206) where a statement, `=`, a value or `;` is wanted. The definitions are in specs/.
 ghost use mathlib.Core.Bool.{false, cond};
 ghost use mathlib.Core.Path.{_≡_};
-ghost use Prim.Native.Nat.{_+_, _-_, _≤_, _<_};
-ghost use lib.ListN.{length, getD};
-ghost use Rattle.text_byte.specs.Bytes.{isNameByte};
-ghost use Rattle.text_byte.specs.Spans.{spanEnd};
+ghost use Prim.Native.Nat.{_+_, _-_, _≤_};
+ghost use lib.ListN.{length};
 ghost use Rattle.refusal.specs.declared.Refusal.the-variants.{TextGrammar, TextNumber};
 ghost use Rattle.refusal.specs.declared.Check.the-variants.{Refused};
 ghost use Rattle.text_table.specs.Table.{table};
 ghost use Rattle.text_block.specs.Blocks.{isFull};
-ghost use Rattle.text_step.specs.Steps.{goesOn, refusedWith, misfit, isTop, identifierOk, isIdentifier, isFound, notesAfter, wantedAfter, closedBlock, onStatement, openedBlock, onEquals, heldBy, serves, givenAs, valueCheck, judged, onValue, notesAssigned, onSemicolon, stepBy};
+ghost use Rattle.text_value.specs.Values.{tokenRead};
+ghost use Rattle.text_step.specs.Steps.{goesOn, refusedWith, misfit, isTop, isFound, notesAfter, wantedAfter, closedBlock, onEnd, wantedInside, openedBlock, onBrace};
+ghost use Rattle.text_step.specs.Steps.{heldBy, serves, givenAs, valueCheck, notesAssigned, onSemicolon};
 use refusal::Check;
 use refusal::Refusal;
 use text_block::Asked;
@@ -43,32 +43,8 @@ pub struct Parse {
     pub notes: Notes,
 }
 
-// One token more. (The kind of the open block was not full where it opened, so that it can be counted.)
-pub fn step(
-    text: &[u8],
-    rows: &[u8],
-    asked: Asked,
-    places: &[usize; 34],
-    s: Parse,
-    t: Token,
-) -> Parse
-    requires { ⌜ now rows ≡ table ⌝ }
-    requires { ⌜ (t .start ≤ t .end) × (t .end ≤ length (now text)) ⌝ }
-    requires { ⌜ isFull (s .notes .counts) (s .scope) ≡ false ⌝ }
-    ensures { λ r. ⌜ r ≡ stepBy (now (text .entry)) asked (now (places .entry)) s t (s .wanted) ⌝ }
-{
-    let wanted = s.wanted;
-    match wanted {
-        Wanted::Statement => on_statement(text, rows, asked, places, s, t),
-        Wanted::Equals(start, end) => on_equals(text, rows, s, t, start, end),
-        Wanted::Value(field) => on_value(text, rows, s, t, field),
-        Wanted::Semicolon(field, place) => on_semicolon(s, t, field, place),
-        Wanted::NoMore => s,
-    }
-}
-
 // Behind a token that fits, in the same scope.
-fn goes_on(s: Parse, t: Token, wanted: Wanted) -> Parse
+pub fn goes_on(s: Parse, t: Token, wanted: Wanted) -> Parse
     ensures { λ r. ⌜ r ≡ goesOn s t wanted ⌝ }
 {
     let scope = s.scope;
@@ -83,7 +59,7 @@ fn goes_on(s: Parse, t: Token, wanted: Wanted) -> Parse
     }
 }
 
-fn refused_with(s: Parse, r: Refusal) -> Parse
+pub fn refused_with(s: Parse, r: Refusal) -> Parse
     ensures { λ p. ⌜ p ≡ refusedWith s r ⌝ }
 {
     let scope = s.scope;
@@ -104,29 +80,19 @@ fn misfit(s: Parse, t: Token) -> Parse
     refused_with(s, Refusal::TextGrammar(t.start))
 }
 
-fn is_top(scope: Scope) -> bool
+pub fn is_top(scope: Scope) -> bool
     ensures { λ r. ⌜ r ≡ isTop scope ⌝ }
 {
     text_scope::scope_number(scope) == 0
 }
 
-// A statement begins with an identifier; in a block a closing brace may come, and at the top the text's end.
-fn on_statement(
-    text: &[u8],
-    rows: &[u8],
-    asked: Asked,
-    places: &[usize; 34],
-    s: Parse,
-    t: Token,
-) -> Parse
+// No statement: in a block a closing brace may come, and at the top the text's end. (The kind of the open block was not full where it
+// opened, so that it can be counted.)
+pub fn on_end(rows: &[u8], asked: Asked, places: &[usize; 34], s: Parse, t: Token) -> Parse
     requires { ⌜ now rows ≡ table ⌝ }
-    requires { ⌜ (t .start ≤ t .end) × (t .end ≤ length (now text)) ⌝ }
     requires { ⌜ isFull (s .notes .counts) (s .scope) ≡ false ⌝ }
-    ensures { λ r. ⌜ r ≡ onStatement (now (text .entry)) asked (now (places .entry)) s t ⌝ }
+    ensures { λ r. ⌜ r ≡ onEnd asked (now (places .entry)) s t ⌝ }
 {
-    if is_identifier(text, t) {
-        return goes_on(s, t, Wanted::Equals(t.start, t.end));
-    }
     let scope = s.scope;
     let top = is_top(scope);
     if !top & (t.form == bytes::CLOSE_BRACE) {
@@ -136,36 +102,6 @@ fn on_statement(
         return goes_on(s, t, Wanted::NoMore);
     }
     misfit(s, t)
-}
-
-fn is_identifier(text: &[u8], t: Token) -> bool
-    requires { ⌜ (t .start ≤ t .end) × (t .end ≤ length (now text)) ⌝ }
-    ensures { λ r. ⌜ r ≡ isIdentifier (now (text .entry)) t ⌝ }
-{
-    if t.form == text_token::WORD {
-        return identifier_ok(text_token::word_of(text, t));
-    }
-    false
-}
-
-fn identifier_ok(word: &[u8]) -> bool
-    ensures { λ r. ⌜ r ≡ identifierOk (now (word .entry)) ⌝ }
-{
-    bytes::is_letter(bytes::byte_at(word, 0)) & (name_end(word) == word.len())
-}
-
-// Behind the letters and digits.
-fn name_end(word: &[u8]) -> usize
-    ensures { λ r. ⌜ r ≡ spanEnd (λ i. isNameByte (getD (now (word .entry)) i 0)) 0 (length (now (word .entry))) ⌝ }
-{
-    let mut at = 0;
-    while at < word.len() {
-        if !bytes::is_name_byte(word[at]) {
-            return at;
-        }
-        at += 1;
-    }
-    at
 }
 
 // A closing brace: 92 there where a field without default is missing.
@@ -237,26 +173,21 @@ fn notes_after(asked: Asked, s: Parse, next: usize) -> Notes
     }
 }
 
-// `=` behind an identifier; or at the top an opening brace.
-fn on_equals(text: &[u8], rows: &[u8], s: Parse, t: Token, start: usize, end: usize) -> Parse
+// An opening brace behind a name at the top.
+pub fn on_brace(rows: &[u8], asked: Asked, s: Parse, t: Token, start: usize, name: &[u8]) -> Parse
     requires { ⌜ now rows ≡ table ⌝ }
-    ensures { λ r. ⌜ r ≡ onEquals (now (text .entry)) s t start end ⌝ }
+    ensures { λ r. ⌜ r ≡ onBrace asked s t start (now (name .entry)) ⌝ }
 {
     let scope = s.scope;
-    let name = text_token::bytes_of(text, start, end);
-    if t.form == bytes::EQUALS_SIGN {
-        let field = text_field::field_named(rows, scope, name);
-        return goes_on(s, t, Wanted::Value(field));
-    }
     if is_top(scope) & (t.form == bytes::OPEN_BRACE) {
-        return opened_block(s, t, start, text_field::kind_named(rows, name));
+        return opened_block(asked, s, t, start, text_field::kind_named(rows, name));
     }
     misfit(s, t)
 }
 
 // A block of a kind opens: 93 at its name where there are too many.
-fn opened_block(s: Parse, t: Token, start: usize, kind: Scope) -> Parse
-    ensures { λ r. ⌜ r ≡ openedBlock s t start kind ⌝ }
+fn opened_block(asked: Asked, s: Parse, t: Token, start: usize, kind: Scope) -> Parse
+    ensures { λ r. ⌜ r ≡ openedBlock asked s t start kind ⌝ }
 {
     let notes = s.notes;
     let counts = notes.counts;
@@ -264,7 +195,7 @@ fn opened_block(s: Parse, t: Token, start: usize, kind: Scope) -> Parse
         return refused_with(s, Refusal::TextBlocks(start));
     }
     Parse {
-        wanted: Wanted::Statement,
+        wanted: wanted_inside(asked, kind),
         scope: kind,
         block: start,
         at: t.next,
@@ -273,19 +204,23 @@ fn opened_block(s: Parse, t: Token, start: usize, kind: Scope) -> Parse
     }
 }
 
-fn on_value(text: &[u8], rows: &[u8], s: Parse, t: Token, field: usize) -> Parse
+fn wanted_inside(asked: Asked, kind: Scope) -> Wanted
+    ensures { λ r. ⌜ r ≡ wantedInside asked kind ⌝ }
+{
+    if text_block::stops_inside(asked, kind) {
+        return Wanted::NoMore;
+    }
+    Wanted::Statement
+}
+
+// A token where a value is wanted for a name of the scope, counted from 1, 0 for an unknown one.
+pub fn judge_value(text: &[u8], rows: &[u8], scope: Scope, t: Token, field: usize) -> Check
     requires { ⌜ now rows ≡ table ⌝ }
     requires { ⌜ (t .start ≤ t .end) × (t .end ≤ length (now text)) ⌝ }
-    ensures { λ r. ⌜ r ≡ onValue (now (text .entry)) s t field ⌝ }
+    ensures { λ r. ⌜ r ≡ valueCheck (heldBy scope field) (tokenRead (now (text .entry)) t) (t .start) ⌝ }
 {
-    let scope = s.scope;
     let held = held_by(rows, scope, field);
-    judged(
-        s,
-        t,
-        field,
-        value_check(held, text_value::read(text, t), t.start),
-    )
+    value_check(held, text_value::read(text, t), t.start)
 }
 
 // What a name of a scope holds; 0, which is anything, for an unknown one. (No number of a name is above that of the rows.)
@@ -340,17 +275,8 @@ fn serves(held: u8, given: u8) -> bool
     (held == 0) | ((held == given) | ((held == text_table::DECIMAL) & (given == text_table::WHOLE)))
 }
 
-fn judged(s: Parse, t: Token, field: usize, check: Check) -> Parse
-    ensures { λ r. ⌜ r ≡ judged s t field check ⌝ }
-{
-    match check {
-        Check::Pass => goes_on(s, t, Wanted::Semicolon(field, t.start)),
-        Check::Refused(r) => refused_with(s, r),
-    }
-}
-
 // `;` behind a value.
-fn on_semicolon(s: Parse, t: Token, field: usize, place: usize) -> Parse
+pub fn on_semicolon(s: Parse, t: Token, field: usize, place: usize) -> Parse
     ensures { λ r. ⌜ r ≡ onSemicolon s t field place ⌝ }
 {
     let scope = s.scope;

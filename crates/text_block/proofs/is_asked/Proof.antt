@@ -9,12 +9,8 @@ returns-2 c = rw (c .before .before .asked .given .1) (c .is-numbered .ensures)
 returns-3 : tie.Need-returns-3
 returns-3 c = rw (c .before .before .asked2 .given .1) (c .is-kind .ensures)
 
-returns-4 : tie.Need-returns-4
-returns-4 c = rw (c .before .enum-told2 .given .1) (c .is-known .ensures)
-
 pub is-asked-spec : {M : Type 1} → statement M
 is-asked-spec =
     tie.close
     (tie.spec (λ c. search needs) (λ c. search needs) (λ c κs. search needs) (λ c. search needs)
-    (λ c κs. search needs) (λ c. search needs) (λ c κs. search needs) (λ c. search needs) returns-2 returns-3
-    returns-4)
+    (λ c κs. search needs) (λ c. search needs) (λ c. search needs) returns-2 returns-3 (λ c. search needs))

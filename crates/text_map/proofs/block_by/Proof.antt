@@ -8,14 +8,14 @@ use Rattle.text_map.proofs.block_by.Tie as tie
 
 returns : tie.Need-returns
 returns c =
-    let s = c .before .before .before .before .before .args .s in
-    let e = sym (c .before .enum-told .given .1) ∙ c .before .before .before .block-check .ensures in
-    (λ i. Block (record { kind = c .kind-of .ensures i; start = s .notes .block; next = s .notes .next })) ∙ ap (blockBy (s .notes)) e
+    let s = c .before .before .before .before .args .s in
+    let e = sym (c .before .enum-told .given .1) ∙ c .before .before .before .opened-check .ensures in
+    (λ i. Block (record { kind = c .kind-of .ensures i; start = s .block })) ∙ ap (blockBy s) e
 
 returns-2 : tie.Need-returns-2
 returns-2 c =
-    let s = c .before .before .before .before .before .args .s in
-    ap (blockBy (s .notes)) (sym (c .before .r .given .1) ∙ c .before .before .before .block-check .ensures)
+    let s = c .before .before .before .before .args .s in
+    ap (blockBy s) (sym (c .before .r .given .1) ∙ c .before .before .before .opened-check .ensures)
 
 pub block-by-spec : {M : Type 1} → statement M
 block-by-spec =
