@@ -16,7 +16,7 @@ use Rattle.text_map.specs.declared.TextBlock.{TextBlock}
 use Rattle.text_map.specs.declared.BlockAnswer.{BlockAnswer}
 use Rattle.text_map.specs.declared.BlockAnswer.the-variants.{Block, Refused as NoBlock}
 use Rattle.text_map.specs.declared.BlockFields.{BlockFields}
-use Rattle.text_map.specs.Answers.{textAnswer, blockAnswer, nextFrom, blockFields, numbered, firstFrom, idBy, idOf}
+use Rattle.text_map.specs.Answers.{textAnswer, blockAnswer, nextFrom, blockFields, blockPlaces, rowsBy, numbered, firstFrom, idBy, idOf}
 use Rattle.status.specs.declared.Status.{Status}
 use Rattle.status.specs.Status.{accepted, refused, statusOf}
 use Rattle.export_texts.specs.declared.TextMapAnswer.{TextMapAnswer}
@@ -63,50 +63,56 @@ abbrev pub BlockFound : List ℕ → ℕ → TextBlockAnswer → Type 0
 BlockFound text place answer = answer ≡ blockOut (blockAnswer (nextFrom text place))
 
 -- the record of a block, and the place behind it
-abbrev pub vertexOut : List ℕ → BlockFields → TextVertexAnswer
-vertexOut text f = record { status = statusOf (f .check); vertex = vertexOf text (f .places); next = f .next }
+abbrev pub vertexOut : List ℕ → BlockFields → List ℕ → TextVertexAnswer
+vertexOut text f places = record { status = statusOf (f .check); vertex = vertexOf text places; next = f .next }
 
 -- of a linedef with its id's default
-abbrev pub linedefOut : List ℕ → ℤ → BlockFields → TextLinedefAnswer
-linedefOut text id f = record { status = statusOf (f .check); linedef = linedefOf text (f .places) (f .first) id; next = f .next }
+abbrev pub linedefOut : List ℕ → ℤ → BlockFields → List ℕ → TextLinedefAnswer
+linedefOut text id f places =
+    record { status = statusOf (f .check); linedef = linedefOf text places (rowsBy Linedef (f .check)) id; next = f .next }
 
-abbrev pub sidedefOut : List ℕ → BlockFields → TextSidedefAnswer
-sidedefOut text f = record { status = statusOf (f .check); sidedef = sidedefOf text (f .places) (f .first); next = f .next }
+abbrev pub sidedefOut : List ℕ → BlockFields → List ℕ → TextSidedefAnswer
+sidedefOut text f places = record { status = statusOf (f .check); sidedef = sidedefOf text places (rowsBy Sidedef (f .check)); next = f .next }
 
-abbrev pub sectorOut : List ℕ → BlockFields → TextSectorAnswer
-sectorOut text f = record { status = statusOf (f .check); sector = sectorOf text (f .places) (f .first); next = f .next }
+abbrev pub sectorOut : List ℕ → BlockFields → List ℕ → TextSectorAnswer
+sectorOut text f places = record { status = statusOf (f .check); sector = sectorOf text places (rowsBy Sector (f .check)); next = f .next }
 
-abbrev pub thingOut : List ℕ → BlockFields → TextThingAnswer
-thingOut text f = record { status = statusOf (f .check); thing = thingOf text (f .places) (f .first); next = f .next }
+abbrev pub thingOut : List ℕ → BlockFields → List ℕ → TextThingAnswer
+thingOut text f places = record { status = statusOf (f .check); thing = thingOf text places (rowsBy Thing (f .check)); next = f .next }
 
 -- block `number` of each kind, after the whole text was judged; a linedef's id is by the text's namespace
 abbrev pub VertexNumbered : List ℕ → ℕ → TextVertexAnswer → Type 0
-VertexNumbered text number answer = answer ≡ vertexOut text (blockFields text (numbered text Vertex number))
+VertexNumbered text number answer = let s = numbered text Vertex number in answer ≡ vertexOut text (blockFields text s) (blockPlaces s)
 
 abbrev pub LinedefNumbered : List ℕ → ℕ → TextLinedefAnswer → Type 0
-LinedefNumbered text number answer = let f = blockFields text (numbered text Linedef number) in answer ≡ linedefOut text (idOf text (f .namespace)) f
+LinedefNumbered text number answer =
+    let s = numbered text Linedef number in
+    let f = blockFields text s in
+    answer ≡ linedefOut text (idOf text (f .namespace)) f (blockPlaces s)
 
 abbrev pub SidedefNumbered : List ℕ → ℕ → TextSidedefAnswer → Type 0
-SidedefNumbered text number answer = answer ≡ sidedefOut text (blockFields text (numbered text Sidedef number))
+SidedefNumbered text number answer = let s = numbered text Sidedef number in answer ≡ sidedefOut text (blockFields text s) (blockPlaces s)
 
 abbrev pub SectorNumbered : List ℕ → ℕ → TextSectorAnswer → Type 0
-SectorNumbered text number answer = answer ≡ sectorOut text (blockFields text (numbered text Sector number))
+SectorNumbered text number answer = let s = numbered text Sector number in answer ≡ sectorOut text (blockFields text s) (blockPlaces s)
 
 abbrev pub ThingNumbered : List ℕ → ℕ → TextThingAnswer → Type 0
-ThingNumbered text number answer = answer ≡ thingOut text (blockFields text (numbered text Thing number))
+ThingNumbered text number answer = let s = numbered text Thing number in answer ≡ thingOut text (blockFields text s) (blockPlaces s)
 
 -- the first block of each kind among the statements from a place on; a linedef's id is by the namespace that is named by its places
 abbrev pub VertexFrom : List ℕ → ℕ → TextVertexAnswer → Type 0
-VertexFrom text place answer = answer ≡ vertexOut text (blockFields text (firstFrom text Vertex place))
+VertexFrom text place answer = let s = firstFrom text Vertex place in answer ≡ vertexOut text (blockFields text s) (blockPlaces s)
 
 abbrev pub LinedefFrom : List ℕ → ℕ → ℕ → ℕ → TextLinedefAnswer → Type 0
-LinedefFrom text place start end answer = answer ≡ linedefOut text (idBy (bytesOf text start end)) (blockFields text (firstFrom text Linedef place))
+LinedefFrom text place start end answer =
+    let s = firstFrom text Linedef place in
+    answer ≡ linedefOut text (idBy (bytesOf text start end)) (blockFields text s) (blockPlaces s)
 
 abbrev pub SidedefFrom : List ℕ → ℕ → TextSidedefAnswer → Type 0
-SidedefFrom text place answer = answer ≡ sidedefOut text (blockFields text (firstFrom text Sidedef place))
+SidedefFrom text place answer = let s = firstFrom text Sidedef place in answer ≡ sidedefOut text (blockFields text s) (blockPlaces s)
 
 abbrev pub SectorFrom : List ℕ → ℕ → TextSectorAnswer → Type 0
-SectorFrom text place answer = answer ≡ sectorOut text (blockFields text (firstFrom text Sector place))
+SectorFrom text place answer = let s = firstFrom text Sector place in answer ≡ sectorOut text (blockFields text s) (blockPlaces s)
 
 abbrev pub ThingFrom : List ℕ → ℕ → TextThingAnswer → Type 0
-ThingFrom text place answer = answer ≡ thingOut text (blockFields text (firstFrom text Thing place))
+ThingFrom text place answer = let s = firstFrom text Thing place in answer ≡ thingOut text (blockFields text s) (blockPlaces s)

@@ -93,41 +93,47 @@ pub extern "C" fn meshpigeon_text_block(text: &[u8], place: usize) -> TextBlockA
 pub extern "C" fn meshpigeon_text_vertex(text: &[u8], number: usize) -> TextVertexAnswer
     ensures { λ r. ⌜ VertexNumbered (now (text .entry)) number r ⌝ }
 {
-    records::vertex_by(text, text_map::fields_numbered(text, Scope::Vertex, number))
+    let mut places = [0; 34];
+    let f = text_map::fields_numbered(text, Scope::Vertex, number, &mut places);
+    records::vertex_by(text, &places, f)
 }
 
 #[no_mangle]
 pub extern "C" fn meshpigeon_text_linedef(text: &[u8], number: usize) -> TextLinedefAnswer
     ensures { λ r. ⌜ LinedefNumbered (now (text .entry)) number r ⌝ }
 {
-    let f = text_map::fields_numbered(text, Scope::Linedef, number);
+    let mut places = [0; 34];
+    let f = text_map::fields_numbered(text, Scope::Linedef, number, &mut places);
     let namespace = f.namespace;
     let id = text_map::id_of(text, namespace);
-    records::linedef_by(text, id, f)
+    records::linedef_by(text, id, &places, f)
 }
 
 #[no_mangle]
 pub extern "C" fn meshpigeon_text_sidedef(text: &[u8], number: usize) -> TextSidedefAnswer
     ensures { λ r. ⌜ SidedefNumbered (now (text .entry)) number r ⌝ }
 {
-    records::sidedef_by(
-        text,
-        text_map::fields_numbered(text, Scope::Sidedef, number),
-    )
+    let mut places = [0; 34];
+    let f = text_map::fields_numbered(text, Scope::Sidedef, number, &mut places);
+    records::sidedef_by(text, &places, f)
 }
 
 #[no_mangle]
 pub extern "C" fn meshpigeon_text_sector(text: &[u8], number: usize) -> TextSectorAnswer
     ensures { λ r. ⌜ SectorNumbered (now (text .entry)) number r ⌝ }
 {
-    records::sector_by(text, text_map::fields_numbered(text, Scope::Sector, number))
+    let mut places = [0; 34];
+    let f = text_map::fields_numbered(text, Scope::Sector, number, &mut places);
+    records::sector_by(text, &places, f)
 }
 
 #[no_mangle]
 pub extern "C" fn meshpigeon_text_thing(text: &[u8], number: usize) -> TextThingAnswer
     ensures { λ r. ⌜ ThingNumbered (now (text .entry)) number r ⌝ }
 {
-    records::thing_by(text, text_map::fields_numbered(text, Scope::Thing, number))
+    let mut places = [0; 34];
+    let f = text_map::fields_numbered(text, Scope::Thing, number, &mut places);
+    records::thing_by(text, &places, f)
 }
 
 // The first block of each kind among the statements from a place on, 90 to 94.
@@ -135,7 +141,9 @@ pub extern "C" fn meshpigeon_text_thing(text: &[u8], number: usize) -> TextThing
 pub extern "C" fn meshpigeon_text_vertex_at(text: &[u8], place: usize) -> TextVertexAnswer
     ensures { λ r. ⌜ VertexFrom (now (text .entry)) place r ⌝ }
 {
-    records::vertex_by(text, text_map::fields_from(text, Scope::Vertex, place))
+    let mut places = [0; 34];
+    let f = text_map::fields_from(text, Scope::Vertex, place, &mut places);
+    records::vertex_by(text, &places, f)
 }
 
 #[no_mangle]
@@ -148,26 +156,34 @@ pub extern "C" fn meshpigeon_text_linedef_at(
     ensures { λ r. ⌜ LinedefFrom (now (text .entry)) place «namespace_start» «namespace_end» r ⌝ }
 {
     let id = text_map::id_by(text, namespace_start, namespace_end);
-    records::linedef_by(text, id, text_map::fields_from(text, Scope::Linedef, place))
+    let mut places = [0; 34];
+    let f = text_map::fields_from(text, Scope::Linedef, place, &mut places);
+    records::linedef_by(text, id, &places, f)
 }
 
 #[no_mangle]
 pub extern "C" fn meshpigeon_text_sidedef_at(text: &[u8], place: usize) -> TextSidedefAnswer
     ensures { λ r. ⌜ SidedefFrom (now (text .entry)) place r ⌝ }
 {
-    records::sidedef_by(text, text_map::fields_from(text, Scope::Sidedef, place))
+    let mut places = [0; 34];
+    let f = text_map::fields_from(text, Scope::Sidedef, place, &mut places);
+    records::sidedef_by(text, &places, f)
 }
 
 #[no_mangle]
 pub extern "C" fn meshpigeon_text_sector_at(text: &[u8], place: usize) -> TextSectorAnswer
     ensures { λ r. ⌜ SectorFrom (now (text .entry)) place r ⌝ }
 {
-    records::sector_by(text, text_map::fields_from(text, Scope::Sector, place))
+    let mut places = [0; 34];
+    let f = text_map::fields_from(text, Scope::Sector, place, &mut places);
+    records::sector_by(text, &places, f)
 }
 
 #[no_mangle]
 pub extern "C" fn meshpigeon_text_thing_at(text: &[u8], place: usize) -> TextThingAnswer
     ensures { λ r. ⌜ ThingFrom (now (text .entry)) place r ⌝ }
 {
-    records::thing_by(text, text_map::fields_from(text, Scope::Thing, place))
+    let mut places = [0; 34];
+    let f = text_map::fields_from(text, Scope::Thing, place, &mut places);
+    records::thing_by(text, &places, f)
 }

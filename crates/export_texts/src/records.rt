@@ -2,6 +2,8 @@
 ghost use mathlib.Core.Path.{_≡_};
 ghost use Prim.Native.Nat.{_≤_};
 ghost use Rattle.export_texts.specs.Answers.{vertexOut, linedefOut, sidedefOut, sectorOut, thingOut};
+ghost use Rattle.export_texts.specs.Inner.{sizeBy};
+use refusal::Check;
 use status::Status;
 use status::status_of;
 use text_map::BlockFields;
@@ -46,74 +48,75 @@ pub struct TextThingAnswer {
     pub next: usize,
 }
 
-pub fn vertex_by(text: &[u8], f: BlockFields) -> TextVertexAnswer
-    ensures { λ r. ⌜ r ≡ vertexOut (now (text .entry)) f ⌝ }
+pub fn vertex_by(text: &[u8], places: &[usize; 34], f: BlockFields) -> TextVertexAnswer
+    ensures { λ r. ⌜ r ≡ vertexOut (now (text .entry)) f (now (places .entry)) ⌝ }
 {
-    let places = f.places;
     let check = f.check;
     TextVertexAnswer {
         status: status_of(check),
-        vertex: text_record::vertex_of(text, &places),
+        vertex: text_record::vertex_of(text, places),
         next: f.next,
     }
 }
 
-pub fn linedef_by(text: &[u8], id: i32, f: BlockFields) -> TextLinedefAnswer
-    requires { ⌜ f .first ≤ 91 ⌝ }
-    ensures { λ r. ⌜ r ≡ linedefOut (now (text .entry)) id f ⌝ }
+// How many bytes of a kind's rows are lent: none where the block is refused, so that every default is 0.
+fn size_by(size: usize, check: Check) -> usize
+    ensures { λ r. ⌜ (r ≡ sizeBy size check) × (r ≤ size) ⌝ }
 {
-    let rows = text_table::rows();
-    let places = f.places;
+    match check {
+        Check::Pass => size,
+        Check::Refused(_) => 0,
+    }
+}
+
+pub fn linedef_by(text: &[u8], id: i32, places: &[usize; 34], f: BlockFields) -> TextLinedefAnswer
+    ensures { λ r. ⌜ r ≡ linedefOut (now (text .entry)) id f (now (places .entry)) ⌝ }
+{
     let check = f.check;
-    let first = f.first;
+    let rows = text_table::linedef();
+    let n = size_by(612, check);
     TextLinedefAnswer {
         status: status_of(check),
-        linedef: text_record::linedef_of(text, &rows, &places, first, id),
+        linedef: text_record::linedef_of(text, &rows[..n], places, id),
         next: f.next,
     }
 }
 
-pub fn sidedef_by(text: &[u8], f: BlockFields) -> TextSidedefAnswer
-    requires { ⌜ f .first ≤ 91 ⌝ }
-    ensures { λ r. ⌜ r ≡ sidedefOut (now (text .entry)) f ⌝ }
+pub fn sidedef_by(text: &[u8], places: &[usize; 34], f: BlockFields) -> TextSidedefAnswer
+    ensures { λ r. ⌜ r ≡ sidedefOut (now (text .entry)) f (now (places .entry)) ⌝ }
 {
-    let rows = text_table::rows();
-    let places = f.places;
     let check = f.check;
-    let first = f.first;
+    let rows = text_table::sidedef();
+    let n = size_by(126, check);
     TextSidedefAnswer {
         status: status_of(check),
-        sidedef: text_record::sidedef_of(text, &rows, &places, first),
+        sidedef: text_record::sidedef_of(text, &rows[..n], places),
         next: f.next,
     }
 }
 
-pub fn sector_by(text: &[u8], f: BlockFields) -> TextSectorAnswer
-    requires { ⌜ f .first ≤ 91 ⌝ }
-    ensures { λ r. ⌜ r ≡ sectorOut (now (text .entry)) f ⌝ }
+pub fn sector_by(text: &[u8], places: &[usize; 34], f: BlockFields) -> TextSectorAnswer
+    ensures { λ r. ⌜ r ≡ sectorOut (now (text .entry)) f (now (places .entry)) ⌝ }
 {
-    let rows = text_table::rows();
-    let places = f.places;
     let check = f.check;
-    let first = f.first;
+    let rows = text_table::sector();
+    let n = size_by(144, check);
     TextSectorAnswer {
         status: status_of(check),
-        sector: text_record::sector_of(text, &rows, &places, first),
+        sector: text_record::sector_of(text, &rows[..n], places),
         next: f.next,
     }
 }
 
-pub fn thing_by(text: &[u8], f: BlockFields) -> TextThingAnswer
-    requires { ⌜ f .first ≤ 91 ⌝ }
-    ensures { λ r. ⌜ r ≡ thingOut (now (text .entry)) f ⌝ }
+pub fn thing_by(text: &[u8], places: &[usize; 34], f: BlockFields) -> TextThingAnswer
+    ensures { λ r. ⌜ r ≡ thingOut (now (text .entry)) f (now (places .entry)) ⌝ }
 {
-    let rows = text_table::rows();
-    let places = f.places;
     let check = f.check;
-    let first = f.first;
+    let rows = text_table::thing();
+    let n = size_by(558, check);
     TextThingAnswer {
         status: status_of(check),
-        thing: text_record::thing_of(text, &rows, &places, first),
+        thing: text_record::thing_of(text, &rows[..n], places),
         next: f.next,
     }
 }

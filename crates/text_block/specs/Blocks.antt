@@ -9,8 +9,8 @@ use Rattle.text_token.specs.declared.Token.{Token}
 use Rattle.text_byte.specs.Bytes.{semicolon, openBrace}
 use Rattle.text_scope.specs.declared.Scope.{Scope}
 use Rattle.text_scope.specs.declared.Scope.the-variants.{Top, Vertex, Linedef, Sidedef, Sector, Thing, Unknown}
-use Rattle.text_table.specs.Table.{isRequired}
-use Rattle.text_scope.specs.Scopes.{firstRow, rowCount, scopeNumber}
+use Rattle.text_table.specs.Table.{rowsOf, isRequired}
+use Rattle.text_scope.specs.Scopes.{rowCount, scopeNumber}
 use Rattle.text_field.specs.Names.{every}
 use Rattle.text_block.specs.declared.Counts.{Counts}
 use Rattle.text_block.specs.declared.Asked.{Asked}
@@ -92,10 +92,10 @@ filed (Value field) t places = places
 filed (Semicolon field place) t places = cond (eqb (t .form) semicolon) (stored places field place) places
 filed NoMore t places = places
 
--- field `k` of the rows from `first` on has a value, or a default
-abbrev pub isGiven : ℕ → List ℕ → ℕ → Bool
-isGiven first places k = not (isRequired (first + k) && eqb (getD places k 0) 0)
+-- field `k` of some rows has a value, or a default
+abbrev pub isGiven : List ℕ → List ℕ → ℕ → Bool
+isGiven rows places k = not (isRequired rows k && eqb (getD places k 0) 0)
 
 -- all fields of a kind have
 abbrev pub allGiven : Scope → List ℕ → Bool
-allGiven kind places = every (isGiven (firstRow kind) places) (rowCount kind)
+allGiven kind places = every (isGiven (rowsOf kind) places) (rowCount kind)

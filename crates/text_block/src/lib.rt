@@ -2,10 +2,10 @@
 // in specs/.
 ghost use mathlib.Core.Bool.{false, not, cond};
 ghost use mathlib.Core.Path.{_≡_};
-ghost use Prim.Native.Nat.{_+_, _≤_, _<_};
+ghost use Prim.Native.Nat.{_≤_, _<_};
 ghost use lib.Dec.{eqb};
 ghost use lib.ListN.{length};
-ghost use Rattle.text_table.specs.Table.{table};
+ghost use Rattle.text_table.specs.Table.{rowsOf};
 ghost use Rattle.text_scope.specs.Scopes.{scopeNumber};
 ghost use Rattle.text_field.specs.Names.{every};
 ghost use Rattle.text_block.specs.declared.Asked.the-variants.{Numbered};
@@ -179,24 +179,18 @@ pub fn store(ok: bool, places: &mut [usize; 34], i: usize, place: usize)
 
 // All fields of a kind have a value, or a default.
 pub fn all_given(rows: &[u8], kind: Scope, places: &[usize; 34]) -> bool
-    requires { ⌜ now rows ≡ table ⌝ }
+    requires { ⌜ now rows ≡ rowsOf kind ⌝ }
     ensures { λ r. ⌜ r ≡ allGiven kind (now (places .entry)) ⌝ }
 {
-    given_from(
-        rows,
-        text_scope::first_row(kind),
-        places,
-        text_scope::row_count(kind),
-    )
+    given_in(rows, places, text_scope::row_count(kind))
 }
 
-fn given_from(rows: &[u8], first: usize, places: &[usize; 34], n: usize) -> bool
-    requires { ⌜ now rows ≡ table ⌝ }
-    requires { ⌜ (first ≤ 88) × (n ≤ 34) ⌝ }
-    ensures { λ r. ⌜ r ≡ every (isGiven first (now (places .entry))) n ⌝ }
+fn given_in(rows: &[u8], places: &[usize; 34], n: usize) -> bool
+    requires { ⌜ n ≤ 34 ⌝ }
+    ensures { λ r. ⌜ r ≡ every (isGiven (now (rows .entry)) (now (places .entry))) n ⌝ }
 {
     for k in 0..n {
-        if text_table::is_required(rows, first + k) & (places[k] == 0) {
+        if text_table::is_required(rows, k) & (places[k] == 0) {
             return false;
         }
     }

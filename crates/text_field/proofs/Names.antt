@@ -1,5 +1,5 @@
 -- Laws of a word among the known names: the letters of one row, and one row after the other. Assumes nothing.
-use Prim.Native.Nat.{ℕ, zero, suc, _+_, _-_, _≤_, _<_}
+use Prim.Native.Nat.{ℕ, zero, suc, _+_, _-_, _*_, _≤_, _<_}
 use mathlib.Core.Bool.{Bool, true, false, not, _&&_, cond, and-false, and-true}
 use mathlib.Core.List.{List}
 use mathlib.Core.Logic.{⊎-elim}
@@ -7,7 +7,9 @@ use mathlib.Core.Path.{_≡_, refl, sym, ap, _∙_}
 use native.Mathlib.Nat.{eq-or-lt-of-le, le-pred-of-lt}
 use native.Mathlib.Numerals.{add-one}
 use native.Mathlib.Omega.{arith}
-use lib.ListN.{length}
+use lib.Dec.{eqb, ltb}
+use lib.ListN.{length, getD}
+use Rattle.text_table.specs.Table.{rowSize}
 use Rattle.text_field.specs.Names.{every, sameAt, longAs, isName, nameIn}
 
 pub not-not : (b : Bool) → not (not b) ≡ b
@@ -38,29 +40,44 @@ module _ (test : ℕ → Bool) where
   pub every-done : (k n : ℕ) → true ≡ every test k → k ≤ n → n ≤ k → true ≡ every test n
   every-done k n h low high = let e : k ≡ n = omega arith in h ∙ ap (every test) e
 
--- a word with another letter
-pub name-other : (word : List ℕ) (exact : Bool) (i k : ℕ) → k < length word → sameAt word exact i k ≡ false → false ≡ isName word exact i
-name-other word exact i k h e =
-    let long = longAs i (length word) in
-    sym (and-false long) ∙ ap (λ (x : Bool). long && x) (every-stop (sameAt word exact i) k (length word) h e)
+-- a word without letters is no name
+no-letters : (a b : Bool) → ((a && b) && not b) ≡ false
+no-letters true true = refl
+no-letters true false = refl
+no-letters false b = refl
 
-module _ (word : List ℕ) (exact : Bool) (first k end : ℕ) where
+-- a word with another letter near its end
+pub name-other : (word : List ℕ) (exact : Bool) (rows : List ℕ) (i k : ℕ) → (0 < length word → k < length word) → sameAt word exact rows i k ≡ false
+    → false ≡ isName word exact rows i
+name-other word exact rows i k h e = by (length word) refl
+  where
+    long : Bool
+    long = longAs rows i (length word)
+
+    by : (n : ℕ) → length word ≡ n → false ≡ isName word exact rows i
+    by zero q =
+        sym (ap (λ (m : ℕ). longAs rows i m && every (sameAt word exact rows i) m) q
+        ∙ ap (λ (x : Bool). x && every (sameAt word exact rows i) 0) (no-letters (ltb 0 16) (eqb (getD rows (rowSize * i + 0) 0) 32)))
+    by (suc n) q =
+        sym (and-false long) ∙ ap (λ (x : Bool). long && x) (every-stop (sameAt word exact rows i) k (length word) (h (omega (arith, q))) e)
+
+module _ (word : List ℕ) (exact : Bool) (rows : List ℕ) (k end : ℕ) where
   name-next : Bool → ℕ
-  name-next b = cond b (k + 1) (nameIn word exact first (k + 1) (end - (k + 1)))
+  name-next b = cond b (k + 1) (nameIn word exact rows (k + 1) (end - (k + 1)))
 
-  name-step : k < end → nameIn word exact first k (end - k) ≡ name-next (isName word exact (first + k))
+  name-step : k < end → nameIn word exact rows k (end - k) ≡ name-next (isName word exact rows k)
   unfolding nameIn name-next
-  name-step h = let e : end - k ≡ suc (end - (k + 1)) = omega arith in ap (nameIn word exact first k) e
+  name-step h = let e : end - k ≡ suc (end - (k + 1)) = omega arith in ap (nameIn word exact rows k) e
 
-  pub name-more : {b : Bool} → k < end → b ≡ isName word exact (first + k) → b ≡ false
-      → nameIn word exact first k (end - k) ≡ nameIn word exact first (k + 1) (end - (k + 1))
+  pub name-more : {b : Bool} → k < end → b ≡ isName word exact rows k → b ≡ false
+      → nameIn word exact rows k (end - k) ≡ nameIn word exact rows (k + 1) (end - (k + 1))
   unfolding name-next
   name-more h e t = name-step h ∙ ap name-next (sym e ∙ t)
 
-  pub name-stop : {b : Bool} → k < end → b ≡ isName word exact (first + k) → b ≡ true → nameIn word exact first k (end - k) ≡ k + 1
+  pub name-stop : {b : Bool} → k < end → b ≡ isName word exact rows k → b ≡ true → nameIn word exact rows k (end - k) ≡ k + 1
   unfolding name-next
   name-stop h e t = name-step h ∙ ap name-next (sym e ∙ t)
 
-  pub name-none : end ≤ k → nameIn word exact first k (end - k) ≡ 0
+  pub name-none : end ≤ k → nameIn word exact rows k (end - k) ≡ 0
   unfolding nameIn
-  name-none h = let e : end - k ≡ 0 = omega arith in ap (nameIn word exact first k) e
+  name-none h = let e : end - k ≡ 0 = omega arith in ap (nameIn word exact rows k) e

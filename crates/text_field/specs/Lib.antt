@@ -1,3 +1,4 @@
 -- The names that a text map knows. Assumes nothing.
 
 pub mod Names
+pub mod Inner

@@ -1,11 +1,12 @@
 // A word's place among the names that a text map knows (W-206). The definitions are in specs/.
 ghost use mathlib.Core.Bool.{cond};
 ghost use mathlib.Core.Path.{_≡_};
-ghost use Prim.Native.Nat.{_+_, _-_, _≤_, _<_};
+ghost use Prim.Native.Nat.{_-_, _*_, _≤_, _<_};
 ghost use lib.ListN.{length};
 ghost use Rattle.text_byte.specs.Bytes.{lower};
-ghost use Rattle.text_table.specs.Table.{table, nameRoom};
-ghost use Rattle.text_field.specs.Names.{every, letterAt, sameAt, isName, nameIn, fieldNamed, kindNamed, zeroIds};
+ghost use Rattle.text_table.specs.Table.{nameRoom, rowSize, kindRows, namespaceRows, rowsOf};
+ghost use Rattle.text_field.specs.Names.{every, sameAt, isName, nameIn, fieldNamed, kindNamed, zeroIds};
+ghost use Rattle.text_field.specs.Inner.{Among, Tells};
 use text_byte as bytes;
 use text_scope::Scope;
 use text_table::NAME_ROOM;
@@ -13,47 +14,42 @@ use text_table::ROW_SIZE;
 
 // Which name of a scope the word is, counted from 1; 0 for an unknown one.
 pub fn field_named(rows: &[u8], scope: Scope, word: &[u8]) -> usize
-    requires { ⌜ now rows ≡ table ⌝ }
+    requires { ⌜ now rows ≡ rowsOf scope ⌝ }
     ensures { λ r. ⌜ r ≡ fieldNamed scope (now (word .entry)) ⌝ }
 {
-    name_in(
-        rows,
-        word,
-        false,
-        text_scope::first_row(scope),
-        text_scope::row_count(scope),
-    )
+    name_in(rows, word, false, text_scope::row_count(scope))
 }
 
 // The kind of block that a word names.
-pub fn kind_named(rows: &[u8], word: &[u8]) -> Scope
-    requires { ⌜ now rows ≡ table ⌝ }
+pub fn kind_named(kinds: &[u8], word: &[u8]) -> Scope
+    requires { ⌜ now kinds ≡ kindRows ⌝ }
     ensures { λ r. ⌜ r ≡ kindNamed (now (word .entry)) ⌝ }
 {
-    text_scope::scope_of(name_in(rows, word, false, 0, 5))
+    text_scope::scope_of(name_in(kinds, word, false, 5))
 }
 
 // Linedefs have id 0 by default in this namespace.
-pub fn zero_ids(rows: &[u8], namespace: &[u8]) -> bool
-    requires { ⌜ now rows ≡ table ⌝ }
+pub fn zero_ids(namespaces: &[u8], namespace: &[u8]) -> bool
+    requires { ⌜ now namespaces ≡ namespaceRows ⌝ }
     ensures { λ r. ⌜ r ≡ zeroIds (now (namespace .entry)) ⌝ }
 {
-    0 < name_in(rows, namespace, true, 88, 3)
+    0 < name_in(namespaces, namespace, true, 3)
 }
 
-// Which of the rows from `first` on has the word as its name.
-fn name_in(rows: &[u8], word: &[u8], exact: bool, first: usize, count: usize) -> usize
-    requires { ⌜ now rows ≡ table ⌝ }
-    requires { ⌜ first + count ≤ 91 ⌝ }
-    ensures { λ r. ⌜ r ≡ nameIn (now (word .entry)) exact first 0 count ⌝ }
+// Which of the rows has the word as its name. The byte that is compared first is `at`, a row further each time.
+fn name_in(rows: &[u8], word: &[u8], exact: bool, count: usize) -> usize
+    requires { ⌜ (count ≤ 34) × (rowSize * count ≤ length (now rows)) ⌝ }
+    ensures { λ r. ⌜ r ≡ nameIn (now (word .entry)) exact (now (rows .entry)) 0 count ⌝ }
 {
     let k = last_of(word.len());
     let last = letter(exact, bytes::byte_at(word, k));
     let mut n = 0;
+    let mut at = k;
     while n < count {
-        if is_name(rows, word, exact, k, last, first + n) {
+        if is_name(rows, word, exact, last, at, n) {
             return n + 1;
         }
+        at += ROW_SIZE;
         n += 1;
     }
     0
@@ -73,13 +69,12 @@ fn last_of(length: usize) -> usize
 }
 
 // A letter near the end tells most rows apart, those of another length too.
-fn is_name(rows: &[u8], word: &[u8], exact: bool, k: usize, last: u8, i: usize) -> bool
-    requires { ⌜ now rows ≡ table ⌝ }
-    requires { ⌜ (i < 91) × (last ≡ letterAt (now word) exact k) ⌝ }
-    requires { ⌜ (k < 16) × (0 < length (now word) → k < length (now word)) ⌝ }
-    ensures { λ r. ⌜ r ≡ isName (now (word .entry)) exact i ⌝ }
+fn is_name(rows: &[u8], word: &[u8], exact: bool, last: u8, at: usize, i: usize) -> bool
+    requires { ⌜ Among i (now rows) ⌝ }
+    requires { ⌜ (at < length (now rows)) × Tells (now word) exact (now rows) last at i ⌝ }
+    ensures { λ r. ⌜ r ≡ isName (now (word .entry)) exact (now (rows .entry)) i ⌝ }
 {
-    if (last != rows[ROW_SIZE * i + k]) & (0 < word.len()) {
+    if last != rows[at] {
         return false;
     }
     is_spelled(rows, word, exact, i)
@@ -87,17 +82,16 @@ fn is_name(rows: &[u8], word: &[u8], exact: bool, k: usize, last: u8, i: usize) 
 
 // Behind the name a space is wanted, then its letters.
 fn is_spelled(rows: &[u8], word: &[u8], exact: bool, i: usize) -> bool
-    requires { ⌜ now rows ≡ table ⌝ }
-    requires { ⌜ i < 91 ⌝ }
-    ensures { λ r. ⌜ r ≡ isName (now (word .entry)) exact i ⌝ }
+    requires { ⌜ Among i (now rows) ⌝ }
+    ensures { λ r. ⌜ r ≡ isName (now (word .entry)) exact (now (rows .entry)) i ⌝ }
 {
     if NAME_ROOM <= word.len() {
         return false;
     }
-    if text_table::row_byte(rows, i, word.len()) != 32 {
+    if rows[ROW_SIZE * i + word.len()] != 32 {
         return false;
     }
-    if text_table::row_byte(rows, i, one_less(word.len())) == 32 {
+    if rows[ROW_SIZE * i + one_less(word.len())] == 32 {
         return false;
     }
     is_same(rows, word, exact, i)
@@ -110,9 +104,9 @@ fn one_less(n: usize) -> usize
 }
 
 fn is_same(rows: &[u8], word: &[u8], exact: bool, i: usize) -> bool
-    requires { ⌜ now rows ≡ table ⌝ }
-    requires { ⌜ (i < 91) × (length (now word) < nameRoom) ⌝ }
-    ensures { λ r. ⌜ r ≡ every (sameAt (now (word .entry)) exact i) (length (now (word .entry))) ⌝ }
+    requires { ⌜ Among i (now rows) ⌝ }
+    requires { ⌜ length (now word) < nameRoom ⌝ }
+    ensures { λ r. ⌜ r ≡ every (sameAt (now (word .entry)) exact (now (rows .entry)) i) (length (now (word .entry))) ⌝ }
 {
     for k in 0..word.len() {
         if letter(exact, word[k]) != rows[ROW_SIZE * i + k] {

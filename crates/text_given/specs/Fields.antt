@@ -1,5 +1,5 @@
 -- The value of a field (02, W-206): that at the place of its last assignment, or the default of its row. Assumes nothing.
-use Prim.Native.Nat.{ℕ, _+_}
+use Prim.Native.Nat.{ℕ}
 use mathlib.Core.Bool.{Bool, false, cond}
 use mathlib.Core.List.{List}
 use lib.Dec.{eqb}
@@ -82,9 +82,9 @@ flagOr WholePast = false
 flagOr DecimalPast = false
 flagOr NoValue = false
 
--- field `k` of a block whose values stand at `places`, by the rows from `first` on
-abbrev pub wholeField : List ℕ → List ℕ → ℕ → ℤ → ℕ → ℤ
-wholeField text places first id k = wholeOr (defaultWhole id (defaultOf (first + k))) (valueAt text (getD places k 0))
+-- field `k` of a block whose values stand at `places`, by the rows of its kind
+abbrev pub wholeField : List ℕ → List ℕ → List ℕ → ℤ → ℕ → ℤ
+wholeField text places rows id k = wholeOr (defaultWhole id (defaultOf rows k)) (valueAt text (getD places k 0))
 
 abbrev pub decimalField : List ℕ → List ℕ → ℕ → Float
 decimalField text places k = decimalOr (valueAt text (getD places k 0))

@@ -1,9 +1,7 @@
 // The value of one field of a text map (W-206), by what it holds: that at the place of its last assignment, or the default of its row. The
 // definitions are in specs/.
 ghost use mathlib.Core.Path.{_≡_};
-ghost use Prim.Native.Nat.{_≤_};
-ghost use lib.ListN.{getD};
-ghost use Rattle.text_table.specs.Table.{table};
+ghost use Prim.Native.Nat.{_<_};
 ghost use Rattle.text_given.specs.Fields.{valueAt, defaultWhole, wholeIn, wholeOr, decimalIn, decimalOr, stringIn, stringOr, flagIn, flagOr};
 ghost use Rattle.text_given.specs.Fields.{wholeField, decimalField, stringField, flagField};
 use text_value::Reading;
@@ -17,40 +15,33 @@ pub struct Places {
 }
 
 // A whole number; `id` is the default where the namespace decides.
-pub fn whole_field(
-    text: &[u8],
-    rows: &[u8],
-    places: &[usize],
-    first: usize,
-    id: i32,
-    k: usize,
-) -> i32
-    requires { ⌜ (now rows ≡ table) × ((first ≤ 91) × (k ≤ 33)) ⌝ }
-    ensures { λ r. ⌜ r ≡ wholeField (now (text .entry)) (now (places .entry)) first id k ⌝ }
+pub fn whole_field(text: &[u8], rows: &[u8], places: &[usize; 34], id: i32, k: usize) -> i32
+    requires { ⌜ k < 34 ⌝ }
+    ensures { λ r. ⌜ r ≡ wholeField (now (text .entry)) (now (places .entry)) (now (rows .entry)) id k ⌝ }
 {
-    let letter = text_table::default_of(rows, first + k);
-    whole_or(
-        default_whole(id, letter),
-        value_at(text, place_at(places, k)),
-    )
+    let letter = text_table::default_of(rows, k);
+    whole_or(default_whole(id, letter), value_at(text, places[k]))
 }
 
-pub fn decimal_field(text: &[u8], places: &[usize], k: usize) -> f64
+pub fn decimal_field(text: &[u8], places: &[usize; 34], k: usize) -> f64
+    requires { ⌜ k < 34 ⌝ }
     ensures { λ r. ⌜ r ≡ decimalField (now (text .entry)) (now (places .entry)) k ⌝ }
 {
-    decimal_or(value_at(text, place_at(places, k)))
+    decimal_or(value_at(text, places[k]))
 }
 
-pub fn string_field(text: &[u8], places: &[usize], k: usize) -> Places
+pub fn string_field(text: &[u8], places: &[usize; 34], k: usize) -> Places
+    requires { ⌜ k < 34 ⌝ }
     ensures { λ r. ⌜ r ≡ stringField (now (text .entry)) (now (places .entry)) k ⌝ }
 {
-    string_at(text, place_at(places, k))
+    string_at(text, places[k])
 }
 
-pub fn flag_field(text: &[u8], places: &[usize], k: usize) -> bool
+pub fn flag_field(text: &[u8], places: &[usize; 34], k: usize) -> bool
+    requires { ⌜ k < 34 ⌝ }
     ensures { λ r. ⌜ r ≡ flagField (now (text .entry)) (now (places .entry)) k ⌝ }
 {
-    flag_or(value_at(text, place_at(places, k)))
+    flag_or(value_at(text, places[k]))
 }
 
 // The string at the place of a value.
@@ -67,15 +58,6 @@ fn value_at(text: &[u8], place: usize) -> Reading
         return Reading::NoValue;
     }
     text_value::read(text, text_token::token_at(text, place))
-}
-
-fn place_at(places: &[usize], k: usize) -> usize
-    ensures { λ r. ⌜ r ≡ getD (now (places .entry)) k 0 ⌝ }
-{
-    if k < places.len() {
-        return places[k];
-    }
-    0
 }
 
 fn default_whole(id: i32, letter: u8) -> i32

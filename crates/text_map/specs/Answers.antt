@@ -2,7 +2,7 @@
 -- Assumes nothing.
 use Prim.Native.Nat.{ℕ}
 use mathlib.Core.Bool.{Bool, not, cond}
-use mathlib.Core.List.{List}
+use mathlib.Core.List.{List, []}
 use lib.IntN.{ℤ, pos, negsuc}
 use Rattle.refusal.specs.declared.Refusal.{Refusal}
 use Rattle.refusal.specs.declared.Refusal.the-variants.{TextMissing}
@@ -11,7 +11,8 @@ use Rattle.refusal.specs.declared.Check.the-variants.{Pass, Refused}
 use Rattle.refusal.specs.Checks.{unless, _andThen_}
 use Rattle.text_token.specs.Tokens.{bytesOf}
 use Rattle.text_scope.specs.declared.Scope.{Scope}
-use Rattle.text_scope.specs.Scopes.{firstRow, scopeNumber}
+use Rattle.text_scope.specs.Scopes.{scopeNumber}
+use Rattle.text_table.specs.Table.{rowsOf}
 use Rattle.text_field.specs.Names.{zeroIds}
 use Rattle.text_block.specs.declared.Asked.{Asked}
 use Rattle.text_block.specs.declared.Asked.the-variants.{Nothing, Numbered, First, Opening}
@@ -58,30 +59,26 @@ blockBy s (Refused r) = NoBlock r
 abbrev pub blockAnswer : Stand → BlockAnswer
 blockAnswer s = blockBy (s .parse) (openedCheck (s .parse))
 
--- the row behind the table's last: from there on every default is 0
-abbrev pub noRow : ℕ
-noRow = 91
-
--- what a block's record is read from: the check; the place behind the block; the namespace of what was read; the first row of the block's
--- kind; and of each field the place of its last value. Where it is refused the record that is read from it is all 0
-abbrev pub fieldsBy : List ℕ → Parse → List ℕ → Check → BlockFields
-fieldsBy text s kept Pass = record {
-  check = Pass;
-  next = s .notes .next;
-  namespace = namespaceOf text s;
-  first = firstRow (s .notes .kind);
-  places = kept;
-}
-fieldsBy text s kept (Refused r) = record {
-  check = Refused r;
-  next = 0;
-  namespace = between 0 0;
-  first = noRow;
-  places = noPlaces;
-}
+-- what a block's record is read from: the check; the place behind the block; and the namespace of what was read
+abbrev pub fieldsBy : List ℕ → Parse → Check → BlockFields
+fieldsBy text s Pass = record { check = Pass; next = s .notes .next; namespace = namespaceOf text s }
+fieldsBy text s (Refused r) = record { check = Refused r; next = 0; namespace = between 0 0 }
 
 abbrev pub blockFields : List ℕ → Stand → BlockFields
-blockFields text s = fieldsBy text (s .parse) (s .kept) (blockCheck (s .parse))
+blockFields text s = fieldsBy text (s .parse) (blockCheck (s .parse))
+
+-- of each of its fields the place of its last value, and the rows of its kind. Where it is refused there are none, so that the record that is
+-- read from them is all 0
+abbrev pub placesBy : List ℕ → Check → List ℕ
+placesBy kept Pass = kept
+placesBy kept (Refused r) = noPlaces
+
+abbrev pub blockPlaces : Stand → List ℕ
+blockPlaces s = placesBy (s .kept) (blockCheck (s .parse))
+
+abbrev pub rowsBy : Scope → Check → List ℕ
+rowsBy kind Pass = rowsOf kind
+rowsBy kind (Refused r) = []
 
 -- block `number` of a kind, after the whole text was judged
 abbrev pub numbered : List ℕ → Scope → ℕ → Stand

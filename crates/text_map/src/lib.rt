@@ -1,12 +1,12 @@
 // What a text map answers (W-206): its namespace and counts; and a block, by its kind and number or from a place on. The definitions are in
 // specs/.
 ghost use mathlib.Core.Path.{_≡_};
-ghost use Prim.Native.Nat.{_≤_};
 ghost use Rattle.text_scope.specs.Scopes.{scopeNumber};
-ghost use Rattle.text_table.specs.Table.{table};
+ghost use Rattle.text_table.specs.Table.{namespaceRows};
+ghost use Rattle.text_block.specs.Blocks.{noPlaces};
 ghost use Rattle.text_token.specs.Tokens.{bytesOf};
 ghost use Rattle.text_map.specs.Answers.{namespaceOf, summaryBy, textAnswer, blockCheck, openedCheck, blockBy, blockAnswer};
-ghost use Rattle.text_map.specs.Answers.{fieldsBy, blockFields, numbered, firstFrom, nextFrom, idBy, idOf};
+ghost use Rattle.text_map.specs.Answers.{fieldsBy, blockFields, placesBy, blockPlaces, numbered, firstFrom, nextFrom, idBy, idOf};
 use refusal::Check;
 use refusal::Refusal;
 use text_block::Asked;
@@ -37,22 +37,20 @@ pub enum BlockAnswer {
     Refused(Refusal),
 }
 
-// What a block's record is read from: the place behind the block, the namespace of what was read, the first row of its kind, and of each
-// field the place of its last value. Where it is refused the record that is read from it is all 0.
+// What a block's record is read from, beside the places of its values: the check, the place behind the block, and the namespace of what was
+// read.
 pub struct BlockFields {
     pub check: Check,
     pub next: usize,
     pub namespace: Places,
-    pub first: usize,
-    pub places: [usize; 34],
 }
 
 // The whole text judged: 90 to 93, or its namespace and counts.
 pub fn judge_text(text: &[u8]) -> TextAnswer
     ensures { λ r. ⌜ r ≡ textAnswer (now (text .entry)) ⌝ }
 {
-    let o = text_reader::read(text, Asked::Nothing, 0);
-    let s = o.parse;
+    let mut kept = [0; 34];
+    let s = text_reader::read(text, Asked::Nothing, 0, &mut kept);
     summary_by(text, s)
 }
 
@@ -89,8 +87,8 @@ fn block_check(s: Parse) -> Check
 pub fn next_block(text: &[u8], place: usize) -> BlockAnswer
     ensures { λ r. ⌜ r ≡ blockAnswer (nextFrom (now (text .entry)) place) ⌝ }
 {
-    let o = text_reader::read(text, Asked::Opening, place);
-    let s = o.parse;
+    let mut kept = [0; 34];
+    let s = text_reader::read(text, Asked::Opening, place, &mut kept);
     block_by(s)
 }
 
@@ -125,49 +123,50 @@ fn kind_of(kind: Scope) -> u32
     text_scope::scope_number(kind) as u32
 }
 
-// What the record of block `number` of a kind is read from, after the whole text was judged.
-pub fn fields_numbered(text: &[u8], kind: Scope, number: usize) -> BlockFields
+// What the record of block `number` of a kind is read from, after the whole text was judged, and of each field the place of its last value.
+pub fn fields_numbered(
+    text: &[u8],
+    kind: Scope,
+    number: usize,
+    places: &mut [usize; 34],
+) -> BlockFields
+    requires { ⌜ now places ≡ noPlaces ⌝ }
     ensures { λ r. ⌜ r ≡ blockFields (now (text .entry)) (numbered (now (text .entry)) kind number) ⌝ }
-    ensures { λ r. ⌜ r .first ≤ 91 ⌝ }
+    ensures { λ _. ⌜ now (places .exit) ≡ blockPlaces (numbered (now (text .entry)) kind number) ⌝ }
 {
-    let o = text_reader::read(text, Asked::Numbered(kind, number), 0);
-    let s = o.parse;
-    let kept = o.kept;
-    fields_by(text, s, kept)
+    let s = text_reader::read(text, Asked::Numbered(kind, number), 0, places);
+    fields_by(text, s, places)
 }
 
-// What the record of the first block of a kind among the statements from a place on is read from.
-pub fn fields_from(text: &[u8], kind: Scope, place: usize) -> BlockFields
+// The same of the first block of a kind among the statements from a place on.
+pub fn fields_from(text: &[u8], kind: Scope, place: usize, places: &mut [usize; 34]) -> BlockFields
+    requires { ⌜ now places ≡ noPlaces ⌝ }
     ensures { λ r. ⌜ r ≡ blockFields (now (text .entry)) (firstFrom (now (text .entry)) kind place) ⌝ }
-    ensures { λ r. ⌜ r .first ≤ 91 ⌝ }
+    ensures { λ _. ⌜ now (places .exit) ≡ blockPlaces (firstFrom (now (text .entry)) kind place) ⌝ }
 {
-    let o = text_reader::read(text, Asked::First(kind), place);
-    let s = o.parse;
-    let kept = o.kept;
-    fields_by(text, s, kept)
+    let s = text_reader::read(text, Asked::First(kind), place, places);
+    fields_by(text, s, places)
 }
 
-fn fields_by(text: &[u8], s: Parse, kept: [usize; 34]) -> BlockFields
-    ensures { λ r. ⌜ r ≡ fieldsBy (now (text .entry)) s kept (blockCheck s) ⌝ }
-    ensures { λ r. ⌜ r .first ≤ 91 ⌝ }
+fn fields_by(text: &[u8], s: Parse, kept: &mut [usize; 34]) -> BlockFields
+    ensures { λ r. ⌜ r ≡ fieldsBy (now (text .entry)) s (blockCheck s) ⌝ }
+    ensures { λ _. ⌜ now (kept .exit) ≡ placesBy (now (kept .entry)) (blockCheck s) ⌝ }
 {
     let notes = s.notes;
-    let kind = notes.kind;
     match block_check(s) {
         Check::Pass => BlockFields {
             check: Check::Pass,
             next: notes.next,
             namespace: namespace_of(text, s),
-            first: text_scope::first_row(kind),
-            places: kept,
         },
-        Check::Refused(r) => BlockFields {
-            check: Check::Refused(r),
-            next: 0,
-            namespace: Places { start: 0, end: 0 },
-            first: text_table::ROWS,
-            places: [0; 34],
-        },
+        Check::Refused(r) => {
+            *kept = [0; 34];
+            BlockFields {
+                check: Check::Refused(r),
+                next: 0,
+                namespace: Places { start: 0, end: 0 },
+            }
+        }
     }
 }
 
@@ -182,15 +181,15 @@ pub fn id_of(text: &[u8], namespace: Places) -> i32
 pub fn id_by(text: &[u8], start: usize, end: usize) -> i32
     ensures { λ r. ⌜ r ≡ idBy (bytesOf (now (text .entry)) start end) ⌝ }
 {
-    let rows = text_table::rows();
-    id_in(&rows, text_token::bytes_of(text, start, end))
+    let namespaces = text_table::namespaces();
+    id_in(&namespaces, text_token::bytes_of(text, start, end))
 }
 
-fn id_in(rows: &[u8], namespace: &[u8]) -> i32
-    requires { ⌜ now rows ≡ table ⌝ }
+fn id_in(namespaces: &[u8], namespace: &[u8]) -> i32
+    requires { ⌜ now namespaces ≡ namespaceRows ⌝ }
     ensures { λ r. ⌜ r ≡ idBy (now (namespace .entry)) ⌝ }
 {
-    if text_field::zero_ids(rows, namespace) {
+    if text_field::zero_ids(namespaces, namespace) {
         0
     } else {
         -1

@@ -1,8 +1,12 @@
 -- What only contracts of inner functions cite: a text read on by several tokens. Assumes nothing.
-use Prim.Native.Nat.{ℕ}
+use Prim.Native.Nat.{ℕ, _*_}
 use mathlib.Core.Bool.{true}
 use mathlib.Core.List.{List}
 use mathlib.Core.Path.{_≡_}
+use lib.ListN.{length, take}
+use Rattle.text_scope.specs.declared.Scope.{Scope}
+use Rattle.text_scope.specs.Scopes.{rowCount}
+use Rattle.text_table.specs.Table.{rowSize, rowsOf}
 use Rattle.text_block.specs.declared.Asked.{Asked}
 use Rattle.text_block.specs.declared.Wanted.{Wanted}
 use Rattle.text_block.specs.declared.Wanted.the-variants.{Statement}
@@ -21,3 +25,7 @@ ReadsOn text asked s places r places′ = (kept : List ℕ) → Leads text asked
 -- where more is wanted, it is a statement
 abbrev pub Rests : Wanted → Type 0
 Rests w = isMore w ≡ true → w ≡ Statement
+
+-- the rows of a scope stand at the front
+abbrev pub Loaded : Scope → List ℕ → Type 0
+Loaded scope rows = (take (rowSize * rowCount scope) rows ≡ rowsOf scope) × (length rows ≡ 612)

@@ -3,12 +3,12 @@
 ghost use mathlib.Core.Bool.{false};
 ghost use mathlib.Core.Path.{_≡_};
 ghost use lib.ListN.{length};
-ghost use Rattle.text_table.specs.Table.{table};
+ghost use Rattle.text_table.specs.Table.{kindRows, rowsOf};
 ghost use Rattle.text_block.specs.declared.Asked.{Asked};
 ghost use Rattle.text_block.specs.declared.Wanted.the-variants.{Statement, Equals, Value, Semicolon};
-ghost use Rattle.text_block.specs.Blocks.{isFull};
+ghost use Rattle.text_block.specs.Blocks.{isFull, noPlaces};
 ghost use Rattle.text_reader.specs.Texts.{stand, isMore, startAt, textFrom};
-ghost use Rattle.text_reader.specs.Inner.{Leads, ReadsOn, Rests};
+ghost use Rattle.text_reader.specs.Inner.{Leads, ReadsOn, Rests, Loaded};
 use refusal::Check;
 use text_block::Asked;
 use text_block::Counts;
@@ -18,47 +18,60 @@ use text_scope::Scope;
 use text_step::Notes;
 use text_step::Parse;
 
-// Where the reading ended, and of each field of the block that was asked for the place of its last value, 0 for none.
-pub struct Outcome {
-    pub parse: Parse,
-    pub kept: [usize; 34],
-}
-
-// The text from a place on.
-pub fn read(text: &[u8], asked: Asked, from: usize) -> Outcome
-    ensures { λ r. ⌜ r .parse ≡ textFrom (now (text .entry)) asked from .parse ⌝ }
-    ensures { λ r. ⌜ r .kept ≡ textFrom (now (text .entry)) asked from .kept ⌝ }
+// The text from a place on: where its reading ended, and of each field of the block that was asked for the place of its last value, 0 for
+// none.
+pub fn read(text: &[u8], asked: Asked, from: usize, kept: &mut [usize; 34]) -> Parse
+    requires { ⌜ now kept ≡ noPlaces ⌝ }
+    ensures { λ r. ⌜ r ≡ textFrom (now (text .entry)) asked from .parse ⌝ }
+    ensures { λ _. ⌜ now (kept .exit) ≡ textFrom (now (text .entry)) asked from .kept ⌝ }
 {
-    let rows = text_table::rows();
-    read_with(text, &rows, asked, from)
+    let kinds = text_table::kinds();
+    read_with(text, &kinds, asked, from, kept)
 }
 
-fn read_with(text: &[u8], rows: &[u8], asked: Asked, from: usize) -> Outcome
-    requires { ⌜ now rows ≡ table ⌝ }
-    ensures { λ r. ⌜ r .parse ≡ textFrom (now (text .entry)) asked from .parse ⌝ }
-    ensures { λ r. ⌜ r .kept ≡ textFrom (now (text .entry)) asked from .kept ⌝ }
+fn read_with(text: &[u8], kinds: &[u8], asked: Asked, from: usize, kept: &mut [usize; 34]) -> Parse
+    requires { ⌜ (now kinds ≡ kindRows) × (now kept ≡ noPlaces) ⌝ }
+    ensures { λ r. ⌜ r ≡ textFrom (now (text .entry)) asked from .parse ⌝ }
+    ensures { λ _. ⌜ now (kept .exit) ≡ textFrom (now (text .entry)) asked from .kept ⌝ }
 {
     let mut s = start_at(from);
+    let mut rows = [0; 612];
     let mut places = [0; 34];
-    let mut kept = [0; 34];
     let mut wanted = Wanted::Statement;
+    text_table::load(Scope::Top, &mut rows);
     while is_more(wanted) {
-        s = statement(text, rows, asked, s, &mut places, &mut kept);
+        let scope = s.scope;
+        let n = text_table::size_of(scope);
+        s = statement(text, kinds, &rows[..n], asked, s, &mut places, kept);
+        let after = s.scope;
+        reload(scope, after, &mut rows);
         wanted = s.wanted;
     }
-    Outcome { parse: s, kept }
+    s
+}
+
+// The rows of another scope, where it is another.
+fn reload(before: Scope, scope: Scope, rows: &mut [u8; 612])
+    requires { ⌜ Loaded before (now rows) ⌝ }
+    ensures { λ _. ⌜ Loaded scope (now (rows .exit)) ⌝ }
+{
+    if text_scope::scope_number(before) == text_scope::scope_number(scope) {
+        return;
+    }
+    text_table::load(scope, rows);
 }
 
 // A whole statement, or what ends a block or the text.
 fn statement(
     text: &[u8],
+    kinds: &[u8],
     rows: &[u8],
     asked: Asked,
     s: Parse,
     places: &mut [usize; 34],
     kept: &mut [usize; 34],
 ) -> Parse
-    requires { ⌜ now rows ≡ table ⌝ }
+    requires { ⌜ (now kinds ≡ kindRows) × (now rows ≡ rowsOf (s .scope)) ⌝ }
     requires { ⌜ (s .wanted ≡ Statement) × (isFull (s .notes .counts) (s .scope) ≡ false) ⌝ }
     requires { ⌜ length (now places) ≡ 34 ⌝ }
     ensures { λ r. ⌜ Leads (now (text .entry)) asked (stand s (now (places .entry)) (now (kept .entry))) (stand r (now (places .exit)) (now (kept .exit))) ⌝ }
@@ -68,7 +81,7 @@ fn statement(
     let t = n.token;
     if n.good {
         let named = text_step::goes_on(s, t, Wanted::Equals(t.start, t.end));
-        return behind_name(text, rows, asked, named, t.start, t.end, places);
+        return behind_name(text, kinds, rows, asked, named, t.start, t.end, places);
     }
     let after = text_step::on_end(rows, asked, places, s, t);
     text_block::keep(!s.notes.found & after.notes.found, places, kept);
@@ -78,6 +91,7 @@ fn statement(
 // Behind a name: `=` and what follows it, or an opening brace.
 fn behind_name(
     text: &[u8],
+    kinds: &[u8],
     rows: &[u8],
     asked: Asked,
     s: Parse,
@@ -85,7 +99,7 @@ fn behind_name(
     end: usize,
     places: &mut [usize; 34],
 ) -> Parse
-    requires { ⌜ now rows ≡ table ⌝ }
+    requires { ⌜ (now kinds ≡ kindRows) × (now rows ≡ rowsOf (s .scope)) ⌝ }
     requires { ⌜ (s .wanted ≡ Equals start end) × (length (now places) ≡ 34) ⌝ }
     ensures { λ r. ⌜ ReadsOn (now (text .entry)) asked s (now (places .entry)) r (now (places .exit)) ⌝ }
     ensures { λ r. ⌜ Rests (r .wanted) × (length (now (places .exit)) ≡ 34) ⌝ }
@@ -99,7 +113,7 @@ fn behind_name(
         return behind_equals(text, rows, given, field, places);
     }
     text_block::clear(t.form == bytes::OPEN_BRACE, places);
-    text_step::on_brace(rows, asked, s, t, start, name)
+    text_step::on_brace(kinds, asked, s, t, start, name)
 }
 
 // Behind `=`: the value and what follows it.
@@ -110,7 +124,7 @@ fn behind_equals(
     field: usize,
     places: &mut [usize; 34],
 ) -> Parse
-    requires { ⌜ now rows ≡ table ⌝ }
+    requires { ⌜ now rows ≡ rowsOf (s .scope) ⌝ }
     requires { ⌜ (s .wanted ≡ Value field) × (length (now places) ≡ 34) ⌝ }
     ensures { λ r. ⌜ ((asked : Asked) → ReadsOn (now (text .entry)) asked s (now (places .entry)) r (now (places .exit))) ⌝ }
     ensures { λ r. ⌜ Rests (r .wanted) × (length (now (places .exit)) ≡ 34) ⌝ }

@@ -1,5 +1,5 @@
 -- The five records of a text map (02, W-206; document 002, "Standardized Fields"), fields in the document's order: of a block whose values
--- stand at `places`, by the rows of its kind from `first` on. Assumes nothing.
+-- stand at `places`, by the rows of its kind. Assumes nothing.
 use Prim.Native.Nat.{ℕ}
 use mathlib.Core.List.{List}
 use lib.IntN.{ℤ, pos}
@@ -17,11 +17,11 @@ vertexOf text places = record {
 }
 
 -- a linedef, whose id is `id` by default
-abbrev pub linedefOf : List ℕ → List ℕ → ℕ → ℤ → TextLinedef
-linedefOf text places first id = record {
-  id = wholeField text places first id 0;
-  v1 = wholeField text places first id 1;
-  v2 = wholeField text places first id 2;
+abbrev pub linedefOf : List ℕ → List ℕ → List ℕ → ℤ → TextLinedef
+linedefOf text places rows id = record {
+  id = wholeField text places rows id 0;
+  v1 = wholeField text places rows id 1;
+  v2 = wholeField text places rows id 2;
   blocking = flagField text places 3;
   blockmonsters = flagField text places 4;
   twosided = flagField text places 5;
@@ -44,49 +44,49 @@ linedefOf text places first id = record {
   monsterpush = flagField text places 22;
   missilecross = flagField text places 23;
   repeatspecial = flagField text places 24;
-  special = wholeField text places first id 25;
-  arg0 = wholeField text places first id 26;
-  arg1 = wholeField text places first id 27;
-  arg2 = wholeField text places first id 28;
-  arg3 = wholeField text places first id 29;
-  arg4 = wholeField text places first id 30;
-  sidefront = wholeField text places first id 31;
-  sideback = wholeField text places first id 32;
+  special = wholeField text places rows id 25;
+  arg0 = wholeField text places rows id 26;
+  arg1 = wholeField text places rows id 27;
+  arg2 = wholeField text places rows id 28;
+  arg3 = wholeField text places rows id 29;
+  arg4 = wholeField text places rows id 30;
+  sidefront = wholeField text places rows id 31;
+  sideback = wholeField text places rows id 32;
   comment = stringField text places 33;
 }
 
-abbrev pub sidedefOf : List ℕ → List ℕ → ℕ → TextSidedef
-sidedefOf text places first = record {
-  offsetx = wholeField text places first (pos 0) 0;
-  offsety = wholeField text places first (pos 0) 1;
+abbrev pub sidedefOf : List ℕ → List ℕ → List ℕ → TextSidedef
+sidedefOf text places rows = record {
+  offsetx = wholeField text places rows (pos 0) 0;
+  offsety = wholeField text places rows (pos 0) 1;
   texturetop = stringField text places 2;
   texturebottom = stringField text places 3;
   texturemiddle = stringField text places 4;
-  sector = wholeField text places first (pos 0) 5;
+  sector = wholeField text places rows (pos 0) 5;
   comment = stringField text places 6;
 }
 
-abbrev pub sectorOf : List ℕ → List ℕ → ℕ → TextSector
-sectorOf text places first = record {
-  heightfloor = wholeField text places first (pos 0) 0;
-  heightceiling = wholeField text places first (pos 0) 1;
+abbrev pub sectorOf : List ℕ → List ℕ → List ℕ → TextSector
+sectorOf text places rows = record {
+  heightfloor = wholeField text places rows (pos 0) 0;
+  heightceiling = wholeField text places rows (pos 0) 1;
   texturefloor = stringField text places 2;
   textureceiling = stringField text places 3;
-  lightlevel = wholeField text places first (pos 0) 4;
-  special = wholeField text places first (pos 0) 5;
-  id = wholeField text places first (pos 0) 6;
+  lightlevel = wholeField text places rows (pos 0) 4;
+  special = wholeField text places rows (pos 0) 5;
+  id = wholeField text places rows (pos 0) 6;
   comment = stringField text places 7;
 }
 
 -- a thing; `kind` is the field `type`, a word of the language
-abbrev pub thingOf : List ℕ → List ℕ → ℕ → TextThing
-thingOf text places first = record {
-  id = wholeField text places first (pos 0) 0;
+abbrev pub thingOf : List ℕ → List ℕ → List ℕ → TextThing
+thingOf text places rows = record {
+  id = wholeField text places rows (pos 0) 0;
   x = decimalField text places 1;
   y = decimalField text places 2;
   height = decimalField text places 3;
-  angle = wholeField text places first (pos 0) 4;
-  kind = wholeField text places first (pos 0) 5;
+  angle = wholeField text places rows (pos 0) 4;
+  kind = wholeField text places rows (pos 0) 5;
   skill1 = flagField text places 6;
   skill2 = flagField text places 7;
   skill3 = flagField text places 8;
@@ -105,11 +105,11 @@ thingOf text places first = record {
   strifeally = flagField text places 21;
   translucent = flagField text places 22;
   invisible = flagField text places 23;
-  special = wholeField text places first (pos 0) 24;
-  arg0 = wholeField text places first (pos 0) 25;
-  arg1 = wholeField text places first (pos 0) 26;
-  arg2 = wholeField text places first (pos 0) 27;
-  arg3 = wholeField text places first (pos 0) 28;
-  arg4 = wholeField text places first (pos 0) 29;
+  special = wholeField text places rows (pos 0) 24;
+  arg0 = wholeField text places rows (pos 0) 25;
+  arg1 = wholeField text places rows (pos 0) 26;
+  arg2 = wholeField text places rows (pos 0) 27;
+  arg3 = wholeField text places rows (pos 0) 28;
+  arg4 = wholeField text places rows (pos 0) 29;
   comment = stringField text places 30;
 }

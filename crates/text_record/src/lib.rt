@@ -1,8 +1,6 @@
 // The records of a text map (W-206): the fields of a block by document 002, in its order, read off the places of their values. The
 // definitions are in specs/.
 ghost use mathlib.Core.Path.{_≡_};
-ghost use Prim.Native.Nat.{_≤_};
-ghost use Rattle.text_table.specs.Table.{table};
 ghost use Rattle.text_record.specs.Records.{vertexOf, linedefOf, sidedefOf, sectorOf, thingOf};
 use text_given as fields;
 use text_given::Places;
@@ -111,7 +109,7 @@ pub struct TextThing {
 }
 
 // Each of the five takes the places of a block's values, 0 for none; past their end there is none.
-pub fn vertex_of(text: &[u8], places: &[usize]) -> TextVertex
+pub fn vertex_of(text: &[u8], places: &[usize; 34]) -> TextVertex
     ensures { λ r. ⌜ r ≡ vertexOf (now (text .entry)) (now (places .entry)) ⌝ }
 {
     TextVertex {
@@ -120,24 +118,23 @@ pub fn vertex_of(text: &[u8], places: &[usize]) -> TextVertex
     }
 }
 
-// The rest of the five take the table's rows too, and the first row of the kind, for the defaults. Of a linedef `id` is the default of its
-// id where the namespace decides. The whole numbers come first, since they are those that ask for the rows.
-pub fn linedef_of(text: &[u8], rows: &[u8], places: &[usize], first: usize, id: i32) -> TextLinedef
-    requires { ⌜ (now rows ≡ table) × (first ≤ 91) ⌝ }
-    ensures { λ r. ⌜ r ≡ linedefOf (now (text .entry)) (now (places .entry)) first id ⌝ }
+// The rest of the five take the rows of the kind too, for the defaults: past their end every default is 0. Of a linedef `id` is the default
+// of its id where the namespace decides. The whole numbers come first, since they are those that ask for the rows.
+pub fn linedef_of(text: &[u8], rows: &[u8], places: &[usize; 34], id: i32) -> TextLinedef
+    ensures { λ r. ⌜ r ≡ linedefOf (now (text .entry)) (now (places .entry)) (now (rows .entry)) id ⌝ }
 {
     TextLinedef {
-        id: fields::whole_field(text, rows, places, first, id, 0),
-        v1: fields::whole_field(text, rows, places, first, id, 1),
-        v2: fields::whole_field(text, rows, places, first, id, 2),
-        special: fields::whole_field(text, rows, places, first, id, 25),
-        arg0: fields::whole_field(text, rows, places, first, id, 26),
-        arg1: fields::whole_field(text, rows, places, first, id, 27),
-        arg2: fields::whole_field(text, rows, places, first, id, 28),
-        arg3: fields::whole_field(text, rows, places, first, id, 29),
-        arg4: fields::whole_field(text, rows, places, first, id, 30),
-        sidefront: fields::whole_field(text, rows, places, first, id, 31),
-        sideback: fields::whole_field(text, rows, places, first, id, 32),
+        id: fields::whole_field(text, rows, places, id, 0),
+        v1: fields::whole_field(text, rows, places, id, 1),
+        v2: fields::whole_field(text, rows, places, id, 2),
+        special: fields::whole_field(text, rows, places, id, 25),
+        arg0: fields::whole_field(text, rows, places, id, 26),
+        arg1: fields::whole_field(text, rows, places, id, 27),
+        arg2: fields::whole_field(text, rows, places, id, 28),
+        arg3: fields::whole_field(text, rows, places, id, 29),
+        arg4: fields::whole_field(text, rows, places, id, 30),
+        sidefront: fields::whole_field(text, rows, places, id, 31),
+        sideback: fields::whole_field(text, rows, places, id, 32),
         blocking: fields::flag_field(text, places, 3),
         blockmonsters: fields::flag_field(text, places, 4),
         twosided: fields::flag_field(text, places, 5),
@@ -164,51 +161,48 @@ pub fn linedef_of(text: &[u8], rows: &[u8], places: &[usize], first: usize, id: 
     }
 }
 
-pub fn sidedef_of(text: &[u8], rows: &[u8], places: &[usize], first: usize) -> TextSidedef
-    requires { ⌜ (now rows ≡ table) × (first ≤ 91) ⌝ }
-    ensures { λ r. ⌜ r ≡ sidedefOf (now (text .entry)) (now (places .entry)) first ⌝ }
+pub fn sidedef_of(text: &[u8], rows: &[u8], places: &[usize; 34]) -> TextSidedef
+    ensures { λ r. ⌜ r ≡ sidedefOf (now (text .entry)) (now (places .entry)) (now (rows .entry)) ⌝ }
 {
     TextSidedef {
-        offsetx: fields::whole_field(text, rows, places, first, 0, 0),
-        offsety: fields::whole_field(text, rows, places, first, 0, 1),
+        offsetx: fields::whole_field(text, rows, places, 0, 0),
+        offsety: fields::whole_field(text, rows, places, 0, 1),
         texturetop: fields::string_field(text, places, 2),
         texturebottom: fields::string_field(text, places, 3),
         texturemiddle: fields::string_field(text, places, 4),
-        sector: fields::whole_field(text, rows, places, first, 0, 5),
+        sector: fields::whole_field(text, rows, places, 0, 5),
         comment: fields::string_field(text, places, 6),
     }
 }
 
-pub fn sector_of(text: &[u8], rows: &[u8], places: &[usize], first: usize) -> TextSector
-    requires { ⌜ (now rows ≡ table) × (first ≤ 91) ⌝ }
-    ensures { λ r. ⌜ r ≡ sectorOf (now (text .entry)) (now (places .entry)) first ⌝ }
+pub fn sector_of(text: &[u8], rows: &[u8], places: &[usize; 34]) -> TextSector
+    ensures { λ r. ⌜ r ≡ sectorOf (now (text .entry)) (now (places .entry)) (now (rows .entry)) ⌝ }
 {
     TextSector {
-        heightfloor: fields::whole_field(text, rows, places, first, 0, 0),
-        heightceiling: fields::whole_field(text, rows, places, first, 0, 1),
+        heightfloor: fields::whole_field(text, rows, places, 0, 0),
+        heightceiling: fields::whole_field(text, rows, places, 0, 1),
         texturefloor: fields::string_field(text, places, 2),
         textureceiling: fields::string_field(text, places, 3),
-        lightlevel: fields::whole_field(text, rows, places, first, 0, 4),
-        special: fields::whole_field(text, rows, places, first, 0, 5),
-        id: fields::whole_field(text, rows, places, first, 0, 6),
+        lightlevel: fields::whole_field(text, rows, places, 0, 4),
+        special: fields::whole_field(text, rows, places, 0, 5),
+        id: fields::whole_field(text, rows, places, 0, 6),
         comment: fields::string_field(text, places, 7),
     }
 }
 
-pub fn thing_of(text: &[u8], rows: &[u8], places: &[usize], first: usize) -> TextThing
-    requires { ⌜ (now rows ≡ table) × (first ≤ 91) ⌝ }
-    ensures { λ r. ⌜ r ≡ thingOf (now (text .entry)) (now (places .entry)) first ⌝ }
+pub fn thing_of(text: &[u8], rows: &[u8], places: &[usize; 34]) -> TextThing
+    ensures { λ r. ⌜ r ≡ thingOf (now (text .entry)) (now (places .entry)) (now (rows .entry)) ⌝ }
 {
     TextThing {
-        id: fields::whole_field(text, rows, places, first, 0, 0),
-        angle: fields::whole_field(text, rows, places, first, 0, 4),
-        kind: fields::whole_field(text, rows, places, first, 0, 5),
-        special: fields::whole_field(text, rows, places, first, 0, 24),
-        arg0: fields::whole_field(text, rows, places, first, 0, 25),
-        arg1: fields::whole_field(text, rows, places, first, 0, 26),
-        arg2: fields::whole_field(text, rows, places, first, 0, 27),
-        arg3: fields::whole_field(text, rows, places, first, 0, 28),
-        arg4: fields::whole_field(text, rows, places, first, 0, 29),
+        id: fields::whole_field(text, rows, places, 0, 0),
+        angle: fields::whole_field(text, rows, places, 0, 4),
+        kind: fields::whole_field(text, rows, places, 0, 5),
+        special: fields::whole_field(text, rows, places, 0, 24),
+        arg0: fields::whole_field(text, rows, places, 0, 25),
+        arg1: fields::whole_field(text, rows, places, 0, 26),
+        arg2: fields::whole_field(text, rows, places, 0, 27),
+        arg3: fields::whole_field(text, rows, places, 0, 28),
+        arg4: fields::whole_field(text, rows, places, 0, 29),
         x: fields::decimal_field(text, places, 1),
         y: fields::decimal_field(text, places, 2),
         height: fields::decimal_field(text, places, 3),

@@ -16,28 +16,28 @@ use Rattle.text_value.specs.declared.Reading.the-variants.{NoValue}
 use Rattle.text_number.specs.Numbers.{zeroDigit, plusSign, minusSign, digitsFrom, digitsEnd, hexOk, hexEnd, smallX, wholeOk, decimalOk, isSign, behindSign}
 use Rattle.text_value.specs.Values.{isTrue, isFalse, wholeRead, digitsRead, numberRead, wordRead}
 use Rattle.text_scope.specs.declared.Scope.{Scope}
-use Rattle.text_table.specs.Table.{entryAt, rowSize}
-use Rattle.text_field.specs.Names.{every, longAs, isName, nameIn, fieldNamed, kindNamed, kindRows}
-use Rattle.text_scope.specs.Scopes.{firstRow, rowCount, scopeOf}
+use Rattle.text_table.specs.Table.{rowSize, kindRows, rowsOf}
+use Rattle.text_field.specs.Names.{every, longAs, isName, nameIn, fieldNamed, kindNamed, kindCount}
+use Rattle.text_scope.specs.Scopes.{rowCount, scopeOf}
 use Rattle.text_name.specs.Identifiers.{identifierOk}
 use Rattle.text_same.specs.Tokens.{SameLetters}
 use Rattle.text_same.proofs.Readings.{cond-both, SameReading, same-flag, same-none}
 
 -- the same name of the table
 module _ {v w : List ℕ} (s : SameLetters v w) where
-  is-name : (i : ℕ) → isName v false i ≡ isName w false i
-  is-name i = λ j. longAs i (s .long j) && every (λ k. eqb (s .letters k j) (entryAt (rowSize * i + k))) (s .long j)
+  is-name : (rows : List ℕ) (i : ℕ) → isName v false rows i ≡ isName w false rows i
+  is-name rows i = λ j. longAs rows i (s .long j) && every (λ k. eqb (s .letters k j) (getD rows (rowSize * i + k) 0)) (s .long j)
 
-  name-in : (first passed n : ℕ) → nameIn v false first passed n ≡ nameIn w false first passed n
+  name-in : (rows : List ℕ) (passed n : ℕ) → nameIn v false rows passed n ≡ nameIn w false rows passed n
   unfolding nameIn
-  name-in first passed zero = refl
-  name-in first passed (suc n) = λ j. cond (is-name (first + passed) j) (passed + 1) (name-in first (passed + 1) n j)
+  name-in rows passed zero = refl
+  name-in rows passed (suc n) = λ j. cond (is-name rows passed j) (passed + 1) (name-in rows (passed + 1) n j)
 
   pub field-named : (scope : Scope) → fieldNamed scope v ≡ fieldNamed scope w
-  field-named scope = name-in (firstRow scope) 0 (rowCount scope)
+  field-named scope = name-in (rowsOf scope) 0 (rowCount scope)
 
   pub kind-named : kindNamed v ≡ kindNamed w
-  kind-named = ap scopeOf (name-in 0 0 kindRows)
+  kind-named = ap scopeOf (name-in kindRows 0 kindCount)
 
   pub true-same : isTrue v ≡ isTrue w
   true-same = λ j. (eqb (s .long j) 4 && eqb (s .letters 0 j) 116) && (eqb (s .letters 1 j) 114 && (eqb (s .letters 2 j) 117 && eqb (s .letters 3 j) 101))

@@ -1,16 +1,25 @@
--- Where the rows of a scope stand. Assumes nothing.
-use Prim.Native.Nat.{_+_, _≤_}
-use native.Mathlib.Omega.{arith}
+-- A scope is known by its number. Assumes nothing.
+use Prim.Native.Nat.{ℕ}
+use mathlib.Core.Path.{_≡_, refl, sym, ap, _∙_}
 use Rattle.text_scope.specs.declared.Scope.{Scope}
 use Rattle.text_scope.specs.declared.Scope.the-variants.{Top, Vertex, Linedef, Sidedef, Sector, Thing, Unknown}
-use Rattle.text_scope.specs.Scopes.{firstRow, rowCount}
+use Rattle.text_scope.specs.Scopes.{scopeNumber, scopeOf}
+use lib.Dec.{eqb}
+use mathlib.Core.Bool.{cond}
 
--- the rows of a scope stand in the table
-pub rows-inside : (scope : Scope) → firstRow scope + rowCount scope ≤ 91
-rows-inside Top = omega arith
-rows-inside Vertex = omega arith
-rows-inside Linedef = omega arith
-rows-inside Sidedef = omega arith
-rows-inside Sector = omega arith
-rows-inside Thing = omega arith
-rows-inside Unknown = omega arith
+-- the scope of a number, the top among them
+scopeAt : ℕ → Scope
+scopeAt n = cond (eqb n 0) Top (scopeOf n)
+
+scope-again : (k : Scope) → scopeAt (scopeNumber k) ≡ k
+unfolding scopeAt
+scope-again Top = refl
+scope-again Vertex = refl
+scope-again Linedef = refl
+scope-again Sidedef = refl
+scope-again Sector = refl
+scope-again Thing = refl
+scope-again Unknown = refl
+
+pub number-tells : (a b : Scope) → scopeNumber a ≡ scopeNumber b → a ≡ b
+number-tells a b e = sym (scope-again a) ∙ ap scopeAt e ∙ scope-again b

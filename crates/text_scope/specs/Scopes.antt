@@ -1,20 +1,11 @@
--- Where a name stands in a text map (02, W-206): outside of blocks, or in a block of a kind; and the rows of each in the table. Assumes nothing.
+-- Where a name stands in a text map (02, W-206): outside of blocks, or in a block of a kind; and how many names it has there. Assumes nothing.
 use Prim.Native.Nat.{ℕ}
 use mathlib.Core.Bool.{cond}
 use lib.Dec.{eqb}
 use Rattle.text_scope.specs.declared.Scope.{Scope}
 use Rattle.text_scope.specs.declared.Scope.the-variants.{Top, Vertex, Linedef, Sidedef, Sector, Thing, Unknown}
 
--- the first row of a scope's names, and how many it has: at the top the global name, in a block the fields of its kind
-abbrev pub firstRow : Scope → ℕ
-firstRow Top = 5
-firstRow Vertex = 6
-firstRow Linedef = 8
-firstRow Sidedef = 42
-firstRow Sector = 49
-firstRow Thing = 57
-firstRow Unknown = 88
-
+-- how many names a scope has: at the top the global name, in a block the fields of its kind
 abbrev pub rowCount : Scope → ℕ
 rowCount Top = 1
 rowCount Vertex = 2

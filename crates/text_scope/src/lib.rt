@@ -1,8 +1,8 @@
-// Where names stand in a text map: the scopes, and the rows of each in the table of names (W-206). The definitions are in specs/.
+// Where names stand in a text map: the scopes, and how many names each has (W-206). The definitions are in specs/.
 ghost use mathlib.Core.Bool.{cond};
 ghost use mathlib.Core.Path.{_≡_};
 ghost use Prim.Native.Nat.{_≤_};
-ghost use Rattle.text_scope.specs.Scopes.{firstRow, rowCount, scopeNumber, scopeOf};
+ghost use Rattle.text_scope.specs.Scopes.{rowCount, scopeNumber, scopeOf};
 
 // Where a name stands: outside of blocks, in a block of a known kind, or in one of another name.
 pub enum Scope {
@@ -13,22 +13,6 @@ pub enum Scope {
     Sector,
     Thing,
     Unknown,
-}
-
-// The first row of a scope's names.
-pub fn first_row(scope: Scope) -> usize
-    ensures { λ r. ⌜ r ≡ firstRow scope ⌝ }
-    ensures { λ r. ⌜ r ≤ 88 ⌝ }
-{
-    match scope {
-        Scope::Top => 5,
-        Scope::Vertex => 6,
-        Scope::Linedef => 8,
-        Scope::Sidedef => 42,
-        Scope::Sector => 49,
-        Scope::Thing => 57,
-        Scope::Unknown => 88,
-    }
 }
 
 // How many names a scope has.

@@ -1,6 +1,6 @@
 -- One token of a text map (02, W-206; document 002, "Grammar / Syntax"): what it does where a statement, `=`, a value or `;` is wanted. Each
 -- token that does not fit is 90 at its first byte, so that the first place wins by itself. Assumes nothing.
-use Prim.Native.Nat.{ℕ, _+_, _-_}
+use Prim.Native.Nat.{ℕ, _-_}
 use mathlib.Core.Bool.{Bool, true, false, not, _&&_, _||_, cond}
 use mathlib.Core.List.{List}
 use lib.Dec.{eqb}
@@ -20,8 +20,8 @@ use Rattle.text_value.specs.declared.Reading.the-variants.{Good, WholePast, Dec
 use Rattle.text_value.specs.Values.{tokenRead}
 use Rattle.text_scope.specs.declared.Scope.{Scope}
 use Rattle.text_scope.specs.declared.Scope.the-variants.{Top}
-use Rattle.text_table.specs.Table.{whole, decimal, string, flag, holdsOf}
-use Rattle.text_scope.specs.Scopes.{firstRow, scopeNumber}
+use Rattle.text_table.specs.Table.{whole, decimal, string, flag, rowsOf, holdsOf}
+use Rattle.text_scope.specs.Scopes.{scopeNumber}
 use Rattle.text_field.specs.Names.{fieldNamed, kindNamed}
 use Rattle.text_block.specs.declared.Asked.{Asked}
 use Rattle.text_block.specs.declared.Wanted.{Wanted}
@@ -112,7 +112,7 @@ onEquals text asked s t start end =
 
 -- what name `i` of a scope holds, counted from 1; 0, which is anything, for an unknown one
 abbrev pub heldBy : Scope → ℕ → ℕ
-heldBy scope i = cond (eqb i 0) 0 (holdsOf (firstRow scope + (i - 1)))
+heldBy scope i = cond (eqb i 0) 0 (holdsOf (rowsOf scope) (i - 1))
 
 -- what is held may be given as this: anything where the name is unknown, and a whole number where a decimal is held
 abbrev pub serves : ℕ → ℕ → Bool

@@ -1,11 +1,11 @@
 // What a token of a text map does (W-206) where a statement, `=`, a value or `;` is wanted. The definitions are in specs/.
 ghost use mathlib.Core.Bool.{false, cond};
 ghost use mathlib.Core.Path.{_≡_};
-ghost use Prim.Native.Nat.{_+_, _-_, _≤_};
+ghost use Prim.Native.Nat.{_≤_};
 ghost use lib.ListN.{length};
 ghost use Rattle.refusal.specs.declared.Refusal.the-variants.{TextGrammar, TextNumber};
 ghost use Rattle.refusal.specs.declared.Check.the-variants.{Refused};
-ghost use Rattle.text_table.specs.Table.{table};
+ghost use Rattle.text_table.specs.Table.{kindRows, rowsOf};
 ghost use Rattle.text_block.specs.Blocks.{isFull};
 ghost use Rattle.text_value.specs.Values.{tokenRead};
 ghost use Rattle.text_step.specs.Steps.{goesOn, refusedWith, misfit, isTop, isFound, notesAfter, wantedAfter, closedBlock, onEnd, wantedInside, openedBlock, onBrace};
@@ -89,7 +89,7 @@ pub fn is_top(scope: Scope) -> bool
 // No statement: in a block a closing brace may come, and at the top the text's end. (The kind of the open block was not full where it
 // opened, so that it can be counted.)
 pub fn on_end(rows: &[u8], asked: Asked, places: &[usize; 34], s: Parse, t: Token) -> Parse
-    requires { ⌜ now rows ≡ table ⌝ }
+    requires { ⌜ now rows ≡ rowsOf (s .scope) ⌝ }
     requires { ⌜ isFull (s .notes .counts) (s .scope) ≡ false ⌝ }
     ensures { λ r. ⌜ r ≡ onEnd asked (now (places .entry)) s t ⌝ }
 {
@@ -106,7 +106,7 @@ pub fn on_end(rows: &[u8], asked: Asked, places: &[usize; 34], s: Parse, t: Toke
 
 // A closing brace: 92 there where a field without default is missing.
 fn closed_block(rows: &[u8], asked: Asked, places: &[usize; 34], s: Parse, t: Token) -> Parse
-    requires { ⌜ now rows ≡ table ⌝ }
+    requires { ⌜ now rows ≡ rowsOf (s .scope) ⌝ }
     requires { ⌜ isFull (s .notes .counts) (s .scope) ≡ false ⌝ }
     ensures { λ r. ⌜ r ≡ closedBlock asked (now (places .entry)) s t ⌝ }
 {
@@ -174,13 +174,13 @@ fn notes_after(asked: Asked, s: Parse, next: usize) -> Notes
 }
 
 // An opening brace behind a name at the top.
-pub fn on_brace(rows: &[u8], asked: Asked, s: Parse, t: Token, start: usize, name: &[u8]) -> Parse
-    requires { ⌜ now rows ≡ table ⌝ }
+pub fn on_brace(kinds: &[u8], asked: Asked, s: Parse, t: Token, start: usize, name: &[u8]) -> Parse
+    requires { ⌜ now kinds ≡ kindRows ⌝ }
     ensures { λ r. ⌜ r ≡ onBrace asked s t start (now (name .entry)) ⌝ }
 {
     let scope = s.scope;
     if is_top(scope) & (t.form == bytes::OPEN_BRACE) {
-        return opened_block(asked, s, t, start, text_field::kind_named(rows, name));
+        return opened_block(asked, s, t, start, text_field::kind_named(kinds, name));
     }
     misfit(s, t)
 }
@@ -215,7 +215,7 @@ fn wanted_inside(asked: Asked, kind: Scope) -> Wanted
 
 // A token where a value is wanted for a name of the scope, counted from 1, 0 for an unknown one.
 pub fn judge_value(text: &[u8], rows: &[u8], scope: Scope, t: Token, field: usize) -> Check
-    requires { ⌜ now rows ≡ table ⌝ }
+    requires { ⌜ now rows ≡ rowsOf scope ⌝ }
     requires { ⌜ (t .start ≤ t .end) × (t .end ≤ length (now text)) ⌝ }
     ensures { λ r. ⌜ r ≡ valueCheck (heldBy scope field) (tokenRead (now (text .entry)) t) (t .start) ⌝ }
 {
@@ -223,18 +223,18 @@ pub fn judge_value(text: &[u8], rows: &[u8], scope: Scope, t: Token, field: usiz
     value_check(held, text_value::read(text, t), t.start)
 }
 
-// What a name of a scope holds; 0, which is anything, for an unknown one. (No number of a name is above that of the rows.)
+// What a name of a scope holds; 0, which is anything, for an unknown one. (No scope has more than 34 names.)
 fn held_by(rows: &[u8], scope: Scope, i: usize) -> u8
-    requires { ⌜ now rows ≡ table ⌝ }
+    requires { ⌜ now rows ≡ rowsOf scope ⌝ }
     ensures { λ r. ⌜ r ≡ heldBy scope i ⌝ }
 {
     if i == 0 {
         return 0;
     }
-    if text_table::ROWS < i {
+    if 34 < i {
         return 0;
     }
-    text_table::holds_of(rows, text_scope::first_row(scope) + (i - 1))
+    text_table::holds_of(rows, i - 1)
 }
 
 // 90 for no value or one of the wrong kind, and 91 for a number past its limits where its kind is right.
@@ -298,9 +298,21 @@ fn notes_assigned(s: Parse, field: usize, place: usize) -> Notes
     ensures { λ r. ⌜ r ≡ notesAssigned s field place ⌝ }
 {
     let scope = s.scope;
-    let mut n = s.notes;
-    if is_top(scope) & (field != 0) {
-        n.namespace = place;
+    let n = s.notes;
+    let counts = n.counts;
+    let kind = n.kind;
+    Notes {
+        namespace: place_if(is_top(scope) & (field != 0), place, n.namespace),
+        counts,
+        found: n.found,
+        kind,
+        block: n.block,
+        next: n.next,
     }
-    n
+}
+
+fn place_if(ok: bool, place: usize, before: usize) -> usize
+    ensures { λ r. ⌜ r ≡ cond ok place before ⌝ }
+{
+    if ok { place } else { before }
 }

@@ -1,13 +1,14 @@
 -- The names of a text map (02, W-206; document 002, "Standardized Fields" and its last note): the kinds of block, the global name, and the
 -- fields of each kind in the document's order, each with what it holds and what it is where no value is given. Assumes nothing.
-use Prim.Native.Nat.{ℕ, _+_, _-_, _*_}
+use Prim.Native.Nat.{ℕ, _+_, _*_}
 use Prim.Native.Char.{Char, code}
 use Prim.Native.String.{String, [] as []ˢ, _∷_ as _∷ˢ_}
 use mathlib.Core.Bool.{Bool}
 use mathlib.Core.List.{List, [], _∷_, _++_}
 use lib.Dec.{eqb}
-use lib.IntN.{ℤ, pos, negsuc}
-use lib.ListN.{length, getD, take, replicate}
+use lib.ListN.{getD, take, replicate}
+use Rattle.text_scope.specs.declared.Scope.{Scope}
+use Rattle.text_scope.specs.declared.Scope.the-variants.{Top, Vertex, Linedef, Sidedef, Sector, Thing, Unknown}
 
 -- the bytes of a text of ASCII
 abbrev pub bytes : String → List ℕ
@@ -65,21 +66,45 @@ rowSize = 18
 abbrev pub row : String → ℕ → ℕ → List ℕ
 row name holds default = take nameRoom (bytes name ++ replicate nameRoom 32) ++ holds ∷ default ∷ []
 
-abbrev pub rows : List (List ℕ)
-rows =
-    -- the kinds of block
+-- the bytes of several rows
+abbrev pub joined : List (List ℕ) → List ℕ
+joined [] = []
+joined (xs ∷ ls) = xs ++ joined ls
+
+-- the kinds of block
+unfoldable pub kindRows : List ℕ
+kindRows =
+    joined (
     row "vertex" blockName none
     ∷ row "linedef" blockName none
     ∷ row "sidedef" blockName none
     ∷ row "sector" blockName none
     ∷ row "thing" blockName none
-    -- the one global name
-    ∷ row "namespace" string zeroValue
-    -- vertex
-    ∷ row "x" decimal required
+    ∷ []
+    )
+
+-- the one global name
+unfoldable pub globalRows : List ℕ
+globalRows =
+    joined (
+    row "namespace" string zeroValue
+    ∷ []
+    )
+
+-- the fields of a vertex
+unfoldable pub vertexRows : List ℕ
+vertexRows =
+    joined (
+    row "x" decimal required
     ∷ row "y" decimal required
-    -- linedef
-    ∷ row "id" whole byNamespace
+    ∷ []
+    )
+
+-- of a linedef
+unfoldable pub linedefRows : List ℕ
+linedefRows =
+    joined (
+    row "id" whole byNamespace
     ∷ row "v1" whole required
     ∷ row "v2" whole required
     ∷ row "blocking" flag zeroValue
@@ -113,16 +138,28 @@ rows =
     ∷ row "sidefront" whole required
     ∷ row "sideback" whole minusOne
     ∷ row "comment" string zeroValue
-    -- sidedef
-    ∷ row "offsetx" whole zeroValue
+    ∷ []
+    )
+
+-- of a sidedef
+unfoldable pub sidedefRows : List ℕ
+sidedefRows =
+    joined (
+    row "offsetx" whole zeroValue
     ∷ row "offsety" whole zeroValue
     ∷ row "texturetop" string zeroValue
     ∷ row "texturebottom" string zeroValue
     ∷ row "texturemiddle" string zeroValue
     ∷ row "sector" whole required
     ∷ row "comment" string zeroValue
-    -- sector
-    ∷ row "heightfloor" whole zeroValue
+    ∷ []
+    )
+
+-- of a sector
+unfoldable pub sectorRows : List ℕ
+sectorRows =
+    joined (
+    row "heightfloor" whole zeroValue
     ∷ row "heightceiling" whole zeroValue
     ∷ row "texturefloor" string required
     ∷ row "textureceiling" string required
@@ -130,8 +167,14 @@ rows =
     ∷ row "special" whole zeroValue
     ∷ row "id" whole zeroValue
     ∷ row "comment" string zeroValue
-    -- thing
-    ∷ row "id" whole zeroValue
+    ∷ []
+    )
+
+-- of a thing
+unfoldable pub thingRows : List ℕ
+thingRows =
+    joined (
+    row "id" whole zeroValue
     ∷ row "x" decimal required
     ∷ row "y" decimal required
     ∷ row "height" decimal zeroValue
@@ -162,33 +205,37 @@ rows =
     ∷ row "arg3" whole zeroValue
     ∷ row "arg4" whole zeroValue
     ∷ row "comment" string zeroValue
-    -- the namespaces whose linedefs have id 0 by default
-    ∷ row "Doom" exactName none
+    ∷ []
+    )
+
+-- the namespaces whose linedefs have id 0 by default
+unfoldable pub namespaceRows : List ℕ
+namespaceRows =
+    joined (
+    row "Doom" exactName none
     ∷ row "Heretic" exactName none
     ∷ row "Strife" exactName none
     ∷ []
+    )
 
--- the bytes of several rows
-abbrev pub joined : List (List ℕ) → List ℕ
-joined [] = []
-joined (xs ∷ ls) = xs ++ joined ls
+-- the rows of a scope's names: at the top the global name, in a block the fields of its kind
+abbrev pub rowsOf : Scope → List ℕ
+rowsOf Top = globalRows
+rowsOf Vertex = vertexRows
+rowsOf Linedef = linedefRows
+rowsOf Sidedef = sidedefRows
+rowsOf Sector = sectorRows
+rowsOf Thing = thingRows
+rowsOf Unknown = []
 
--- the table
-unfoldable pub table : List ℕ
-table = joined rows
+-- what the field of row `i` holds, 0 past the last
+abbrev pub holdsOf : List ℕ → ℕ → ℕ
+holdsOf rows i = getD rows (rowSize * i + 16) 0
 
--- byte `i` of the table, 0 past its end
-abbrev pub entryAt : ℕ → ℕ
-entryAt i = getD table i 0
-
--- what the field of row `i` holds
-abbrev pub holdsOf : ℕ → ℕ
-holdsOf i = entryAt (rowSize * i + 16)
-
--- what it is by default
-abbrev pub defaultOf : ℕ → ℕ
-defaultOf i = entryAt (rowSize * i + 17)
+-- what it is by default, 0 past the last
+abbrev pub defaultOf : List ℕ → ℕ → ℕ
+defaultOf rows i = getD rows (rowSize * i + 17) 0
 
 -- the field of row `i` has no default
-abbrev pub isRequired : ℕ → Bool
-isRequired i = eqb (defaultOf i) required
+abbrev pub isRequired : List ℕ → ℕ → Bool
+isRequired rows i = eqb (defaultOf rows i) required

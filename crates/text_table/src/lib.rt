@@ -1,14 +1,19 @@
-// The names that a text map knows, as one constant table (W-206). The definitions are in specs/.
+// The names that a text map knows, as constant rows, a table for each scope (W-206). The definitions are in specs/.
 ghost use mathlib.Core.Path.{_≡_};
-ghost use Prim.Native.Nat.{_+_, _*_, _<_};
-ghost use Rattle.text_table.specs.Table.{table, entryAt, holdsOf, defaultOf, isRequired, rowSize};
+ghost use Prim.Native.Nat.{_+_, _*_, _≤_, _<_};
+ghost use lib.ListN.{length, take};
+ghost use Rattle.text_scope.specs.Scopes.{rowCount};
+ghost use Rattle.text_table.specs.Table.{rowSize, kindRows, vertexRows, linedefRows, sidedefRows, sectorRows, thingRows, namespaceRows};
+ghost use Rattle.text_table.specs.Table.{globalRows, rowsOf, holdsOf, defaultOf, isRequired};
+use text_byte as bytes;
+use text_scope::Scope;
 
-// How many rows there are, the bytes of each, and the room of a name in it.
-pub const ROWS: usize = 91;
-
+// The bytes of a row, the room of a name in it, and of all rows of a scope.
 pub const ROW_SIZE: usize = 18;
 
 pub const NAME_ROOM: usize = 16;
+
+pub const SCOPE_ROOM: usize = 612;
 
 // What a field holds, as the letter of its row.
 pub const WHOLE: u8 = b'w';
@@ -29,15 +34,18 @@ pub const LIGHT: u8 = b'l';
 pub const BY_NAMESPACE: u8 = b'n';
 
 // A row for each name, of 18 bytes: the name in 16, the letter of what it holds and that of its default.
-const TABLE: [u8; 1638] = *b"vertex          b \
+const KINDS: [u8; 90] = *b"vertex          b \
     linedef         b \
     sidedef         b \
     sector          b \
-    thing           b \
-    namespace       s0\
-    x               d!\
-    y               d!\
-    id              wn\
+    thing           b ";
+
+const GLOBALS: [u8; 18] = *b"namespace       s0";
+
+const VERTEX: [u8; 36] = *b"x               d!\
+    y               d!";
+
+const LINEDEF: [u8; 612] = *b"id              wn\
     v1              w!\
     v2              w!\
     blocking        f0\
@@ -70,23 +78,26 @@ const TABLE: [u8; 1638] = *b"vertex          b \
     arg4            w0\
     sidefront       w!\
     sideback        wm\
-    comment         s0\
-    offsetx         w0\
+    comment         s0";
+
+const SIDEDEF: [u8; 126] = *b"offsetx         w0\
     offsety         w0\
     texturetop      s0\
     texturebottom   s0\
     texturemiddle   s0\
     sector          w!\
-    comment         s0\
-    heightfloor     w0\
+    comment         s0";
+
+const SECTOR: [u8; 144] = *b"heightfloor     w0\
     heightceiling   w0\
     texturefloor    s!\
     textureceiling  s!\
     lightlevel      wl\
     special         w0\
     id              w0\
-    comment         s0\
-    id              w0\
+    comment         s0";
+
+const THING: [u8; 558] = *b"id              w0\
     x               d!\
     y               d!\
     height          d0\
@@ -116,57 +127,114 @@ const TABLE: [u8; 1638] = *b"vertex          b \
     arg2            w0\
     arg3            w0\
     arg4            w0\
-    comment         s0\
-    Doom            e \
+    comment         s0";
+
+const NAMESPACES: [u8; 54] = *b"Doom            e \
     Heretic         e \
     Strife          e ";
 
-// The table, for a caller to hold while he reads: a function that names a constant array writes all of it anew at each call.
-pub fn rows() -> [u8; 1638]
-    ensures { λ r. ⌜ r ≡ table ⌝ }
+// The rows, for a caller to hold while he reads: a function that names a constant array writes all of it anew at each call.
+pub fn kinds() -> [u8; 90]
+    ensures { λ r. ⌜ r ≡ kindRows ⌝ }
 {
-    TABLE
+    KINDS
+}
+
+fn globals() -> [u8; 18]
+    ensures { λ r. ⌜ r ≡ globalRows ⌝ }
+{
+    GLOBALS
+}
+
+pub fn vertex() -> [u8; 36]
+    ensures { λ r. ⌜ r ≡ vertexRows ⌝ }
+{
+    VERTEX
+}
+
+pub fn linedef() -> [u8; 612]
+    ensures { λ r. ⌜ r ≡ linedefRows ⌝ }
+{
+    LINEDEF
+}
+
+pub fn sidedef() -> [u8; 126]
+    ensures { λ r. ⌜ r ≡ sidedefRows ⌝ }
+{
+    SIDEDEF
+}
+
+pub fn sector() -> [u8; 144]
+    ensures { λ r. ⌜ r ≡ sectorRows ⌝ }
+{
+    SECTOR
+}
+
+pub fn thing() -> [u8; 558]
+    ensures { λ r. ⌜ r ≡ thingRows ⌝ }
+{
+    THING
+}
+
+pub fn namespaces() -> [u8; 54]
+    ensures { λ r. ⌜ r ≡ namespaceRows ⌝ }
+{
+    NAMESPACES
+}
+
+// The rows of a scope, at the front of what is lent. So only those of scopes that are met are written.
+pub fn load(scope: Scope, rows: &mut [u8; 612])
+    requires { ⌜ length (now rows) ≡ 612 ⌝ }
+    ensures { λ _. ⌜ take (rowSize * rowCount scope) (now (rows .exit)) ≡ rowsOf scope ⌝ }
+    ensures { λ _. ⌜ length (now (rows .exit)) ≡ 612 ⌝ }
+{
+    match scope {
+        Scope::Top => put(&globals(), rows),
+        Scope::Vertex => put(&vertex(), rows),
+        Scope::Linedef => put(&linedef(), rows),
+        Scope::Sidedef => put(&sidedef(), rows),
+        Scope::Sector => put(&sector(), rows),
+        Scope::Thing => put(&thing(), rows),
+        Scope::Unknown => {}
+    }
+}
+
+// How many bytes the rows of a scope have.
+pub fn size_of(scope: Scope) -> usize
+    ensures { λ r. ⌜ (r ≡ rowSize * rowCount scope) × (r ≤ 612) ⌝ }
+{
+    ROW_SIZE * text_scope::row_count(scope)
+}
+
+fn put(from: &[u8], rows: &mut [u8; 612])
+    requires { ⌜ (length (now from) ≤ 612) × (length (now rows) ≡ 612) ⌝ }
+    ensures { λ _. ⌜ take (length (now (from .entry))) (now (rows .exit)) ≡ now (from .entry) ⌝ }
+    ensures { λ _. ⌜ length (now (rows .exit)) ≡ 612 ⌝ }
+{
+    for i in 0..from.len() {
+        rows[i] = from[i];
+    }
 }
 
 // What the field of row `i` holds; 0 past the last.
 pub fn holds_of(rows: &[u8], i: usize) -> u8
-    requires { ⌜ now rows ≡ table ⌝ }
-    ensures { λ r. ⌜ r ≡ holdsOf i ⌝ }
+    requires { ⌜ i < 34 ⌝ }
+    ensures { λ r. ⌜ r ≡ holdsOf (now (rows .entry)) i ⌝ }
 {
-    letter_of(rows, i, 16)
+    bytes::byte_at(rows, ROW_SIZE * i + 16)
 }
 
 // What it is by default; 0 past the last.
 pub fn default_of(rows: &[u8], i: usize) -> u8
-    requires { ⌜ now rows ≡ table ⌝ }
-    ensures { λ r. ⌜ r ≡ defaultOf i ⌝ }
+    requires { ⌜ i < 34 ⌝ }
+    ensures { λ r. ⌜ r ≡ defaultOf (now (rows .entry)) i ⌝ }
 {
-    letter_of(rows, i, 17)
+    bytes::byte_at(rows, ROW_SIZE * i + 17)
 }
 
 pub fn is_required(rows: &[u8], i: usize) -> bool
-    requires { ⌜ now rows ≡ table ⌝ }
-    ensures { λ r. ⌜ r ≡ isRequired i ⌝ }
+    requires { ⌜ i < 34 ⌝ }
+    ensures { λ r. ⌜ r ≡ isRequired (now (rows .entry)) i ⌝ }
 {
     default_of(rows, i) == REQUIRED
-}
-
-fn letter_of(rows: &[u8], i: usize, k: usize) -> u8
-    requires { ⌜ now rows ≡ table ⌝ }
-    requires { ⌜ k < 18 ⌝ }
-    ensures { λ r. ⌜ r ≡ entryAt (rowSize * i + k) ⌝ }
-{
-    if ROWS <= i {
-        return 0;
-    }
-    rows[ROW_SIZE * i + k]
-}
-
-// Byte `k` of row `i`.
-pub fn row_byte(rows: &[u8], i: usize, k: usize) -> u8
-    requires { ⌜ now rows ≡ table ⌝ }
-    requires { ⌜ (i < 91) × (k < 16) ⌝ }
-    ensures { λ r. ⌜ r ≡ entryAt (rowSize * i + k) ⌝ }
-{
-    rows[ROW_SIZE * i + k]
 }

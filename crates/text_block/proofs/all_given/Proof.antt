@@ -8,8 +8,8 @@ use Rattle.text_block.proofs.all_given.Statement.{statement}
 use Rattle.text_block.proofs.all_given.Tie as tie
 
 returns : tie.Need-returns
-returns c = let places = now (c .before .before .before .before .args .places) in
-    c .given-from .ensures ∙ (λ i. every (isGiven (c .before .before .first-row .ensures .0 i) places) (c .before .row-count .ensures .0 i))
+returns c = let a = c .before .before .before in
+    c .given-in .ensures ∙ (λ i. every (isGiven (a .pre i) (now (a .args .places))) (c .before .row-count .ensures .0 i))
 
 pub all-given-spec : {M : Type 1} → statement M
-all-given-spec = tie.close (tie.spec (λ c κs. search needs) (λ c κs. search needs) (λ c κs. search needs) returns)
+all-given-spec = tie.close (tie.spec (λ c κs. search needs) (λ c κs. search needs) returns)

@@ -1,24 +1,27 @@
--- `text_field::field_named` meets its contract: a scope's rows stand in the table. Assumes nothing.
+-- `text_field::field_named` meets its contract: the rows are a scope's. Assumes nothing.
+use Prim.Native.Nat.{ℕ, _≤_}
 use mathlib.Core.Bool.{false}
-use mathlib.Core.Path.{_∙_}
+use mathlib.Core.Path.{_≡_, sym, ap, _∙_}
 use native.Mathlib.Omega.{arith}
 use borrow.Author.Needs.{needs}
 use denote.Ref.{now}
+use lib.ListN.{length}
 use Rattle.text_field.specs.Names.{nameIn}
-use Rattle.text_scope.proofs.Scopes.{rows-inside}
+use Rattle.text_table.proofs.Table.{length-rows}
 use Rattle.text_field.proofs.field_named.Statement.{statement}
 use Rattle.text_field.proofs.field_named.Tie as tie
 
 name-in-requires : tie.Need-name-in-requires
 name-in-requires c κs =
-    let a = c .before .before .before .before in
-    let h = rows-inside (a .args .scope) in
-    (a .pre, omega arith)
+    let a = c .before .before .before in
+    let long = ap length (a .pre) ∙ length-rows (a .args .scope) in
+    let count = c .row-count .ensures in
+    (omega (arith, count .0, count .1), omega (arith, long, count .0))
 
 returns : tie.Need-returns
 returns c =
-    let word = now (c .before .before .before .before .before .args .word) in
-    c .name-in .ensures ∙ (λ i. nameIn word false (c .before .before .first-row .ensures .0 i) 0 (c .before .row-count .ensures .0 i))
+    let a = c .before .before .before .before in
+    c .name-in .ensures ∙ (λ i. nameIn (now (a .args .word)) false (a .pre i) 0 (c .before .row-count .ensures .0 i))
 
 pub field-named-spec : {M : Type 1} → statement M
-field-named-spec = tie.close (tie.spec (λ c κs. search needs) (λ c κs. search needs) name-in-requires returns)
+field-named-spec = tie.close (tie.spec (λ c κs. search needs) name-in-requires returns)

@@ -9,13 +9,12 @@ use denote.Ref.{now}
 use lib.Dec.{eqb}
 use lib.ListN.{length, getD}
 use Rattle.text_field.specs.Names.{every, sameAt}
-use Rattle.text_table.proofs.Table.{length-table}
 use Rattle.text_field.proofs.Names.{every-none, every-more, every-stop, every-done}
 use Rattle.text_field.proofs.is_same.Statement.{statement}
 use Rattle.text_field.proofs.is_same.Tie as tie
 
 abbrev Inv-loop : tie.InvT-loop
-Inv-loop rows word exact i k₀ k-end k = (k ≤ length word) × (true ≡ every (sameAt word exact i) k)
+Inv-loop rows word exact i k₀ k-end k = (k ≤ length word) × (true ≡ every (sameAt word exact rows i) k)
 
 abbrev μ-loop : tie.MeasureT-loop
 μ-loop rows word exact i k₀ k-end k = length word - k
@@ -25,19 +24,18 @@ loop-holds c = (omega arith, every-none _)
 
 in-row : tie.Need-shared-slice-read-if1 Inv-loop μ-loop
 in-row c =
-    let a = c .before .before .before .before .before .before .before in
-    let e = ap length (a .pre .0) ∙ length-table in
-    omega arith
+    let h = c .before .before .before .before .before .before .before .pre in
+    omega (arith, h .0 .1, h .1)
 
 -- the test is that of the letter
 tested : (c : tie.After-shared-slice-known4 Inv-loop μ-loop)
     → let l = c .before .before .before .before in
     let a = l .before .before .before .args in
-    sameAt (now (a .word)) (a .exact) (a .i) (l .loop .k) ≡ eqb (c .before .letter .result) (getD (now (a .rows)) (18 * a .i + l .loop .k) 0)
+    sameAt (now (a .word)) (a .exact) (now (a .rows)) (a .i) (l .loop .k) ≡ eqb (c .before .letter .result) (getD (now (a .rows)) (18 * a .i + l .loop .k) 0)
 tested c =
     let l = c .before .before .before .before in
-    let a = l .before .before .before in
-    sym (λ j. eqb (c .before .letter .ensures j) (getD (a .pre .0 j) (18 * a .args .i + l .loop .k) 0))
+    let a = l .before .before .before .args in
+    sym (λ j. eqb (c .before .letter .ensures j) (getD (now (a .rows)) (18 * a .i + l .loop .k) 0))
 
 returns : tie.Need-returns Inv-loop μ-loop
 returns c = every-stop _ _ _ (c .before .before .before .before .loop-test .taken) (tested (c .before) ∙ ne-eqb _ _ (c .if1 .taken))

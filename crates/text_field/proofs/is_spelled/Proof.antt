@@ -1,48 +1,58 @@
 -- `text_field::is_spelled` meets its contract: its tests in the definition's order. Assumes nothing.
 use Prim.Native.Nat.{ℕ, _+_, _-_, _*_}
+use mathlib.Core.List.{List}
 use mathlib.Core.Path.{_≡_, sym, ap, _∙_}
+use native.Mathlib.Omega.{arith}
 use borrow.Author.Needs.{needs}
 use borrow.Author.Tests.{eq-eqb, ne-eqb, lt-ltb, le-ltb}
 use denote.Ref.{now}
 use lib.Dec.{eqb}
-use lib.ListN.{length}
-use Rattle.text_table.specs.Table.{entryAt, rowSize}
+use lib.ListN.{length, getD}
+use Rattle.text_table.specs.Table.{rowSize}
 use Rattle.text_field.proofs.is_spelled.Statement.{statement}
 use Rattle.text_field.proofs.is_spelled.Tie as tie
 
--- the test of a row's byte is that of the table's
-byte : {x y : ℕ} → x ≡ y → eqb y 32 ≡ eqb x 32
-byte e = ap (λ (z : ℕ). eqb z 32) (sym e)
+-- the last letter stands one before the name's end
+last : (rows : List ℕ) (i n : ℕ) {k : ℕ} → k ≡ n - 1 → eqb (getD rows (rowSize * i + (n - 1)) 0) 32 ≡ eqb (getD rows (rowSize * i + k) 0) 32
+last rows i n e = ap (λ (z : ℕ). eqb (getD rows (rowSize * i + z) 0) 32) (sym e)
 
-last : (i n : ℕ) {x k : ℕ} → k ≡ n - 1 → x ≡ entryAt (rowSize * i + k) → eqb (entryAt (rowSize * i + (n - 1))) 32 ≡ eqb x 32
-last i n e f = ap (λ (z : ℕ). eqb (entryAt (rowSize * i + z)) 32) (sym e) ∙ byte f
+in-row : tie.Need-shared-slice-read-if2
+in-row c = let h = c .before .before .before .before .pre in omega (arith, h .0, h .1)
+
+in-row-2 : tie.Need-shared-slice-read-if3
+in-row-2 c =
+    let h = c .before .before .before .before .before .before .before .pre in
+    let k = c .before .one-less .ensures .1 in
+    omega (arith, h .0, h .1, k)
 
 returns : tie.Need-returns
 returns c = simp (le-ltb _ _ (c .if1 .taken))
 
 returns-2 : tie.Need-returns-2
-returns-2 c = simp (lt-ltb _ _ (c .before .before .if1 .left), byte (c .before .row-byte .ensures) ∙ ne-eqb _ _ (c .if2 .taken))
+returns-2 c = simp (lt-ltb _ _ (c .before .before .if1 .left), ne-eqb _ _ (c .if2 .taken))
 
 returns-3 : tie.Need-returns-3
 returns-3 c =
-    let d = c .before .before .before in
+    let a = c .before .before .before .before .before .before .before .before .args in
     simp (
-      lt-ltb _ _ (d .before .before .if1 .left),
-      byte (d .before .row-byte .ensures) ∙ eq-eqb _ _ (d .if2 .left),
-      last (d .before .before .before .before .before .args .i) (length (now (d .before .before .before .before .before .args .word))) (c .before .before .one-less .ensures .0) (c .before .row-byte2 .ensures) ∙ eq-eqb _ _ (c .if3 .taken),
+      lt-ltb _ _ (c .before .before .before .before .before .if1 .left),
+      eq-eqb _ _ (c .before .before .before .if2 .left),
+      last (now (a .rows)) (a .i) (length (now (a .word))) (c .before .before .one-less .ensures .0) ∙ eq-eqb _ _ (c .if3 .taken),
     )
 
 returns-4 : tie.Need-returns-4
 returns-4 c =
     let f = c .before in
-    let d = f .before .before .before in
+    let a = f .before .before .before .before .before .before .before .before .args in
     simp (
-      lt-ltb _ _ (d .before .before .if1 .left),
-      byte (d .before .row-byte .ensures) ∙ eq-eqb _ _ (d .if2 .left),
-      last (d .before .before .before .before .before .args .i) (length (now (d .before .before .before .before .before .args .word))) (f .before .before .one-less .ensures .0) (f .before .row-byte2 .ensures) ∙ ne-eqb _ _ (f .if3 .left),
+      lt-ltb _ _ (f .before .before .before .before .before .if1 .left),
+      eq-eqb _ _ (f .before .before .before .if2 .left),
+      last (now (a .rows)) (a .i) (length (now (a .word))) (f .before .before .one-less .ensures .0) ∙ ne-eqb _ _ (f .if3 .left),
     )
     (c .is-same .ensures)
 
 pub is-spelled-spec : {M : Type 1} → statement M
 is-spelled-spec =
-    tie.close (tie.spec returns (λ c κs. search needs) returns-2 (λ c κs. search needs) (λ c κs. search needs) returns-3 (λ c κs. search needs) returns-4)
+    tie.close
+    (tie.spec returns (λ c. search needs) (λ c. search needs) in-row returns-2 (λ c. search needs) (λ c κs. search needs) (λ c. search needs) in-row-2
+    returns-3 (λ c κs. search needs) returns-4)

@@ -1,16 +1,23 @@
 -- `text_field::kind_named` meets its contract: what its calls answer. Assumes nothing.
+use mathlib.Core.Bool.{false}
+use mathlib.Core.Path.{sym, ap, _∙_}
+use native.Mathlib.Omega.{arith}
 use borrow.Author.Needs.{needs}
+use denote.Ref.{now}
+use lib.ListN.{length}
+use Rattle.text_scope.specs.Scopes.{scopeOf}
+use Rattle.text_table.proofs.Table.{length-kinds}
+use Rattle.text_field.specs.Names.{nameIn}
 use Rattle.text_field.proofs.kind_named.Statement.{statement}
 use Rattle.text_field.proofs.kind_named.Tie as tie
 
 name-in-requires : tie.Need-name-in-requires
-name-in-requires c κs = search needs
-
-scope-of-requires : tie.Need-scope-of-requires
-scope-of-requires c κs = search needs
+name-in-requires c κs = let long = ap length (c .before .before .pre) ∙ length-kinds in (omega arith, omega (arith, long))
 
 returns : tie.Need-returns
-returns c = rw (c .scope-of .ensures, c .before .name-in .ensures)
+returns c =
+    let a = c .before .before .before .before in
+    c .scope-of .ensures ∙ ap scopeOf (c .before .name-in .ensures ∙ (λ i. nameIn (now (a .args .word)) false (a .pre i) 0 5))
 
 pub kind-named-spec : {M : Type 1} → statement M
-kind-named-spec = tie.close (tie.spec name-in-requires scope-of-requires returns)
+kind-named-spec = tie.close (tie.spec name-in-requires (λ c κs. search needs) returns)

@@ -1,13 +1,24 @@
 -- `text_field::zero_ids` meets its contract: what its calls answer. Assumes nothing.
+use Prim.Native.Nat.{ℕ}
+use mathlib.Core.Bool.{true}
+use mathlib.Core.Path.{sym, ap, _∙_}
+use native.Mathlib.Omega.{arith}
 use borrow.Author.Needs.{needs}
+use denote.Ref.{now}
+use lib.Dec.{ltb}
+use lib.ListN.{length}
+use Rattle.text_table.proofs.Table.{length-namespaces}
+use Rattle.text_field.specs.Names.{nameIn}
 use Rattle.text_field.proofs.zero_ids.Statement.{statement}
 use Rattle.text_field.proofs.zero_ids.Tie as tie
 
 name-in-requires : tie.Need-name-in-requires
-name-in-requires c κs = search needs
+name-in-requires c κs = let long = ap length (c .before .before .pre) ∙ length-namespaces in (omega arith, omega (arith, long))
 
 returns : tie.Need-returns
-returns c = rw (c .name-in .ensures)
+returns c =
+    let a = c .before .before .before in
+    ap (ltb 0) (c .name-in .ensures ∙ (λ i. nameIn (now (a .args .namespace)) true (a .pre i) 0 3))
 
 pub zero-ids-spec : {M : Type 1} → statement M
 zero-ids-spec = tie.close (tie.spec name-in-requires returns)

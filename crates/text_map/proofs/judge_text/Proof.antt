@@ -10,7 +10,7 @@ use Rattle.text_map.proofs.judge_text.Tie as tie
 returns : tie.Need-returns
 returns c =
     let text = now (c .before .before .before .before .args .text) in
-    c .summary-by .ensures ∙ ap (λ (s : Parse). summaryBy text s (s .check)) (c .before .before .read .ensures .0)
+    c .summary-by .ensures ∙ ap (λ (s : Parse). summaryBy text s (s .check)) (c .before .read .ensures .0)
 
 pub judge-text-spec : {M : Type 1} → statement M
 judge-text-spec = tie.close (tie.spec (λ c κs. search needs) (λ c κs. search needs) returns)

@@ -6,6 +6,7 @@ use borrow.Author.Needs.{needs}
 use borrow.Author.Tests.{eq-eqb, ne-eqb}
 use denote.Ref.{now}
 use lib.Dec.{eqb}
+use Rattle.text_table.specs.Table.{rowsOf}
 use Rattle.text_field.specs.Names.{fieldNamed}
 use Rattle.text_block.specs.Blocks.{noPlaces}
 use Rattle.text_block.specs.declared.Wanted.the-variants.{Value}
@@ -17,12 +18,13 @@ use Rattle.text_reader.proofs.behind_name.Tie as tie
 
 behind-equals-requires : tie.Need-behind-equals-requires
 behind-equals-requires c κs =
-    let b = c .before .before .before .before .before .before .before .before .before in
-    (b .pre .0, (ap (λ (r : Parse). r .wanted) (c .before .goes-on .ensures), b .pre .1 .1))
+    let b = c .before .before .before .before .before .before .before .before .before .before in
+    let on = c .before .goes-on .ensures in
+    (b .pre .0 .1 ∙ ap (λ (r : Parse). rowsOf (r .scope)) (sym on), (ap (λ (r : Parse). r .wanted) on, b .pre .1 .1))
 
 returns : tie.Need-returns
 returns c =
-    let b = c .before .before .before .before .before .before .before .before .before .before in
+    let b = c .before .before .before .before .before .before .before .before .before .before .before in
     let a = b .args in
     let t = c .before .before .before .before .before .before .before .mark-at in
     let form = c .before .before .before .before .if1 .taken in
@@ -38,7 +40,7 @@ returns c =
 
 returns-2 : tie.Need-returns-2
 returns-2 c =
-    let b = c .before .before .before .before .before .before .before .before .before .before in
+    let b = c .before .before .before .before .before .before .before .before .before .before .before in
     let a = b .args in
     let t = c .before .before .before .before .before .before .before .mark-at in
     let name = c .before .before .before .before .before .before .bytes-of .ensures in

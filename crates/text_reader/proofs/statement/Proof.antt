@@ -3,6 +3,7 @@
 use mathlib.Core.Path.{_≡_, refl, sym, ap, _∙_, subst}
 use borrow.Author.Needs.{needs}
 use denote.Ref.{now}
+use Rattle.text_table.specs.Table.{rowsOf}
 use Rattle.text_step.specs.declared.Parse.{Parse}
 use Rattle.text_step.specs.Steps.{onStatement}
 use Rattle.text_reader.specs.Texts.{isMore, keptAfter}
@@ -13,12 +14,15 @@ use Rattle.text_reader.proofs.statement.Tie as tie
 
 behind-name-requires : tie.Need-behind-name-requires
 behind-name-requires c κs =
-    let b = c .before .before .before .before .before .before .before in
-    (b .pre .0, (ap (λ (r : Parse). r .wanted) (c .before .goes-on .ensures), b .pre .1 .1))
+    let b = c .before .before .before .before .before .before .before .before in
+    let on = c .before .goes-on .ensures in (
+      (b .pre .0 .0, b .pre .0 .1 ∙ ap (λ (r : Parse). rowsOf (r .scope)) (sym on)),
+      (ap (λ (r : Parse). r .wanted) on, b .pre .1 .1),
+    )
 
 returns : tie.Need-returns
 returns c =
-    let b = c .before .before .before .before .before .before .before .before in
+    let b = c .before .before .before .before .before .before .before .before .before in
     let a = b .args in
     let n = c .before .before .before .before .before .name-at in
     let on = c .before .before .goes-on in
@@ -31,7 +35,7 @@ returns c =
 
 returns-2 : tie.Need-returns-2
 returns-2 c =
-    let b = c .before .before .before .before .before .before .before .before .before .before .before .before in
+    let b = c .before .before .before .before .before .before .before .before .before .before .before .before .before in
     let a = b .args in
     let n = c .before .before .before .before .before .before .before .before .before .name-at in
     let end = c .before .before .before .before .before .on-end in

@@ -1,5 +1,4 @@
 -- `text_record::linedef_of` meets its contract: field by field, each as what it holds. Assumes nothing.
-use native.Mathlib.Omega.{arith}
 use denote.Ref.{now}
 use mir.Syntax.{w32}
 use mir.ValLaws.{toZ-ofZ}
@@ -8,36 +7,21 @@ use Rattle.text_given.proofs.Whole.{whole-by}
 use Rattle.text_record.proofs.linedef_of.Statement.{statement}
 use Rattle.text_record.proofs.linedef_of.Tie as tie
 
-whole-field-requires-9 : tie.Need-whole-field-requires-9
-whole-field-requires-9 c κs =
-    let p = c .before .before .before .before .before .before .before .before .before .before .before .pre in
-    (p .0, (p .1, omega arith))
-
-whole-field-requires-10 : tie.Need-whole-field-requires-10
-whole-field-requires-10 c κs =
-    let p = c .before .before .before .before .before .before .before .before .before .before .before .before .pre in
-    (p .0, (p .1, omega arith))
-
-whole-field-requires-11 : tie.Need-whole-field-requires-11
-whole-field-requires-11 c κs =
-    let p = c .before .before .before .before .before .before .before .before .before .before .before .before .before .pre in
-    (p .0, (p .1, omega arith))
-
 returns : tie.Need-returns
 returns c =
     let c8 = c .before .before .before .before .before .before .before .before in
     let c16 = c8 .before .before .before .before .before .before .before .before in
     let c24 = c16 .before .before .before .before .before .before .before .before in
     let c32 = c24 .before .before .before .before .before .before .before .before in
-    let s = c32 .before .before .before .before .before in
+    let s = c32 .before .before .before .before in
     let text = now (s .args .text) in
     let places = now (s .args .places) in
-    let first = s .args .first in
+    let rows = now (s .args .rows) in
     let id = toZ-ofZ w32 (s .args .id) (s .fits .id) in
     λ i. record {
-      id = whole-by text places first 0 (c32 .before .whole-field .ok) (c32 .before .whole-field .ensures) id i;
-      v1 = whole-by text places first 1 (c32 .whole-field2 .ok) (c32 .whole-field2 .ensures) id i;
-      v2 = whole-by text places first 2 (c24 .before .before .before .before .before .before .before .whole-field3 .ok)
+      id = whole-by text places rows 0 (c32 .before .whole-field .ok) (c32 .before .whole-field .ensures) id i;
+      v1 = whole-by text places rows 1 (c32 .whole-field2 .ok) (c32 .whole-field2 .ensures) id i;
+      v2 = whole-by text places rows 2 (c24 .before .before .before .before .before .before .before .whole-field3 .ok)
           (c24 .before .before .before .before .before .before .before .whole-field3 .ensures) id i;
       blocking = c16 .before .before .before .before .before .before .flag-field .ensures i;
       blockmonsters = c16 .before .before .before .before .before .flag-field2 .ensures i;
@@ -61,19 +45,19 @@ returns c =
       monsterpush = c .before .before .before .flag-field20 .ensures i;
       missilecross = c .before .before .flag-field21 .ensures i;
       repeatspecial = c .before .flag-field22 .ensures i;
-      special = whole-by text places first 25 (c24 .before .before .before .before .before .before .whole-field4 .ok)
+      special = whole-by text places rows 25 (c24 .before .before .before .before .before .before .whole-field4 .ok)
           (c24 .before .before .before .before .before .before .whole-field4 .ensures) id i;
-      arg0 = whole-by text places first 26 (c24 .before .before .before .before .before .whole-field5 .ok)
+      arg0 = whole-by text places rows 26 (c24 .before .before .before .before .before .whole-field5 .ok)
           (c24 .before .before .before .before .before .whole-field5 .ensures) id i;
-      arg1 = whole-by text places first 27 (c24 .before .before .before .before .whole-field6 .ok)
+      arg1 = whole-by text places rows 27 (c24 .before .before .before .before .whole-field6 .ok)
           (c24 .before .before .before .before .whole-field6 .ensures) id i;
-      arg2 = whole-by text places first 28 (c24 .before .before .before .whole-field7 .ok)
+      arg2 = whole-by text places rows 28 (c24 .before .before .before .whole-field7 .ok)
           (c24 .before .before .before .whole-field7 .ensures) id i;
-      arg3 = whole-by text places first 29 (c24 .before .before .whole-field8 .ok)
+      arg3 = whole-by text places rows 29 (c24 .before .before .whole-field8 .ok)
           (c24 .before .before .whole-field8 .ensures) id i;
-      arg4 = whole-by text places first 30 (c24 .before .whole-field9 .ok) (c24 .before .whole-field9 .ensures) id i;
-      sidefront = whole-by text places first 31 (c24 .whole-field10 .ok) (c24 .whole-field10 .ensures) id i;
-      sideback = whole-by text places first 32 (c16 .before .before .before .before .before .before .before .whole-field11 .ok)
+      arg4 = whole-by text places rows 30 (c24 .before .whole-field9 .ok) (c24 .before .whole-field9 .ensures) id i;
+      sidefront = whole-by text places rows 31 (c24 .whole-field10 .ok) (c24 .whole-field10 .ensures) id i;
+      sideback = whole-by text places rows 32 (c16 .before .before .before .before .before .before .before .whole-field11 .ok)
           (c16 .before .before .before .before .before .before .before .whole-field11 .ensures) id i;
       comment = c .string-field .ensures i;
     }
@@ -83,7 +67,7 @@ linedef-of-spec =
     tie.close
     (tie.spec (λ c κs. search needs) (λ c κs. search needs) (λ c κs. search needs) (λ c κs. search needs)
     (λ c κs. search needs) (λ c κs. search needs) (λ c κs. search needs) (λ c κs. search needs)
-    whole-field-requires-9 whole-field-requires-10 whole-field-requires-11 (λ c κs. search needs)
+    (λ c κs. search needs) (λ c κs. search needs) (λ c κs. search needs) (λ c κs. search needs)
     (λ c κs. search needs) (λ c κs. search needs) (λ c κs. search needs) (λ c κs. search needs)
     (λ c κs. search needs) (λ c κs. search needs) (λ c κs. search needs) (λ c κs. search needs)
     (λ c κs. search needs) (λ c κs. search needs) (λ c κs. search needs) (λ c κs. search needs)

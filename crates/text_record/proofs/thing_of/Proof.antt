@@ -1,14 +1,8 @@
 -- `text_record::thing_of` meets its contract: field by field, each as what it holds. Assumes nothing.
-use native.Mathlib.Omega.{arith}
 use borrow.Author.Needs.{needs}
 use Rattle.text_given.proofs.Whole.{whole}
 use Rattle.text_record.proofs.thing_of.Statement.{statement}
 use Rattle.text_record.proofs.thing_of.Tie as tie
-
-whole-field-requires-9 : tie.Need-whole-field-requires-9
-whole-field-requires-9 c κs =
-    let p = c .before .before .before .before .before .before .before .before .before .before .before .pre in
-    (p .0, (p .1, omega arith))
 
 returns : tie.Need-returns
 returns c =
@@ -60,7 +54,7 @@ thing-of-spec =
     tie.close
     (tie.spec (λ c κs. search needs) (λ c κs. search needs) (λ c κs. search needs) (λ c κs. search needs)
     (λ c κs. search needs) (λ c κs. search needs) (λ c κs. search needs) (λ c κs. search needs)
-    whole-field-requires-9 (λ c κs. search needs) (λ c κs. search needs) (λ c κs. search needs)
+    (λ c κs. search needs) (λ c κs. search needs) (λ c κs. search needs) (λ c κs. search needs)
     (λ c κs. search needs) (λ c κs. search needs) (λ c κs. search needs) (λ c κs. search needs)
     (λ c κs. search needs) (λ c κs. search needs) (λ c κs. search needs) (λ c κs. search needs)
     (λ c κs. search needs) (λ c κs. search needs) (λ c κs. search needs) (λ c κs. search needs)

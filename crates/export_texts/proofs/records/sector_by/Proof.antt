@@ -1,10 +1,37 @@
--- `export_texts::records::sector_by` meets its contract. Assumes nothing.
+-- `export_texts::records::sector_by` meets its contract: the rows of the kind are lent. Assumes nothing.
+use mathlib.Core.List.{List}
+use mathlib.Core.Path.{_≡_, refl, sym, ap, _∙_}
+use Prim.Native.Nat.{ℕ, _≤_}
+use native.Mathlib.Omega.{arith}
 use borrow.Author.Needs.{needs}
+use denote.Ref.{now}
+use lib.ListN.{length}
+use lib.Seq.{length-take-le}
+use Rattle.text_scope.specs.declared.Scope.the-variants.{Sector}
+use Rattle.text_table.proofs.Table.{length-rows}
+use Rattle.text_map.specs.Answers.{rowsBy}
+use Rattle.text_record.specs.Records.{sectorOf}
+use Rattle.export_texts.proofs.Lent.{lent-rows}
 use Rattle.export_texts.proofs.records.sector_by.Statement.{statement}
 use Rattle.export_texts.proofs.records.sector_by.Tie as tie
 
+slice-aggregate-sector-of : tie.Need-slice-aggregate-sector-of
+slice-aggregate-sector-of c =
+    let l = ap length (c .before .before .before .sector .ensures) ∙ length-rows Sector in
+    let size = c .before .before .size-by .ensures .1 in
+    sym (length-take-le _ _ (omega (arith, l, size)))
+
 returns : tie.Need-returns
-returns c = λ i. record { status = c .before .before .before .status-of .ensures i; sector = c .sector-of .ensures i; next = c .before .before .before .before .before .before .before .args .f .next }
+returns c =
+    let a = c .before .before .before .before .before .before .args in
+    let rows = c .before .before .before .before .sector in
+    let l = ap length (rows .ensures) ∙ length-rows Sector in
+    let lent = lent-rows Sector (rows .result) 144 (c .before .before .before .size-by .result) (a .f .check) (rows .ensures) (omega (arith, l)) (c .before .before .before .size-by .ensures .0) in
+    let read = c .sector-of .ensures ∙ ap (sectorOf (now (a .text)) (now (a .places))) lent in
+    λ i. record { status = c .before .before .status-of .ensures i; sector = read i; next = a .f .next }
 
 pub sector-by-spec : {M : Type 1} → statement M
-sector-by-spec = tie.close (tie.spec (λ c κs. search needs) (λ c κs. search needs) (λ c. search needs) (λ c. search needs) (λ c κs. search needs) returns)
+sector-by-spec =
+    tie.close
+    (tie.spec (λ c κs. search needs) (λ c κs. search needs) (λ c κs. search needs) (λ c. search needs) slice-aggregate-sector-of
+    (λ c κs. search needs) returns)

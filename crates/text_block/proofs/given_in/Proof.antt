@@ -1,4 +1,4 @@
--- `text_block::given_from` meets its contract: what was passed is given. Assumes nothing.
+-- `text_block::given_in` meets its contract: what was passed is given. Assumes nothing.
 use Prim.Native.Nat.{_-_, _≤_}
 use mathlib.Core.Bool.{true, not, _&&_}
 use mathlib.Core.Path.{_≡_, sym, ap, _∙_}
@@ -10,20 +10,20 @@ use lib.ListN.{getD}
 use Rattle.text_field.proofs.Names.{every-none, every-more, every-stop, every-done}
 use Rattle.text_field.specs.Names.{every}
 use Rattle.text_block.specs.Blocks.{isGiven}
-use Rattle.text_block.proofs.given_from.Statement.{statement}
-use Rattle.text_block.proofs.given_from.Tie as tie
+use Rattle.text_block.proofs.given_in.Statement.{statement}
+use Rattle.text_block.proofs.given_in.Tie as tie
 
 abbrev Inv-loop : tie.InvT-loop
-Inv-loop rows first places n k₀ k = (k ≤ n) × (true ≡ every (isGiven first places) k)
+Inv-loop rows places n k₀ k = (k ≤ n) × (true ≡ every (isGiven rows places) k)
 
 abbrev μ-loop : tie.MeasureT-loop
-μ-loop rows first places n k₀ k = n - k
+μ-loop rows places n k₀ k = n - k
 
 -- the test is that of the field
 tested : (c : tie.After-is-required Inv-loop μ-loop)
     → let l = c .before .before in
     let a = l .before .before .args in
-    isGiven (a .first) (now (a .places)) (l .loop .k) ≡ not (c .is-required .result && eqb (getD (now (a .places)) (l .loop .k) 0) 0)
+    isGiven (now (a .rows)) (now (a .places)) (l .loop .k) ≡ not (c .is-required .result && eqb (getD (now (a .places)) (l .loop .k) 0) 0)
 tested c =
     let l = c .before .before in
     sym (λ i. not (c .is-required .ensures i && eqb (getD (now (l .before .before .args .places)) (l .loop .k) 0) 0))
@@ -40,8 +40,8 @@ loop-again c = (omega arith, every-more _ _ (c .before .before .before .before .
 returns-2 : tie.Need-returns-2 Inv-loop μ-loop
 returns-2 c = every-done _ _ _ (c .before .loop .inv .1) (c .before .loop .inv .0) (c .loop-test .left)
 
-pub given-from-spec : {M : Type 1} → statement M
-given-from-spec =
+pub given-in-spec : {M : Type 1} → statement M
+given-in-spec =
     tie.close
-    (tie.spec Inv-loop μ-loop loop-holds (λ c. search needs) (λ c κs. search needs) (λ c. search needs)
+    (tie.spec Inv-loop μ-loop loop-holds (λ c κs. search needs) (λ c. search needs)
     (λ c. search needs) returns (λ c. search needs) (λ c. search needs) loop-again returns-2)

@@ -1,0 +1,3 @@
+-- Laws of the records of text maps. Assumes nothing.
+
+mod Lent

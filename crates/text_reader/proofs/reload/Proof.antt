@@ -1,0 +1,19 @@
+-- `text_reader::reload` meets its contract: a scope of the same number is the same. Assumes nothing.
+use mathlib.Core.Path.{_≡_, sym, _∙_, subst}
+use borrow.Author.Needs.{needs}
+use denote.Ref.{now}
+use Rattle.text_scope.specs.declared.Scope.{Scope}
+use Rattle.text_scope.proofs.Scopes.{number-tells}
+use Rattle.text_reader.specs.Inner.{Loaded}
+use Rattle.text_reader.proofs.reload.Statement.{statement}
+use Rattle.text_reader.proofs.reload.Tie as tie
+
+returns : tie.Need-returns
+returns c =
+    let b = c .before .before .before in
+    let a = b .args in
+    let e = sym (c .before .before .scope-number .ensures) ∙ c .if1 .taken ∙ c .before .scope-number2 .ensures in
+    subst (λ (k : Scope). Loaded k (now (a .rows))) (number-tells (a .before) (a .scope) e) (b .pre)
+
+pub reload-spec : {M : Type 1} → statement M
+reload-spec = tie.close (tie.spec (λ c κs. search needs) (λ c κs. search needs) returns (λ c κs. search needs) (λ c. search needs))

@@ -1,0 +1,12 @@
+-- `text_table::globals` meets its contract: the two tables are one. Assumes nothing.
+use mathlib.Core.Path.{refl}
+use Rattle.text_table.specs.Table.{globalRows}
+use Rattle.text_table.proofs.globals.Statement.{statement}
+use Rattle.text_table.proofs.globals.Tie as tie
+
+returns : tie.Need-returns
+unfolding globalRows
+returns c = refl
+
+pub globals-spec : {M : Type 1} → statement M
+globals-spec = tie.close (tie.spec returns)
