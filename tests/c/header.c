@@ -1590,11 +1590,10 @@ AT(text_answer, sidedefs, 56);
 AT(text_answer, sectors, 64);
 AT(text_answer, things, 72);
 
-SIZE(text_block_answer, 48);
+SIZE(text_block_answer, 40);
 AT(text_block_answer, status, 0);
 AT(text_block_answer, kind, 24);
 AT(text_block_answer, start, 32);
-AT(text_block_answer, next, 40);
 
 /* Everything of a kind: layout, a block with all fields by number and from every place before it, and nothing but the refusal otherwise. */
 #define TEXT_KIND(kind, FIELDS, bytes, READ_AT)                                                                                    \
@@ -1709,14 +1708,33 @@ static int text_refused(const char *words, uint32_t number, size_t record)
            a.sidedefs == 0 && a.sectors == 0 && a.things == 0;
 }
 
-static int is_block(meshpigeon_text_block_answer a, uint32_t kind, size_t start, size_t next)
+static int is_block(meshpigeon_text_block_answer a, uint32_t kind, size_t start)
 {
-    return status_is(a.status, 0, 0, 0) && a.kind == kind && a.start == start && a.next == next;
+    return status_is(a.status, 0, 0, 0) && a.kind == kind && a.start == start;
 }
 
 static int no_block(meshpigeon_text_block_answer a, uint32_t number, size_t record)
 {
-    return status_is(a.status, number, 0, record) && a.kind == 0 && a.start == 0 && a.next == 0;
+    return status_is(a.status, number, 0, record) && a.kind == 0 && a.start == 0;
+}
+
+/* The place behind a block, by the function of its kind. */
+static size_t behind(const char *words, meshpigeon_text_block_answer a)
+{
+    switch (a.kind) {
+    case MESHPIGEON_TEXT_VERTEX:
+        return meshpigeon_text_vertex_at(STRING(words), a.start).next;
+    case MESHPIGEON_TEXT_LINEDEF:
+        return meshpigeon_text_linedef_at(STRING(words), a.start, 0, 0).next;
+    case MESHPIGEON_TEXT_SIDEDEF:
+        return meshpigeon_text_sidedef_at(STRING(words), a.start).next;
+    case MESHPIGEON_TEXT_SECTOR:
+        return meshpigeon_text_sector_at(STRING(words), a.start).next;
+    case MESHPIGEON_TEXT_THING:
+        return meshpigeon_text_thing_at(STRING(words), a.start).next;
+    default:
+        return 0;
+    }
 }
 
 #define VERTEX_TEXT "vertex{x=1;y=2;}"
@@ -1741,6 +1759,7 @@ static void text_summaries(void)
     EXPECT(text_refused("/* ", 90, 3));
 }
 
+/* All blocks in one pass; and refusals of what stands before a block's opening brace, at any place. */
 static void text_blocks(void)
 {
     const char *const all = "a=1;" VERTEX_TEXT LINEDEF_TEXT SIDEDEF_TEXT SECTOR_TEXT THING_TEXT "b{}";
@@ -1748,20 +1767,60 @@ static void text_blocks(void)
     size_t place = 0, start = 4;
     for (uint32_t kind = 1; kind <= 5; kind++) {
         const size_t next = start + strlen(kinds[kind - 1]);
-        EXPECT(is_block(meshpigeon_text_block(STRING(all), place), kind, start, next));
-        EXPECT(is_block(meshpigeon_text_block(STRING(all), start), kind, start, next));
-        place = start = next;
+        EXPECT(is_block(meshpigeon_text_block(STRING(all), place), kind, start));
+        EXPECT(is_block(meshpigeon_text_block(STRING(all), start), kind, start));
+        place = behind(all, meshpigeon_text_block(STRING(all), place));
+        EXPECT(place == next);
+        start = next;
     }
     EXPECT(no_block(meshpigeon_text_block(STRING(all), place), 94, 0));
+    EXPECT(no_block(meshpigeon_text_block(STRING(all), strlen(all)), 94, 0));
+    EXPECT(no_block(meshpigeon_text_block(STRING(all), strlen(all) + 1), 94, 0));
     EXPECT(no_block(meshpigeon_text_block(STRING(all), SIZE_MAX), 94, 0));
+    EXPECT(no_block(meshpigeon_text_block(STRING(""), 0), 94, 0));
     EXPECT(no_block(meshpigeon_text_block(STRING(all), 1), 90, 1));
+    EXPECT(no_block(meshpigeon_text_block(STRING(all), 11), 90, 19));
     EXPECT(no_block(meshpigeon_text_block(STRING("a=0x;" VERTEX_TEXT), 0), 90, 2));
     EXPECT(no_block(meshpigeon_text_block(STRING("a=0x80000000;" VERTEX_TEXT), 0), 91, 2));
-    EXPECT(no_block(meshpigeon_text_block(STRING("vertex{y=2;}"), 0), 92, 11));
-    EXPECT(is_block(meshpigeon_text_block(STRING(VERTEX_TEXT "}"), 0), MESHPIGEON_TEXT_VERTEX, 0, 16));
+    EXPECT(no_block(meshpigeon_text_block(STRING("a{x=0x80000000;}" VERTEX_TEXT), 0), 91, 4));
+    EXPECT(no_block(meshpigeon_text_block(STRING("a{" VERTEX_TEXT "}"), 0), 90, 8));
+    EXPECT(no_block(meshpigeon_text_block(STRING("vertex"), 0), 90, 6));
+    EXPECT(no_block(meshpigeon_text_block(STRING("vertex/*{"), 0), 90, 9));
+    EXPECT(no_block(meshpigeon_text_block(STRING("vertex=1;"), 0), 94, 0));
 }
 
-/* One block of a kind more than there may be: at its name, and from the second block on there is none too many. */
+/* What stands behind the opening brace is read by the kind's own function alone. */
+static void text_block_ends_at_its_brace(void)
+{
+    static const struct {
+        const char *words;
+        uint32_t number;
+        size_t record;
+    } faulty[] = {
+        {"vertex{", 90, 7},
+        {"vertex{(", 90, 7},
+        {"vertex{\"", 90, 8},
+        {"vertex{/*", 90, 9},
+        {"vertex{x=true;}", 90, 9},
+        {"vertex{x=2147483648;}", 91, 9},
+        {"vertex{y=2;}", 92, 11},
+        {"vertex{}a=01;", 92, 7},
+        {"vertex{x=1;y=2;", 90, 15},
+        {"vertex{x=1;y=2;(", 90, 15},
+    };
+    for (size_t at = 0; at < sizeof faulty / sizeof *faulty; at++) {
+        const char *const words = faulty[at].words;
+        EXPECT(is_block(meshpigeon_text_block(STRING(words), 0), MESHPIGEON_TEXT_VERTEX, 0));
+        text_vertex_is_refused(meshpigeon_text_vertex_at(STRING(words), 0), faulty[at].number, faulty[at].record);
+        EXPECT(text_refused(words, faulty[at].number, faulty[at].record));
+    }
+    EXPECT(is_block(meshpigeon_text_block(STRING("a=1;Thing/*{*/{'"), 0), MESHPIGEON_TEXT_THING, 4));
+    text_thing_is_refused(meshpigeon_text_thing_at(STRING("a=1;Thing/*{*/{'"), 4), 90, 15);
+    EXPECT(is_block(meshpigeon_text_block(STRING(VERTEX_TEXT "}"), 0), MESHPIGEON_TEXT_VERTEX, 0));
+    EXPECT(no_block(meshpigeon_text_block(STRING(VERTEX_TEXT "}"), 16), 90, 16));
+}
+
+/* One block of a kind more than there may be: at its name, and from the second block on there is none too many; nor for who asks for one block. */
 static void text_too_many(void)
 {
     static uint8_t many[65536 * 16];
@@ -1773,6 +1832,9 @@ static void text_too_many(void)
     EXPECT(status_is(meshpigeon_text_thing(many, sizeof many, 0).status, 93, 0, 65535 * 16));
     EXPECT(status_is(meshpigeon_text_thing_at(many, sizeof many, 0).status, 93, 0, 65535 * 16));
     EXPECT(status_is(meshpigeon_text_thing_at(many, sizeof many, 16).status, 94, 0, 0));
+    EXPECT(is_block(meshpigeon_text_block(many, sizeof many, 0), MESHPIGEON_TEXT_VERTEX, 0));
+    EXPECT(is_block(meshpigeon_text_block(many, sizeof many, 65535 * 16), MESHPIGEON_TEXT_VERTEX, 65535 * 16));
+    EXPECT(no_block(meshpigeon_text_block(many, sizeof many, sizeof many), 94, 0));
     last = meshpigeon_text_vertex(many, 65535 * 16, 65534);
     EXPECT(status_is(last.status, 0, 0, 0) && last.vertex.x == 1.0 && last.vertex.y == 2.0 && last.next == 65535 * 16);
     EXPECT(status_is(meshpigeon_text_vertex(many, 65535 * 16, 65535).status, 94, 0, 0));
@@ -1789,6 +1851,7 @@ static void text_maps(void)
     text_namespaces();
     text_summaries();
     text_blocks();
+    text_block_ends_at_its_brace();
     text_too_many();
 }
 

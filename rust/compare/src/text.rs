@@ -89,7 +89,7 @@ macro_rules! thing {
 pub(crate) trait Side {
     /// The namespace's places and the counts.
     fn map(text: &[u8]) -> Answer;
-    /// Kind, start and next.
+    /// Kind and start.
     fn block(text: &[u8], place: usize) -> Answer;
     /// The place behind a block of a kind, from 0 on, and its fields.
     fn by_number(kind: usize, text: &[u8], number: usize) -> Answer;
@@ -109,7 +109,7 @@ impl Side for Library {
 
     fn block(text: &[u8], place: usize) -> Answer {
         let it = meshpigeon::text::block(text, place).map_err(|it| (it.number, it.place, it.record))?;
-        Ok(vec![it.kind as i64 + 1, it.start as i64, it.next as i64])
+        Ok(vec![it.kind as i64 + 1, it.start as i64])
     }
 
     fn by_number(kind: usize, text: &[u8], number: usize) -> Answer {
@@ -146,7 +146,7 @@ impl Side for Reader {
 
     fn block(text: &[u8], place: usize) -> Answer {
         let it = reader::text_block(text, place).map_err(|it| (it.number, it.place, it.record))?;
-        Ok(vec![i64::from(it.kind), it.start as i64, it.next as i64])
+        Ok(vec![i64::from(it.kind), it.start as i64])
     }
 
     fn by_number(kind: usize, text: &[u8], number: usize) -> Answer {
@@ -195,15 +195,17 @@ pub(crate) fn fault(case: &Case, told: &Outcome) -> Option<String> {
     let namespace = summary.map_or((0, 0), |numbers| (numbers[0] as usize, numbers[1] as usize));
     let (mut place, mut counts) = (0, [0; KINDS]);
     let end = loop {
-        let (kind, start, next) = match Library::block(text, place) {
-            Ok(block) => (block[0] as usize - 1, block[1] as usize, block[2] as usize),
+        let (kind, start) = match Library::block(text, place) {
+            Ok(block) => (block[0] as usize - 1, block[1] as usize),
             Err(refused) => break refused,
         };
         let here = Library::at(kind, text, start, namespace);
+        let next = match &here {
+            Ok(block) if block[0] as usize > start => block[0] as usize,
+            Err(refused @ (90..=92, 0, record)) if *record > start => break *refused,
+            _ => return Some(format!("the block at {start} does not begin there: {here:?}")),
+        };
         let is_asked = summary.is_some_and(|numbers| numbers[2 + kind] as usize <= MOST_ASKED);
-        if next <= start || here.as_ref().map(|it| it[0] as usize) != Ok(next) {
-            return Some(format!("the block at {start} ends at {next}: {here:?}"));
-        }
         if is_asked && here != Library::by_number(kind, text, counts[kind]) {
             return Some(format!("number {} of kind {kind} is another than the one at {start}: {here:?}", counts[kind]));
         }

@@ -113,22 +113,29 @@ pub struct Lies {
     pub kind: Kind,
     /// The place of its name.
     pub start: usize,
-    /// The place behind it, from which the blocks after it are read.
-    pub next: usize,
 }
 
-/// The first block of a known kind among the statements from a place on, as if the text began there: 90 to 93 of what is read up to its end, 94
-/// where there is none.
+/// The first block of a known kind among the statements from a place on, as if the text began there: 90 to 93 of what is read up to its opening
+/// brace, of which only 90 and 91 come; 94 where none opens. Its fields, and the place from which the next one is read, come from `read_at` at
+/// its start, which finds what is wrong in it.
 ///
 /// ```
-/// use meshpigeon::text::{self, Kind};
+/// use meshpigeon::text::{self, Kind, Lies, Thing, Vertex};
 ///
 /// let map = b"ours { } vertex { x = 1; y = 2; } thing { }";
 /// let block = text::block(map, 0).unwrap();
-/// assert_eq!((block.kind, block.start, block.next), (Kind::Vertex, 9, 33));
-/// let refusal = text::block(map, block.next).unwrap_err();
+/// assert_eq!(block, Lies { kind: Kind::Vertex, start: 9 });
+/// let (vertex, next) = Vertex::read_at(map, block.start).unwrap();
+/// assert_eq!((vertex, next), (Vertex { x: 1.0, y: 2.0 }, 33));
+///
+/// let block = text::block(map, next).unwrap();
+/// assert_eq!(block, Lies { kind: Kind::Thing, start: 34 });
+/// let refusal = Thing::read_at(map, block.start).unwrap_err();
 /// assert_eq!((refusal.number, refusal.record), (92, 42));
+///
 /// assert_eq!(text::block(map, map.len()).unwrap_err().number, 94);
+/// let refusal = text::block(b"ours = 01; thing { }", 0).unwrap_err();
+/// assert_eq!((refusal.number, refusal.record), (90, 7));
 /// ```
 pub fn block(text: &[u8], place: usize) -> Result<Lies, Refusal> {
     raw::text::block(text, place)
@@ -157,7 +164,7 @@ pub struct Blocks<'a> {
     place: usize,
 }
 
-/// All blocks of a text as they come, in linear time behind the pass that judges it: 90 to 93 of the whole text.
+/// All blocks of a text as they come, in one pass behind the one that judges it: 90 to 93 of the whole text.
 ///
 /// ```
 /// use meshpigeon::text::{self, Block, Vertex};
@@ -178,14 +185,16 @@ impl Iterator for Blocks<'_> {
     type Item = Block;
 
     fn next(&mut self) -> Option<Block> {
-        let Lies { kind, start, next } = block(self.text, self.place).ok()?;
+        let Lies { kind, start } = block(self.text, self.place).ok()?;
+        let read = match kind {
+            Kind::Vertex => Vertex::read_at(self.text, start).map(|(it, next)| (Block::Vertex(it), next)),
+            Kind::Linedef => Linedef::read_at(self.text, start, self.namespace).map(|(it, next)| (Block::Linedef(it), next)),
+            Kind::Sidedef => Sidedef::read_at(self.text, start).map(|(it, next)| (Block::Sidedef(it), next)),
+            Kind::Sector => Sector::read_at(self.text, start).map(|(it, next)| (Block::Sector(it), next)),
+            Kind::Thing => Thing::read_at(self.text, start).map(|(it, next)| (Block::Thing(it), next)),
+        };
+        let (block, next) = read.ok()?;
         self.place = next;
-        Some(match kind {
-            Kind::Vertex => Block::Vertex(Vertex::read_at(self.text, start).ok()?.0),
-            Kind::Linedef => Block::Linedef(Linedef::read_at(self.text, start, self.namespace).ok()?.0),
-            Kind::Sidedef => Block::Sidedef(Sidedef::read_at(self.text, start).ok()?.0),
-            Kind::Sector => Block::Sector(Sector::read_at(self.text, start).ok()?.0),
-            Kind::Thing => Block::Thing(Thing::read_at(self.text, start).ok()?.0),
-        })
+        Some(block)
     }
 }

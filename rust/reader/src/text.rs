@@ -34,8 +34,6 @@ pub struct TextBlock {
     pub kind: u32,
     /// The place of its name.
     pub start: usize,
-    /// The place behind it.
-    pub next: usize,
 }
 
 /// The statements of a text from a place on, as if it began there.
@@ -52,8 +50,8 @@ impl<'a> Statements<'a> {
         Self { tokens: Tokens::from(text, place), namespace: Quoted::default(), counts: [0; 5], values: Values::new() }
     }
 
-    /// The next block of a known kind, and the place of its name, past all that comes before it; none at the end.
-    fn block(&mut self) -> Result<Option<(usize, usize)>, Refusal> {
+    /// The next block of a known kind, and the place of its name, past all that comes before it and its opening brace; none at the end.
+    fn opening(&mut self) -> Result<Option<(usize, usize)>, Refusal> {
         loop {
             let (place, name) = match self.tokens.next()? {
                 (_, Token::End) => return Ok(None),
@@ -64,15 +62,24 @@ impl<'a> Statements<'a> {
                 (_, Token::Mark(b'=')) => self.assign(name)?,
                 (_, Token::Mark(b'{')) => {
                     let kind = KINDS.iter().position(|(it, _)| it.eq_ignore_ascii_case(name));
-                    self.count(kind, place)?;
-                    self.fields(kind.map_or(&[], |kind| KINDS[kind].1))?;
                     if let Some(kind) = kind {
+                        self.count(kind, place)?;
                         return Ok(Some((kind, place)));
                     }
+                    self.fields(&[])?;
                 }
                 (place, _) => return Err(unfit(place)),
             }
         }
+    }
+
+    /// The next block of a known kind, and the place of its name, past the block; none at the end.
+    fn block(&mut self) -> Result<Option<(usize, usize)>, Refusal> {
+        let opened = self.opening()?;
+        if let Some((kind, _)) = opened {
+            self.fields(KINDS[kind].1)?;
+        }
+        Ok(opened)
     }
 
     /// A global assignment behind its `=`.
@@ -87,8 +94,7 @@ impl<'a> Statements<'a> {
     }
 
     /// Counts a block: 93 at its name where it is one too many.
-    fn count(&mut self, kind: Option<usize>, place: usize) -> Result<(), Refusal> {
-        let Some(kind) = kind else { return Ok(()) };
+    fn count(&mut self, kind: usize, place: usize) -> Result<(), Refusal> {
         if self.counts[kind] == MOST_BLOCKS {
             return Err(Refusal::new(93, 0, place));
         }
@@ -129,11 +135,10 @@ pub fn text_map(text: &[u8]) -> Result<TextMap, Refusal> {
     Ok(TextMap { namespace: statements.namespace, counts: statements.counts })
 }
 
-/// The first block of a known kind from a place on: refusals 90 to 93 of what is read, and 94 where there is none.
+/// The first block of a known kind from a place on: refusals 90 to 93 of what is read up to its opening brace, and 94 where none opens.
 pub fn text_block(text: &[u8], place: usize) -> Result<TextBlock, Refusal> {
-    let mut statements = Statements::from(text, place);
-    let (kind, start) = statements.block()?.ok_or(Refusal::plain(94))?;
-    Ok(TextBlock { kind: kind as u32 + 1, start, next: statements.tokens.at() })
+    let (kind, start) = Statements::from(text, place).opening()?.ok_or(Refusal::plain(94))?;
+    Ok(TextBlock { kind: kind as u32 + 1, start })
 }
 
 /// The values of a block by kind and number, with the place behind it and the text's namespace: refusals 90 to 93 of the whole text, then 94.

@@ -125,11 +125,13 @@ fn a_linedefs_id_goes_by_the_last_namespace_byte_for_byte() {
 #[test]
 fn blocks_are_read_from_any_place_as_if_the_text_began_there() {
     let text = b"a=1; vertex{x=1;y=2;} thing{x=3;y=4;type=5;}";
-    assert_eq!(text_block(text, 0), Ok(TextBlock { kind: 1, start: 5, next: 21 }));
-    assert_eq!(text_block(text, 21), Ok(TextBlock { kind: 5, start: 22, next: 44 }));
+    assert_eq!(text_block(text, 0), Ok(TextBlock { kind: 1, start: 5 }));
+    assert_eq!(text_vertex_at(text, 5).map(|(_, next)| next), Ok(21));
+    assert_eq!(text_block(text, 21), Ok(TextBlock { kind: 5, start: 22 }));
     assert_eq!(text_block(text, 44), Err(Refusal::plain(94)));
     assert_eq!(text_block(text, usize::MAX), Err(Refusal::plain(94)));
     assert_eq!(text_block(text, 1), Err(Refusal::new(90, 0, 1)));
+    assert_eq!(text_block(text, 12), Err(Refusal::new(90, 0, 20)));
     assert_eq!(text_thing_at(text, 0).map(|(thing, next)| (thing.r#type, next)), Ok((5, 44)));
     assert_eq!(text_vertex_at(text, 21), Err(Refusal::plain(94)));
     let line = b"linedef{v1=1;v2=2;sidefront=3;}Doom";
@@ -138,5 +140,32 @@ fn blocks_are_read_from_any_place_as_if_the_text_began_there() {
         let text = [&line[..31], b"//", &line[31..]].concat();
         let namespace = Quoted { start: start.saturating_add(2), end: end.saturating_add(2) };
         assert_eq!(text_linedef_at(&text, 0, namespace).unwrap().0.id, id);
+    }
+}
+
+#[test]
+fn a_block_is_found_by_what_stands_up_to_its_opening_brace() {
+    let faults =
+        [("", 90, 7), ("(", 90, 7), ("\"", 90, 8), ("/*", 90, 9), ("x=true;}", 90, 9), ("x=2147483648;}", 91, 9), ("}", 92, 7)];
+    for (behind, number, place) in faults {
+        let text = format!("vertex{{{behind}");
+        assert_eq!(text_block(text.as_bytes(), 0), Ok(TextBlock { kind: 1, start: 0 }), "{text}");
+        assert_eq!(text_vertex_at(text.as_bytes(), 0), Err(Refusal::new(number, 0, place)), "{text}");
+    }
+    let faults =
+        [("vertex", 90, 6), ("vertex/*{", 90, 9), ("vertex(", 90, 6), ("a=01;vertex{", 90, 2), ("a=0x80000000;vertex{", 91, 2)];
+    for (text, number, place) in faults {
+        assert_eq!(text_block(text.as_bytes(), 0), Err(Refusal::new(number, 0, place)), "{text}");
+    }
+    assert_eq!(text_block(b"a{(}vertex{", 0), Err(Refusal::new(90, 0, 2)));
+    assert_eq!(text_block(b"a{}vertex=1;", 0), Err(Refusal::plain(94)));
+}
+
+#[test]
+fn a_block_that_is_one_too_many_is_found_from_a_later_place() {
+    let text = "vertex{x=1;y=2;}".repeat(65_536);
+    assert_eq!(text_thing_at(text.as_bytes(), 0), Err(Refusal::new(93, 0, 16 * 65_535)));
+    for start in [0, 16, 16 * 65_535] {
+        assert_eq!(text_block(text.as_bytes(), start), Ok(TextBlock { kind: 1, start }));
     }
 }

@@ -333,34 +333,36 @@ fn reader_text(text: &[u8]) -> usize {
     reader::text_map(text).expect("a good text").counts.iter().sum()
 }
 
-/// All blocks of a text, one after the other: the sum of a number of each.
+/// All blocks of a text in one pass: the sum of a number of each.
 fn library_blocks(text: &[u8]) -> usize {
-    use meshpigeon::text::{block, Kind, Linedef, Quoted, Sector, Sidedef, Thing, Vertex};
+    use meshpigeon::text::{block, Kind, Lies, Linedef, Quoted, Sector, Sidedef, Thing, Vertex};
     let (mut place, mut sum) = (0, 0);
-    while let Ok(it) = block(text, place) {
-        sum += match it.kind {
-            Kind::Vertex => Vertex::read_at(text, it.start).expect("a vertex").0.x as usize,
-            Kind::Linedef => Linedef::read_at(text, it.start, Quoted::default()).expect("a linedef").0.v1 as usize,
-            Kind::Sidedef => Sidedef::read_at(text, it.start).expect("a sidedef").0.sector as usize,
-            Kind::Sector => Sector::read_at(text, it.start).expect("a sector").0.lightlevel as usize,
-            Kind::Thing => Thing::read_at(text, it.start).expect("a thing").0.r#type as usize,
+    while let Ok(Lies { kind, start }) = block(text, place) {
+        let read = match kind {
+            Kind::Vertex => Vertex::read_at(text, start).map(|(it, next)| (it.x as usize, next)),
+            Kind::Linedef => Linedef::read_at(text, start, Quoted::default()).map(|(it, next)| (it.v1 as usize, next)),
+            Kind::Sidedef => Sidedef::read_at(text, start).map(|(it, next)| (it.sector as usize, next)),
+            Kind::Sector => Sector::read_at(text, start).map(|(it, next)| (it.lightlevel as usize, next)),
+            Kind::Thing => Thing::read_at(text, start).map(|(it, next)| (it.r#type as usize, next)),
         };
-        place = it.next;
+        let (number, next) = read.expect("a good block");
+        (place, sum) = (next, sum + number);
     }
     sum
 }
 
 fn reader_blocks(text: &[u8]) -> usize {
     let (mut place, mut sum) = (0, 0);
-    while let Ok(it) = reader::text_block(text, place) {
-        sum += match it.kind {
-            1 => reader::text_vertex_at(text, it.start).expect("a vertex").0.x as usize,
-            2 => reader::text_linedef_at(text, it.start, reader::Quoted::default()).expect("a linedef").0.v1 as usize,
-            3 => reader::text_sidedef_at(text, it.start).expect("a sidedef").0.sector as usize,
-            4 => reader::text_sector_at(text, it.start).expect("a sector").0.lightlevel as usize,
-            _ => reader::text_thing_at(text, it.start).expect("a thing").0.r#type as usize,
+    while let Ok(reader::TextBlock { kind, start }) = reader::text_block(text, place) {
+        let read = match kind {
+            1 => reader::text_vertex_at(text, start).map(|(it, next)| (it.x as usize, next)),
+            2 => reader::text_linedef_at(text, start, reader::Quoted::default()).map(|(it, next)| (it.v1 as usize, next)),
+            3 => reader::text_sidedef_at(text, start).map(|(it, next)| (it.sector as usize, next)),
+            4 => reader::text_sector_at(text, start).map(|(it, next)| (it.lightlevel as usize, next)),
+            _ => reader::text_thing_at(text, start).map(|(it, next)| (it.r#type as usize, next)),
         };
-        place = it.next;
+        let (number, next) = read.expect("a good block");
+        (place, sum) = (next, sum + number);
     }
     sum
 }

@@ -71,7 +71,7 @@ mod texts {
         TextAnswer 80 {
             status 0, namespace_start 24, namespace_end 32, vertices 40, linedefs 48, sidedefs 56, sectors 64, things 72
         }
-        TextBlockAnswer 48 { status 0, kind 24, start 32, next 40 }
+        TextBlockAnswer 40 { status 0, kind 24, start 32 }
         Quoted 16 { start 0, end 8 }
         Vertex 16 { x 0, y 8 }
         Linedef 88 {

@@ -23,7 +23,6 @@ pub(super) struct TextBlockAnswer {
     pub(super) status: Status,
     pub(super) kind: u32,
     pub(super) start: usize,
-    pub(super) next: usize,
 }
 
 extern "C" {
@@ -43,7 +42,7 @@ pub(crate) fn block(text: &[u8], place: usize) -> Result<Lies, Refusal> {
     let answer = unsafe { meshpigeon_text_block(text.as_ptr(), text.len(), place) };
     answer.status.check()?;
     let kind = Kind::ALL.get((answer.kind as usize).wrapping_sub(1)).copied();
-    Ok(Lies { kind: kind.expect("a found block has a kind"), start: answer.start, next: answer.next })
+    Ok(Lies { kind: kind.expect("a found block has a kind"), start: answer.start })
 }
 
 /// Each kind with its functions; a linedef from a place on is told the namespace.
