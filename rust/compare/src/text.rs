@@ -186,8 +186,8 @@ pub(crate) fn asked<S: Side>(text: &[u8], places: &[usize], namespace: (usize, u
     Outcome { blocks, ..Outcome::new(numbers) }
 }
 
-/// What is wrong with the library's blocks in one pass, if anything: they are those by number; and the pass ends with 94 where the text is good,
-/// and otherwise with the text's own refusal, but for 93, which counts from each place anew.
+/// What is wrong with the library's blocks in one pass, if anything: each is found by its opening brace; they are those by number; and the pass
+/// ends with 94 where the text is good, and otherwise with the text's own refusal, but for 93, which counts from each place anew.
 pub(crate) fn fault(case: &Case, told: &Outcome) -> Option<String> {
     let Question::Text { .. } = case.question else { return None };
     let text = &case.bytes;
@@ -197,8 +197,12 @@ pub(crate) fn fault(case: &Case, told: &Outcome) -> Option<String> {
     let end = loop {
         let (kind, start) = match Library::block(text, place) {
             Ok(block) => (block[0] as usize - 1, block[1] as usize),
+            Err((number @ (92 | 93), ..)) => return Some(format!("{number} from {place} on, where no block is read")),
             Err(refused) => break refused,
         };
+        if counts[kind] < MOST_ASKED && !is_found_by_its_brace(text, place, kind, start) {
+            return Some(format!("the block at {start} is found from {place} on by more or less than its opening brace"));
+        }
         let here = Library::at(kind, text, start, namespace);
         let next = match &here {
             Ok(block) if block[0] as usize > start => block[0] as usize,
@@ -218,6 +222,13 @@ pub(crate) fn fault(case: &Case, told: &Outcome) -> Option<String> {
         Err(refused) => end == *refused,
     };
     (!is_right).then(|| format!("one pass ends with {end:?} after {counts:?}, summed up {:?}", told.numbers))
+}
+
+/// Whether the text may end behind the block's opening brace, and not before, for the library to find the block from a place on.
+fn is_found_by_its_brace(text: &[u8], place: usize, kind: usize, start: usize) -> bool {
+    let mut parts = (start..=text.len()).map(|end| &text[..end]);
+    let found = parts.find_map(|part| Library::block(part, place).ok().map(|block| (block, part)));
+    found.is_some_and(|(block, part)| block == [kind as i64 + 1, start as i64] && part.ends_with(b"{"))
 }
 
 /// All that the library says of a text but its places: the counts, and each block with the bytes of its strings in place of where they lie; or the
