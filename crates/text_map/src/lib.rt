@@ -3,7 +3,6 @@
 ghost use mathlib.Core.Path.{_≡_};
 ghost use Rattle.text_scope.specs.Scopes.{scopeNumber};
 ghost use Rattle.text_table.specs.Table.{namespaceRows};
-ghost use Rattle.text_block.specs.Blocks.{noPlaces};
 ghost use Rattle.text_token.specs.Tokens.{bytesOf};
 ghost use Rattle.text_map.specs.Answers.{namespaceOf, summaryBy, textAnswer, blockCheck, openedCheck, blockBy, blockAnswer};
 ghost use Rattle.text_map.specs.Answers.{fieldsBy, blockFields, placesBy, blockPlaces, numbered, firstFrom, nextFrom, idBy, idOf};
@@ -130,20 +129,20 @@ pub fn fields_numbered(
     number: usize,
     places: &mut [usize; 34],
 ) -> BlockFields
-    requires { ⌜ now places ≡ noPlaces ⌝ }
     ensures { λ r. ⌜ r ≡ blockFields (now (text .entry)) (numbered (now (text .entry)) kind number) ⌝ }
     ensures { λ _. ⌜ now (places .exit) ≡ blockPlaces (numbered (now (text .entry)) kind number) ⌝ }
 {
+    *places = [0; 34];
     let s = text_reader::read(text, Asked::Numbered(kind, number), 0, places);
     fields_by(text, s, places)
 }
 
 // The same of the first block of a kind among the statements from a place on.
 pub fn fields_from(text: &[u8], kind: Scope, place: usize, places: &mut [usize; 34]) -> BlockFields
-    requires { ⌜ now places ≡ noPlaces ⌝ }
     ensures { λ r. ⌜ r ≡ blockFields (now (text .entry)) (firstFrom (now (text .entry)) kind place) ⌝ }
     ensures { λ _. ⌜ now (places .exit) ≡ blockPlaces (firstFrom (now (text .entry)) kind place) ⌝ }
 {
+    *places = [0; 34];
     let s = text_reader::read(text, Asked::First(kind), place, places);
     fields_by(text, s, places)
 }

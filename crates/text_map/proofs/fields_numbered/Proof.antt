@@ -8,7 +8,7 @@ use Rattle.text_map.proofs.fields_numbered.Tie as tie
 
 returns : tie.Need-returns
 returns c =
-    let text = now (c .before .before .before .before .before .args .text) in
+    let text = now (c .before .before .before .before .before .before .args .text) in
     let o = c .before .before .read .ensures in
     let f = c .fields-by .ensures in (
       f .0 ∙ (λ i. fieldsBy text (o .0 i) (blockCheck (o .0 i))),
