@@ -231,7 +231,7 @@ fn held_by(rows: &[u8], scope: Scope, i: usize) -> u8
     if i == 0 {
         return 0;
     }
-    if 34 < i {
+    if text_table::MOST_ROWS < i {
         return 0;
     }
     text_table::holds_of(rows, i - 1)

@@ -8,12 +8,12 @@ ghost use Rattle.text_table.specs.Table.{globalRows, rowsOf, holdsOf, de
 use text_byte as bytes;
 use text_scope::Scope;
 
-// The bytes of a row, the room of a name in it, and of all rows of a scope.
+// The bytes of a row, the room of a name in it, and the most rows of a scope.
 pub const ROW_SIZE: usize = 18;
 
 pub const NAME_ROOM: usize = 16;
 
-pub const SCOPE_ROOM: usize = 612;
+pub const MOST_ROWS: usize = 34;
 
 // What a field holds, as the letter of its row.
 pub const WHOLE: u8 = b'w';
