@@ -59,6 +59,13 @@ pub by-test : (b : Bool) {G : Type 0} → (b ≡ true → G) → (b ≡ false �
 by-test true f g = f refl
 by-test false f g = g refl
 
+-- a span that ends before the last place ends where the test fails
+pub span-stops : (test : ℕ → Bool) (n at : ℕ) → spanEnd test at n < at + n → test (spanEnd test at n) ≡ false
+unfolding spanEnd
+span-stops test zero at h = absurd (omega (arith, h))
+span-stops test (suc n) at h =
+    cond-on (λ (x : ℕ). x < at + suc n → test x ≡ false) (test at) (λ _ l. span-stops test n (at + 1) (omega (arith, l))) (λ e _. e) h
+
 -- each place that is passed over passes the test
 pub span-passes : (test : ℕ → Bool) (n at j : ℕ) → at ≤ j → j < spanEnd test at n → test j ≡ true
 unfolding spanEnd

@@ -1,13 +1,12 @@
 // White space and comments between the tokens of a text map (W-206). The definitions are in specs/.
 ghost use mathlib.Core.Path.{_≡_};
-ghost use mathlib.Core.Bool.{cond};
 ghost use Prim.Native.Nat.{_+_, _-_, _≤_, _<_};
 ghost use lib.ListN.{length};
-ghost use Rattle.text_gap.specs.declared.Mode.the-variants.{Between};
-ghost use Rattle.text_gap.specs.Gaps.{between, modeAfter, isStop, isOpen, gapFrom};
+ghost use Rattle.text_gap.specs.declared.Mode.the-variants.{Between, Line, Opening, Comment};
+ghost use Rattle.text_gap.specs.Gaps.{isOpen, gapFrom};
 ghost use Rattle.text_byte.specs.Spans.{spanEnd};
 ghost use Rattle.text_byte.specs.Inner.{Unseen};
-ghost use Rattle.text_gap.specs.Inner.{blankAt, byteIs, otherEnd, starAt, startsToken, byteBehind, Stays, Runs};
+ghost use Rattle.text_gap.specs.Inner.{blankAt, byteIs, otherEnd, startsToken, isBetween, Ends};
 use text_byte as bytes;
 
 // How the reading of a gap goes on: between tokens, in a comment up to the line's end, at the star that opens a comment, in that comment,
@@ -51,64 +50,115 @@ fn starts_token(text: &[u8], at: usize) -> bool
     false
 }
 
-// Past white space and comments, run by run.
+// Past white space and comments, one comment after the other.
 fn read_gap(text: &[u8], from: usize) -> Gap
     ensures { λ r. ⌜ r ≡ gapFrom (now (text .entry)) Between from (length (now (text .entry)) - from) ⌝ }
 {
-    let mut mode = Mode::Between;
     let mut at = from;
     while at < text.len() {
-        let g = run(text, mode, at);
-        let after = g.mode;
-        if is_stop(after) {
+        let g = comment_at(text, at);
+        let mode = g.mode;
+        if !is_between(mode) {
             return g;
         }
-        mode = after;
-        at = g.at;
+        at = blank_end(text, g.at);
     }
-    Gap { mode, at }
-}
-
-// A run of bytes that are read alike, and the byte behind it.
-fn run(text: &[u8], mode: Mode, at: usize) -> Gap
-    requires { ⌜ at < length (now text) ⌝ }
-    ensures { λ r. ⌜ Runs (now (text .entry)) mode at r ⌝ }
-{
-    byte_behind(text, mode, run_end(text, mode, at))
-}
-
-// Where a run ends: the first byte that changes the mode.
-fn run_end(text: &[u8], mode: Mode, at: usize) -> usize
-    requires { ⌜ at < length (now text) ⌝ }
-    ensures { λ r. ⌜ Stays (now (text .entry)) mode at r ⌝ }
-{
-    match mode {
-        Mode::Between => blank_end(text, at),
-        Mode::Line => byte_end(text, at, bytes::NEWLINE),
-        Mode::Opening => at,
-        Mode::Comment => byte_end(text, at, bytes::STAR),
-        Mode::Star => star_end(text, at),
-        Mode::Stop => at,
+    Gap {
+        mode: Mode::Between,
+        at,
     }
 }
 
-fn byte_behind(text: &[u8], mode: Mode, at: usize) -> Gap
-    ensures { λ r. ⌜ r ≡ byteBehind (now (text .entry)) mode at ⌝ }
+// Behind a comment or a byte of white space; or a token's first byte.
+fn comment_at(text: &[u8], at: usize) -> Gap
+    requires { ⌜ at < length (now text) ⌝ }
+    ensures { λ r. ⌜ Ends (now (text .entry)) Between at r ⌝ }
 {
-    if at < text.len() {
-        let after = mode_after(mode, text[at], bytes::byte_at(text, at + 1));
-        if is_stop(after) {
-            return Gap { mode: after, at };
-        }
+    let b = text[at];
+    let c = bytes::byte_at(text, at + 1);
+    if bytes::is_blank(b) {
         return Gap {
-            mode: after,
+            mode: Mode::Between,
             at: at + 1,
         };
     }
-    Gap { mode, at }
+    if bytes::opens_line(b, c) {
+        return line_end(text, at + 1);
+    }
+    if bytes::opens_comment(b, c) {
+        return comment_end(text, at + 1);
+    }
+    Gap {
+        mode: Mode::Stop,
+        at,
+    }
 }
 
-// Past white space.
+// Behind the newline that ends a comment.
+fn line_end(text: &[u8], from: usize) -> Gap
+    requires { ⌜ from ≤ length (now text) ⌝ }
+    ensures { λ r. ⌜ Ends (now (text .entry)) Line from r ⌝ }
+{
+    let at = byte_end(text, from, bytes::NEWLINE);
+    if at < text.len() {
+        return Gap {
+            mode: Mode::Between,
+            at: at + 1,
+        };
+    }
+    Gap {
+        mode: Mode::Line,
+        at,
+    }
+}
+
+// Behind the star and slash that close a comment, from the star that opens it on, which is none of them.
+fn comment_end(text: &[u8], from: usize) -> Gap
+    requires { ⌜ from ≤ length (now text) ⌝ }
+    ensures { λ r. ⌜ Ends (now (text .entry)) Opening from r ⌝ }
+{
+    if text.len() <= from {
+        return Gap {
+            mode: Mode::Opening,
+            at: from,
+        };
+    }
+    close_end(text, from + 1)
+}
+
+fn close_end(text: &[u8], from: usize) -> Gap
+    requires { ⌜ from ≤ length (now text) ⌝ }
+    ensures { λ r. ⌜ Ends (now (text .entry)) Comment from r ⌝ }
+{
+    let mut at = from;
+    while at < text.len() {
+        let star = byte_end(text, at, bytes::STAR);
+        if text.len() <= star {
+            return Gap {
+                mode: Mode::Comment,
+                at: star,
+            };
+        }
+        if text.len() - star == 1 {
+            return Gap {
+                mode: Mode::Star,
+                at: text.len(),
+            };
+        }
+        if text[star + 1] == bytes::SLASH {
+            return Gap {
+                mode: Mode::Between,
+                at: star + 2,
+            };
+        }
+        at = star + 1;
+    }
+    Gap {
+        mode: Mode::Comment,
+        at,
+    }
+}
+
 pub fn blank_end(text: &[u8], from: usize) -> usize
     ensures { λ r. ⌜ r ≡ spanEnd (blankAt (now (text .entry))) from (length (now (text .entry)) - from) ⌝ }
 {
@@ -164,63 +214,16 @@ fn has_byte(text: &[u8], at: usize, b: u8) -> bool
     has
 }
 
-fn star_end(text: &[u8], from: usize) -> usize
-    ensures { λ r. ⌜ r ≡ spanEnd (starAt (now (text .entry))) from (length (now (text .entry)) - from) ⌝ }
-{
-    let mut at = from;
-    while at < text.len() {
-        if text[at] != bytes::STAR {
-            return at;
-        }
-        at += 1;
-    }
-    at
-}
-
-fn mode_after(mode: Mode, b: u8, c: u8) -> Mode
-    ensures { λ r. ⌜ r ≡ modeAfter mode b c ⌝ }
+fn is_between(mode: Mode) -> bool
+    ensures { λ r. ⌜ r ≡ isBetween mode ⌝ }
 {
     match mode {
-        Mode::Between => between(b, c),
-        Mode::Line => pick(b == bytes::NEWLINE, Mode::Between, Mode::Line),
-        Mode::Opening => Mode::Comment,
-        Mode::Comment => pick(b == bytes::STAR, Mode::Star, Mode::Comment),
-        Mode::Star => pick(
-            b == bytes::SLASH,
-            Mode::Between,
-            pick(b == bytes::STAR, Mode::Star, Mode::Comment),
-        ),
-        Mode::Stop => Mode::Stop,
-    }
-}
-
-fn between(b: u8, c: u8) -> Mode
-    ensures { λ r. ⌜ r ≡ between b c ⌝ }
-{
-    let comment = pick(bytes::opens_comment(b, c), Mode::Opening, Mode::Stop);
-    pick(
-        bytes::is_blank(b),
-        Mode::Between,
-        pick(bytes::opens_line(b, c), Mode::Line, comment),
-    )
-}
-
-fn pick(ok: bool, yes: Mode, no: Mode) -> Mode
-    ensures { λ r. ⌜ r ≡ cond ok yes no ⌝ }
-{
-    if ok { yes } else { no }
-}
-
-fn is_stop(mode: Mode) -> bool
-    ensures { λ r. ⌜ r ≡ isStop mode ⌝ }
-{
-    match mode {
-        Mode::Between => false,
+        Mode::Between => true,
         Mode::Line => false,
         Mode::Opening => false,
         Mode::Comment => false,
         Mode::Star => false,
-        Mode::Stop => true,
+        Mode::Stop => false,
     }
 }
 
