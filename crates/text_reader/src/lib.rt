@@ -38,19 +38,19 @@ fn read_with(text: &[u8], kinds: &[u8], asked: Asked, from: usize, kept: &mut [u
     let mut rows = [0; 612];
     let mut places = [0; 34];
     let mut wanted = Wanted::Statement;
-    text_table::load(Scope::Top, &mut rows);
+    let mut before = Scope::Unknown;
     while is_more(wanted) {
         let scope = s.scope;
+        reload(before, scope, &mut rows);
+        before = scope;
         let n = text_table::size_of(scope);
         s = statement(text, kinds, &rows[..n], asked, s, &mut places, kept);
-        let after = s.scope;
-        reload(scope, after, &mut rows);
         wanted = s.wanted;
     }
     s
 }
 
-// The rows of another scope, where it is another.
+// The rows of another scope, where it is another: they are put where a statement of it is read.
 fn reload(before: Scope, scope: Scope, rows: &mut [u8; 612])
     requires { ⌜ Loaded before (now rows) ⌝ }
     ensures { λ _. ⌜ Loaded scope (now (rows .exit)) ⌝ }

@@ -24,64 +24,64 @@ abbrev RestOf : List ℕ → Asked → ℕ → Stand → Type 0
 RestOf text asked from x = Rest goes (tokenMore text asked) place (length text) x (textFrom text asked from)
 
 abbrev Inv-loop : tie.InvT-loop
-Inv-loop text kinds asked from kept₀ s₀ rows₀ places₀ wanted₀ kept s rows places wanted =
+Inv-loop text kinds asked from kept₀ s₀ rows₀ places₀ wanted₀ before₀ kept s rows places wanted before =
     RestOf text asked from (stand s places kept) × (s .wanted ≡ wanted) × Room (stand s places kept) × Rests wanted × (length places ≡ 34)
-    × Loaded (s .scope) rows
+    × Loaded before rows
 
 abbrev μ-loop : tie.MeasureT-loop
-μ-loop text kinds asked from kept₀ s₀ rows₀ places₀ wanted₀ kept s rows places wanted =
+μ-loop text kinds asked from kept₀ s₀ rows₀ places₀ wanted₀ before₀ kept s rows places wanted before =
     left goes (tokenMore text asked) place (length text) (stand s places kept)
 
 loop-holds : tie.Need-loop-holds Inv-loop μ-loop
-loop-holds c = let b = c .before .before .before .before .before in
+loop-holds c = let b = c .before .before .before in
     let a = b .args in
-    let e = c .before .before .start-at .ensures in (
+    let e = c .start-at .ensures in (
       subst (RestOf (now (a .text)) (a .asked) (a .from)) (λ i. stand (sym e i) noPlaces (sym (b .pre .1) i)) (rest-first _ _ _ _ _),
       ap (λ (s : Parse). s .wanted) e,
       ap (λ (s : Parse). isFull (s .notes .counts) (s .scope)) e,
       λ _. refl,
       refl,
-      subst (λ (s : Parse). Loaded (s .scope) (c .load .last .1 .0)) (sym e) (c .load .ensures),
+      (refl, refl),
     )
+
+reload-requires : tie.Need-reload-requires Inv-loop μ-loop
+reload-requires c κs = c .before .before .before .loop .inv .5
 
 slice-aggregate-statement : tie.Need-slice-aggregate-statement Inv-loop μ-loop
 slice-aggregate-statement c =
-    let long = c .before .before .before .before .loop .inv .5 .1 in
+    let long = c .before .before .reload .ensures .1 in
     let size = c .before .size-of .ensures .1 in
     sym (length-take-le _ _ (omega (arith, long, size)))
 
 statement-requires : tie.Need-statement-requires Inv-loop μ-loop
 statement-requires c κs =
-    let l = c .before .before .before .before .before .before .loop in
-    let inv = l .inv in
-    let more = sym (c .before .before .before .before .before .is-more .ensures) ∙ c .before .before .before .before .if1 .taken in
+    let inv = c .before .before .before .before .before .before .before .before .loop .inv in
+    let more = sym (c .before .before .before .before .before .before .before .is-more .ensures) ∙ c .before .before .before .before .before .before .if1 .taken in
+    let rows = c .before .before .before .before .reload in
     let size = c .before .before .before .size-of .ensures .0 in (
       (
         c .before .before .before .before .before .before .before .before .before .before .before .before .pre .0,
-        ap (λ (n : ℕ). take n (l .rows)) size ∙ inv .5 .0,
+        ap (λ (n : ℕ). take n (rows .last .1 .1 .0)) size ∙ rows .ensures .0,
       ),
       ((inv .1 ∙ inv .3 more, inv .2), inv .4),
     )
 
-reload-requires : tie.Need-reload-requires Inv-loop μ-loop
-reload-requires c κs = c .before .before .before .before .before .before .before .before .loop .inv .5
-
 loop-less : tie.Need-loop-less Inv-loop μ-loop
 loop-less c =
-    let a = c .before .before .before .before .before .before .before .before .before .before .before .before .before .before .before .args in
-    leads-less (now (a .text)) (a .asked) (c .before .before .statement .ensures .0)
+    let a = c .before .before .before .before .before .before .before .before .before .before .before .before .before .args in
+    leads-less (now (a .text)) (a .asked) (c .statement .ensures .0)
 
 loop-again : tie.Need-loop-again Inv-loop μ-loop
 loop-again c =
-    let a = c .before .before .before .before .before .before .before .before .before .before .before .before .before .before .before .args in
+    let a = c .before .before .before .before .before .before .before .before .before .before .before .before .before .args in
     let inv = c .before .before .before .before .before .before .before .before .before .loop .inv in
-    let leads = c .before .before .statement .ensures .0 in (
+    let leads = c .statement .ensures .0 in (
       leads-rest (now (a .text)) (a .asked) leads (inv .0),
       refl,
       leads-room (now (a .text)) (a .asked) leads (inv .2),
-      c .before .before .statement .ensures .1 .0,
-      c .before .before .statement .ensures .1 .1,
-      c .reload .ensures,
+      c .statement .ensures .1 .0,
+      c .statement .ensures .1 .1,
+      c .before .before .before .before .before .reload .ensures,
     )
 
 returns : tie.Need-returns Inv-loop μ-loop
@@ -93,5 +93,5 @@ returns c = let l = c .before .before .loop in
 pub read-with-spec : {M : Type 1} → statement M
 read-with-spec =
     tie.close
-    (tie.spec Inv-loop μ-loop (λ c κs. search needs) (λ c κs. search needs) loop-holds (λ c κs. search needs) (λ c κs. search needs)
-    (λ c. search needs) slice-aggregate-statement statement-requires reload-requires loop-less loop-again returns)
+    (tie.spec Inv-loop μ-loop (λ c κs. search needs) loop-holds (λ c κs. search needs) reload-requires (λ c κs. search needs)
+    (λ c. search needs) slice-aggregate-statement statement-requires loop-less loop-again returns)
