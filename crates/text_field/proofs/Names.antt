@@ -12,10 +12,6 @@ use lib.ListN.{length, getD}
 use Rattle.text_table.specs.Table.{rowSize}
 use Rattle.text_field.specs.Names.{every, sameAt, longAs, isName, nameIn}
 
-pub not-not : (b : Bool) → not (not b) ≡ b
-not-not true = refl
-not-not false = refl
-
 module _ (test : ℕ → Bool) where
   every-step : (n : ℕ) → every test (suc n) ≡ (every test n && test n)
   unfolding every

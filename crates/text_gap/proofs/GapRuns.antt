@@ -4,7 +4,7 @@ use mathlib.Core.Bool.{Bool, true, false, not, _&&_, cond, and-eq-true-iff, true
 use mathlib.Core.List.{List}
 use mathlib.Core.Path.{_≡_, refl, sym, ap, _∙_, subst}
 use native.Mathlib.Omega.{arith}
-use borrow.Author.Tests.{ltb-true, ltb-false, eqb-true, not-true}
+use borrow.Author.Tests.{ltb-true, ltb-false, eqb-true, not-true, not-false}
 use lib.Dec.{eqb, ltb}
 use lib.ListN.{getD, length}
 use Rattle.text_gap.specs.declared.Mode.{Mode}
@@ -88,10 +88,6 @@ between-is Opening e = absurd (true≢false (sym e))
 between-is Comment e = absurd (true≢false (sym e))
 between-is Star e = absurd (true≢false (sym e))
 between-is Stop e = absurd (true≢false (sym e))
-
-pub not-false : (b : Bool) → not b ≡ false → b ≡ true
-not-false true e = refl
-not-false false e = absurd (true≢false e)
 
 module _ (text : List ℕ) where
   -- a byte, and what is read behind it

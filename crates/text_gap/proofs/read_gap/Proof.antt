@@ -5,7 +5,7 @@ use mathlib.Core.Bool.{Bool, not}
 use mathlib.Core.Path.{_≡_, refl, sym, ap, _∙_}
 use native.Mathlib.Omega.{arith}
 use borrow.Author.Needs.{needs}
-use borrow.Author.Tests.{not-true}
+use borrow.Author.Tests.{not-true, not-false}
 use denote.Ref.{now}
 use lib.ListN.{length}
 use Rattle.text_gap.specs.declared.Mode.{Mode}
@@ -14,7 +14,7 @@ use Rattle.text_gap.specs.Gaps.{gapFrom}
 use Rattle.text_gap.specs.Inner.{blankAt}
 use Rattle.text_byte.proofs.Spans.{span-reach}
 use Rattle.text_gap.proofs.Scans.{gap-done}
-use Rattle.text_gap.proofs.GapRuns.{not-false, between-is, blanks-same}
+use Rattle.text_gap.proofs.GapRuns.{between-is, blanks-same}
 use Rattle.text_gap.proofs.read_gap.Statement.{statement}
 use Rattle.text_gap.proofs.read_gap.Tie as tie
 
