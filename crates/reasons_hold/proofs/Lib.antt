@@ -1,3 +1,4 @@
 -- The laws of what holds of a reason. Assumes nothing.
 
+pub mod Outputs
 pub mod Reasons
