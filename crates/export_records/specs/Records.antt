@@ -20,6 +20,22 @@ use Rattle.built.specs.declared.node.NodeRead.{NodeRead}
 use Rattle.export_records.specs.declared.NodeAnswer.{NodeAnswer}
 use Rattle.record.specs.declared.sector.SectorRead.{SectorRead}
 use Rattle.export_records.specs.declared.SectorAnswer.{SectorAnswer}
+use Rattle.thing.specs.declared.Thing.{Thing}
+use Rattle.thing.specs.Things.{thingSize, thingFieldsOk, thingBytes}
+use Rattle.linedef.specs.declared.Linedef.{Linedef}
+use Rattle.linedef.specs.Linedefs.{linedefSize, linedefFieldsOk, linedefBytes}
+use Rattle.record.specs.declared.sidedef.Sidedef.{Sidedef}
+use Rattle.record.specs.Sidedefs.{sidedefSize, sidedefBytes}
+use Rattle.record.specs.declared.vertex.Vertex.{Vertex}
+use Rattle.record.specs.Vertexes.{vertexSize, vertexBytes}
+use Rattle.built.specs.declared.seg.Seg.{Seg}
+use Rattle.built.specs.Segs.{segSize, segBytes}
+use Rattle.built.specs.declared.subsector.Subsector.{Subsector}
+use Rattle.built.specs.Subsectors.{subsectorSize, subsectorBytes}
+use Rattle.built.specs.declared.node.Node.{Node}
+use Rattle.built.specs.Nodes.{nodeSize, nodeBytes}
+use Rattle.record.specs.declared.sector.Sector.{Sector}
+use Rattle.record.specs.Sectors.{sectorSize, sectorBytes}
 use Rattle.status.specs.declared.Status.{Status}
 use Rattle.status.specs.Status.{statusOf}
 
@@ -32,6 +48,33 @@ pub record RecordWritten (lump : List ℕ) (size index : ℕ) (bytes : List ℕ)
 pub record RecordWrittenIf (good : Bool) (lump : List ℕ) (size index : ℕ) (bytes : List ℕ) (answer : Status) (left : List ℕ) : Type 0 where
   pub answers : answer ≡ statusOf (goodCheck good lump size index)
   pub leaves : left ≡ cond good (replaced lump size index bytes) lump
+
+-- what the write of each kind promises of a record
+abbrev pub ThingWritten : List ℕ → ℕ → Thing → Status → List ℕ → Type 0
+ThingWritten lump index thing answer left =
+    RecordWrittenIf (thingFieldsOk thing) lump (thingSize (thing .hexen)) index (thingBytes (thing .hexen) thing) answer left
+
+abbrev pub LinedefWritten : List ℕ → ℕ → Linedef → Status → List ℕ → Type 0
+LinedefWritten lump index linedef answer left =
+    RecordWrittenIf (linedefFieldsOk linedef) lump (linedefSize (linedef .hexen)) index (linedefBytes (linedef .hexen) linedef) answer left
+
+abbrev pub SidedefWritten : List ℕ → ℕ → Sidedef → Status → List ℕ → Type 0
+SidedefWritten lump index sidedef answer left = RecordWritten lump sidedefSize index (sidedefBytes sidedef) answer left
+
+abbrev pub VertexWritten : List ℕ → ℕ → Vertex → Status → List ℕ → Type 0
+VertexWritten lump index vertex answer left = RecordWritten lump vertexSize index (vertexBytes vertex) answer left
+
+abbrev pub SegWritten : List ℕ → ℕ → Seg → Status → List ℕ → Type 0
+SegWritten lump index seg answer left = RecordWritten lump segSize index (segBytes seg) answer left
+
+abbrev pub SubsectorWritten : List ℕ → ℕ → Subsector → Status → List ℕ → Type 0
+SubsectorWritten lump index subsector answer left = RecordWritten lump subsectorSize index (subsectorBytes subsector) answer left
+
+abbrev pub NodeWritten : List ℕ → ℕ → Node → Status → List ℕ → Type 0
+NodeWritten lump index node answer left = RecordWritten lump nodeSize index (nodeBytes node) answer left
+
+abbrev pub SectorWritten : List ℕ → ℕ → Sector → Status → List ℕ → Type 0
+SectorWritten lump index sector answer left = RecordWritten lump sectorSize index (sectorBytes sector) answer left
 
 -- a record that was read, all 0 where refused
 abbrev pub thingOut : ThingRead → ThingAnswer

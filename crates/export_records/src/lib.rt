@@ -1,15 +1,16 @@
 // The eight kinds of map record, read and written by number: 60. Things and linedefs are read by their game, and say which
 // they are of; a write of one may be refused 61.
 ghost use mathlib.Core.Path.{_≡_};
-ghost use Rattle.thing.specs.Things.{thingSize, thingAt, thingFieldsOk, thingBytes};
-ghost use Rattle.linedef.specs.Linedefs.{linedefSize, linedefAt, linedefFieldsOk, linedefBytes};
-ghost use Rattle.record.specs.Sidedefs.{sidedefSize, sidedefAt, sidedefBytes};
-ghost use Rattle.record.specs.Vertexes.{vertexSize, vertexAt, vertexBytes};
-ghost use Rattle.built.specs.Segs.{segSize, segAt, segBytes};
-ghost use Rattle.built.specs.Subsectors.{subsectorSize, subsectorAt, subsectorBytes};
-ghost use Rattle.built.specs.Nodes.{nodeSize, nodeAt, nodeBytes};
-ghost use Rattle.record.specs.Sectors.{sectorSize, sectorAt, sectorBytes};
-ghost use Rattle.export_records.specs.Records.{RecordWritten, RecordWrittenIf, thingOut, linedefOut, sidedefOut, vertexOut, segOut, subsectorOut, nodeOut, sectorOut};
+ghost use Rattle.thing.specs.Things.{thingAt};
+ghost use Rattle.linedef.specs.Linedefs.{linedefAt};
+ghost use Rattle.record.specs.Sidedefs.{sidedefAt};
+ghost use Rattle.record.specs.Vertexes.{vertexAt};
+ghost use Rattle.built.specs.Segs.{segAt};
+ghost use Rattle.built.specs.Subsectors.{subsectorAt};
+ghost use Rattle.built.specs.Nodes.{nodeAt};
+ghost use Rattle.record.specs.Sectors.{sectorAt};
+ghost use Rattle.export_records.specs.Records.{thingOut, linedefOut, sidedefOut, vertexOut, segOut, subsectorOut, nodeOut, sectorOut};
+ghost use Rattle.export_records.specs.Records.{ThingWritten, LinedefWritten, SidedefWritten, VertexWritten, SegWritten, SubsectorWritten, NodeWritten, SectorWritten};
 use built::Node;
 use built::Seg;
 use built::Subsector;
@@ -47,7 +48,7 @@ pub extern "C" fn meshpigeon_read_thing(lump: &[u8], index: usize, hexen: bool) 
 // Record `index` of THINGS of its game replaced.
 #[no_mangle]
 pub extern "C" fn meshpigeon_write_thing(lump: &mut [u8], index: usize, thing: Thing) -> Status
-    ensures { λ r. ⌜ RecordWrittenIf (thingFieldsOk thing) (now (lump .entry)) (thingSize (thing .hexen)) index (thingBytes (thing .hexen) thing) r (now (lump .exit)) ⌝ }
+    ensures { λ r. ⌜ ThingWritten (now (lump .entry)) index thing r (now (lump .exit)) ⌝ }
 {
     match Thing::write(lump, index, thing) {
         Check::Pass => nothing_refused(),
@@ -82,7 +83,7 @@ pub extern "C" fn meshpigeon_write_linedef(
     index: usize,
     linedef: Linedef,
 ) -> Status
-    ensures { λ r. ⌜ RecordWrittenIf (linedefFieldsOk linedef) (now (lump .entry)) (linedefSize (linedef .hexen)) index (linedefBytes (linedef .hexen) linedef) r (now (lump .exit)) ⌝ }
+    ensures { λ r. ⌜ LinedefWritten (now (lump .entry)) index linedef r (now (lump .exit)) ⌝ }
 {
     match Linedef::write(lump, index, linedef) {
         Check::Pass => nothing_refused(),
@@ -117,7 +118,7 @@ pub extern "C" fn meshpigeon_write_sidedef(
     index: usize,
     sidedef: Sidedef,
 ) -> Status
-    ensures { λ r. ⌜ RecordWritten (now (lump .entry)) sidedefSize index (sidedefBytes sidedef) r (now (lump .exit)) ⌝ }
+    ensures { λ r. ⌜ SidedefWritten (now (lump .entry)) index sidedef r (now (lump .exit)) ⌝ }
 {
     match Sidedef::write(lump, index, sidedef) {
         Check::Pass => nothing_refused(),
@@ -148,7 +149,7 @@ pub extern "C" fn meshpigeon_read_vertex(lump: &[u8], index: usize) -> VertexAns
 // Record `index` of VERTEXES replaced.
 #[no_mangle]
 pub extern "C" fn meshpigeon_write_vertex(lump: &mut [u8], index: usize, vertex: Vertex) -> Status
-    ensures { λ r. ⌜ RecordWritten (now (lump .entry)) vertexSize index (vertexBytes vertex) r (now (lump .exit)) ⌝ }
+    ensures { λ r. ⌜ VertexWritten (now (lump .entry)) index vertex r (now (lump .exit)) ⌝ }
 {
     match Vertex::write(lump, index, vertex) {
         Check::Pass => nothing_refused(),
@@ -179,7 +180,7 @@ pub extern "C" fn meshpigeon_read_seg(lump: &[u8], index: usize) -> SegAnswer
 // Record `index` of SEGS replaced.
 #[no_mangle]
 pub extern "C" fn meshpigeon_write_seg(lump: &mut [u8], index: usize, seg: Seg) -> Status
-    ensures { λ r. ⌜ RecordWritten (now (lump .entry)) segSize index (segBytes seg) r (now (lump .exit)) ⌝ }
+    ensures { λ r. ⌜ SegWritten (now (lump .entry)) index seg r (now (lump .exit)) ⌝ }
 {
     match Seg::write(lump, index, seg) {
         Check::Pass => nothing_refused(),
@@ -214,7 +215,7 @@ pub extern "C" fn meshpigeon_write_subsector(
     index: usize,
     subsector: Subsector,
 ) -> Status
-    ensures { λ r. ⌜ RecordWritten (now (lump .entry)) subsectorSize index (subsectorBytes subsector) r (now (lump .exit)) ⌝ }
+    ensures { λ r. ⌜ SubsectorWritten (now (lump .entry)) index subsector r (now (lump .exit)) ⌝ }
 {
     match Subsector::write(lump, index, subsector) {
         Check::Pass => nothing_refused(),
@@ -245,7 +246,7 @@ pub extern "C" fn meshpigeon_read_node(lump: &[u8], index: usize) -> NodeAnswer
 // Record `index` of NODES replaced.
 #[no_mangle]
 pub extern "C" fn meshpigeon_write_node(lump: &mut [u8], index: usize, node: Node) -> Status
-    ensures { λ r. ⌜ RecordWritten (now (lump .entry)) nodeSize index (nodeBytes node) r (now (lump .exit)) ⌝ }
+    ensures { λ r. ⌜ NodeWritten (now (lump .entry)) index node r (now (lump .exit)) ⌝ }
 {
     match Node::write(lump, index, node) {
         Check::Pass => nothing_refused(),
@@ -276,7 +277,7 @@ pub extern "C" fn meshpigeon_read_sector(lump: &[u8], index: usize) -> SectorAns
 // Record `index` of SECTORS replaced.
 #[no_mangle]
 pub extern "C" fn meshpigeon_write_sector(lump: &mut [u8], index: usize, sector: Sector) -> Status
-    ensures { λ r. ⌜ RecordWritten (now (lump .entry)) sectorSize index (sectorBytes sector) r (now (lump .exit)) ⌝ }
+    ensures { λ r. ⌜ SectorWritten (now (lump .entry)) index sector r (now (lump .exit)) ⌝ }
 {
     match Sector::write(lump, index, sector) {
         Check::Pass => nothing_refused(),

@@ -1,0 +1,3 @@
+-- What holds of the exported reads and writes of records. Assumes nothing.
+
+pub mod WrittenBack
