@@ -1,6 +1,6 @@
 // Questions that words are lent to: each is put with what else is lent, and the answer printed, then the words.
 
-// The questions by number: map, order, pair, why.
+// The questions by number: map, order, pair, why, renumber.
 pub fn put(asked: usize, file: &[u8], with: &[u8], word: usize, count: usize) {
     if 131072 < count {
         return print::ill_formed();
@@ -14,7 +14,8 @@ fn answer(asked: usize, file: &[u8], with: &[u8], words: &mut [u16]) {
         0 => judge_map(file, with, words),
         1 => draw_order(file, with, words),
         2 => judge_pair(file, with, words),
-        _ => why(file, with, words),
+        3 => why(file, with, words),
+        _ => renumber(file, with, words),
     }
 }
 
@@ -66,6 +67,52 @@ fn output_length(with: &[u8]) -> usize {
 fn reason(file: &[u8], name: &[u8], words: &mut [u16], out: &mut [u8]) {
     let a = export_why::meshpigeon_why(file, name, words, out);
     print::answer(a.status, a.depth, a.marker);
+    print::number(a.length);
+    print::bytes(out);
+    print::text(b" words");
+    print::words(words);
+}
+
+// Asked with the name of eight bytes, the output's length and the list of old numbers, of 16 bits; the output holds 9s.
+fn renumber(file: &[u8], with: &[u8], words: &mut [u16]) {
+    let n = script::argument(with, 8);
+    let many = script::rest(with, 12).len() / 2;
+    if 6 < many {
+        return print::ill_formed();
+    }
+    if 128 < n {
+        return print::ill_formed();
+    }
+    let order = listed(with);
+    let mut out = [9u8; 128];
+    renumber_by(file, with, words, &order[..many], &mut out[..n]);
+}
+
+// The list, of at most six numbers.
+fn listed(with: &[u8]) -> [u16; 6] {
+    [
+        word_at(with, 12),
+        word_at(with, 14),
+        word_at(with, 16),
+        word_at(with, 18),
+        word_at(with, 20),
+        word_at(with, 22),
+    ]
+}
+
+fn word_at(with: &[u8], at: usize) -> u16 {
+    let bytes = directory::part_if(with, at, 2);
+    if bytes.len() == 2 {
+        endian::u16_at(bytes, 0)
+    } else {
+        0
+    }
+}
+
+fn renumber_by(file: &[u8], with: &[u8], words: &mut [u16], order: &[u16], out: &mut [u8]) {
+    let name = script::lent(with, 0, 8);
+    let a = export_renumber::meshpigeon_renumber(file, name, words, order, out);
+    print::status(a.status);
     print::number(a.length);
     print::bytes(out);
     print::text(b" words");

@@ -1,14 +1,18 @@
 // The questions: each is put to the library with what is lent, and the answer printed.
 
-// Which question a word names: its place among these. Those from MAPS on are lent words; those from RECORDS on read and write one.
+// Which question a word names: its place among these. Those from MAPS on are lent words, those from TEXTS on read a text map,
+// and those from RECORDS on read and write a record.
 const MAPS: usize = 11;
 
-const RECORDS: usize = 15;
+const TEXTS: usize = 16;
+
+const RECORDS: usize = 19;
 
 pub(crate) fn number_of(word: &[u8]) -> usize {
     script::place_among(
         b"base title directory entry marker game descend find sidedefs picture encode \
-        map order pair why \
+        map order pair why renumber \
+        textmap vertex sector \
         THINGS THINGS.DH THINGS.HD THINGS.H LINEDEFS LINEDEFS.DH LINEDEFS.HD LINEDEFS.H \
         SIDEDEFS VERTEXES SEGS SSECTORS NODES SECTORS ",
         word,
@@ -26,8 +30,9 @@ pub(crate) fn put(asked: usize, with: &[u8], file: &[u8], word: usize, words: us
         7 => find(file, with),
         8 => sidedefs(file, with),
         9 | 10 => ask_pictures::put(asked == 10, file, with),
-        MAPS..=14 => ask_maps::put(asked - MAPS, file, with, word, words),
-        RECORDS..=28 => ask_records::put(asked - RECORDS, file, with),
+        MAPS..=15 => ask_maps::put(asked - MAPS, file, with, word, words),
+        TEXTS..=18 => ask_texts::put(asked - TEXTS, file, with),
+        RECORDS..=32 => ask_records::put(asked - RECORDS, file, with),
         _ => print::ill_formed(),
     }
 }
