@@ -29,7 +29,7 @@ pub fn busy_picture_of(posts: usize) -> Vec<u8> {
     let mut picture = PictureSpec::blank(320, 200);
     picture.data.clear();
     for start in 0..200 {
-        let (empty, ignored) = (vec![start, 0, 0, 0].repeat(posts / 200), [0, 0]);
+        let (empty, ignored) = ([start, 0, 0, 0].repeat(posts / 200), [0, 0]);
         picture.data.extend(empty);
         picture.data.extend(Post { start, pixels: vec![start], ignored }.encode());
     }

@@ -58,7 +58,7 @@ fn verdict(sectors: usize, bytes: usize, bad: Option<usize>) -> Expected {
     match (sectors, bytes, bad) {
         (0 | 65_536.., _, _) => refused(80, 0, 0),
         (_, 16_777_217.., _) => refused(81, 0, 0),
-        _ if bytes % 30 > 0 => refused(20, 3, 0),
+        _ if !bytes.is_multiple_of(30) => refused(20, 3, 0),
         (_, 0 | 1_966_080.., _) => refused(21, 3, 0),
         (_, _, Some(record)) => refused(24, 3, record),
         _ => Expected::Accepted,

@@ -99,7 +99,7 @@ fn whole(is_negative: bool, digits: &[u8]) -> Option<i32> {
 fn hexadecimal(digits: &[u8]) -> Option<i32> {
     digits.iter().try_fold(0_i32, |sum, &digit| {
         let digit = (digit as char).to_digit(16)? as i32;
-        (sum <= i32::MAX >> 4).then(|| sum << 4 | digit)
+        (sum <= i32::MAX >> 4).then_some(sum << 4 | digit)
     })
 }
 
