@@ -41,8 +41,8 @@ pub fn judged(state: &Sidedefs) -> Result<(), Refusal> {
     match state.bytes / 30 {
         _ if state.sectors < 1 || state.sectors > 65_535 => refused(80, 0, 0),
         _ if state.bytes > MOST_BYTES => refused(81, 0, 0),
-        _ if state.bytes % 30 != 0 => refused(20, 3, 0),
-        count if count < 1 || count > 65_535 => refused(21, 3, 0),
+        _ if !state.bytes.is_multiple_of(30) => refused(20, 3, 0),
+        count if !(1..=65_535).contains(&count) => refused(21, 3, 0),
         _ if state.found => refused(24, 3, state.bad),
         _ => Ok(()),
     }
