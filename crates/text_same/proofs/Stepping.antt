@@ -20,9 +20,9 @@ use Rattle.text_value.specs.declared.Reading.{Reading}
 use Rattle.text_value.specs.Values.{tokenRead}
 use Rattle.text_scope.specs.declared.Scope.{Scope}
 use Rattle.text_scope.specs.declared.Scope.the-variants.{Top}
-use Rattle.text_table.specs.Table.{rowsOf, isRequired, whole, decimal, string, flag}
+use Rattle.text_table.specs.Table.{fieldsOf, isRequired, whole, decimal, string, flag}
 use Rattle.text_field.specs.Names.{every, fieldNamed, kindNamed}
-use Rattle.text_scope.specs.Scopes.{rowCount, scopeNumber}
+use Rattle.text_scope.specs.Scopes.{scopeNumber}
 use Rattle.text_given.specs.Fields.{valueAt}
 use Rattle.text_block.specs.declared.Asked.{Asked}
 use Rattle.text_block.specs.declared.Counts.{Counts}
@@ -68,7 +68,7 @@ module _ (a b : List ℕ) where
   SamePlaces ps qs = (k : ℕ) → SamePlace a b (getD ps k 0) (getD qs k 0)
 
   all-given : (ps qs : List ℕ) {x y : Scope} → x ≡ y → SamePlaces ps qs → allGiven x ps ≡ allGiven y qs
-  all-given ps qs {x} {y} e h = ap (λ (z : Scope). allGiven z ps) e ∙ (λ i. every (λ k. not (isRequired (rowsOf y) k && h k .given i)) (rowCount y))
+  all-given ps qs {x} {y} e h = ap (λ (z : Scope). allGiven z ps) e ∙ (λ i. every (λ k. not (isRequired (fieldsOf y) k && h k .given i)) (length (fieldsOf y)))
 
   module _ {n : ℕ} {p q : Parse} {t u : Token} (s : SameBase a b (suc n) p q) (l : SameToken a b n t u) where
     on : {w v : Wanted} → SameWanted a b (t .next) (u .next) w v → SameParse a b n (goesOn p t w) (goesOn q u v)

@@ -6,8 +6,10 @@ use native.Mathlib.Omega.{arith}
 use borrow.Author.Needs.{needs}
 use denote.Ref.{now}
 use lib.ListN.{length}
-use Rattle.text_field.specs.Names.{nameIn}
-use Rattle.text_table.proofs.Table.{length-rows}
+use Rattle.text_field.specs.Inner.{rowIn}
+use Rattle.text_field.proofs.Padded.{row-in, good-fields}
+use Rattle.text_table.specs.Table.{fieldsOf}
+use Rattle.text_table.proofs.Table.{length-rows, count-fields}
 use Rattle.text_field.proofs.field_named.Statement.{statement}
 use Rattle.text_field.proofs.field_named.Tie as tie
 
@@ -21,7 +23,9 @@ name-in-requires c κs =
 returns : tie.Need-returns
 returns c =
     let a = c .before .before .before .before in
-    c .name-in .ensures ∙ (λ i. nameIn (now (a .args .word)) false (a .pre i) 0 (c .before .row-count .ensures .0 i))
+    let scope = a .args .scope in
+    c .name-in .ensures ∙ (λ i. rowIn (now (a .args .word)) false (a .pre i) 0 ((c .before .row-count .ensures .0 ∙ sym (count-fields scope)) i))
+    ∙ row-in (now (a .args .word)) false (fieldsOf scope) (good-fields scope)
 
 pub field-named-spec : {M : Type 1} → statement M
 field-named-spec = tie.close (tie.spec (λ c κs. search needs) name-in-requires returns)

@@ -8,7 +8,8 @@ use borrow.Author.Tests.{eq-eqb, ne-eqb}
 use denote.Ref.{now}
 use lib.Dec.{eqb}
 use lib.ListN.{length, getD}
-use Rattle.text_field.specs.Names.{every, sameAt}
+use Rattle.text_field.specs.Names.{every}
+use Rattle.text_field.specs.Inner.{sameAt}
 use Rattle.text_field.proofs.Names.{every-none, every-more, every-stop, every-done}
 use Rattle.text_field.proofs.is_same.Statement.{statement}
 use Rattle.text_field.proofs.is_same.Tie as tie
