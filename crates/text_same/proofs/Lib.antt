@@ -12,3 +12,4 @@ pub mod Gaps
 pub mod Front
 pub mod Seams
 pub mod Between
+pub mod Found
