@@ -43,10 +43,6 @@ good-fields Sector = refl
 good-fields Thing = refl
 good-fields Unknown = refl
 
-not-true : (b : Bool) → not b ≡ true → b ≡ false
-not-true true e = sym e
-not-true false e = refl
-
 -- the rows from `k` on are padded; the first of them has a good name
 module _ (word : List ℕ) (exact : Bool) (bytes : List ℕ) (k : ℕ) (r : Row) (rows : List Row)
     (at : (j : ℕ) → getD bytes (18 * k + j) 0 ≡ getD (padded (r ∷ rows)) j 0) (good : goodName (r .name) ≡ true) where
@@ -92,9 +88,6 @@ module _ (word : List ℕ) (exact : Bool) (bytes : List ℕ) (k : ℕ) (r : Row)
 
   no-blank : (j : ℕ) → j < m → eqb (getD bytes (18 * k + j) 0) 32 ≡ false
   no-blank j h = ap (λ (b : ℕ). eqb b 32) (letter-there j h) ∙ letter-good j h
-
-  letters : Bool
-  letters = every (λ j. eqb (letterAt word exact j) (getD name j 0)) n
 
   as-long : n ≡ m → isRow word exact bytes k ≡ every (λ j. eqb (letterAt word exact j) (getD name j 0)) n
   as-long e =

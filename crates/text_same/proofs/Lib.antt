@@ -7,6 +7,7 @@ pub mod Stepping
 pub mod Holds
 pub mod LastValues
 pub mod Unknown
+pub mod UnknownBlocks
 pub mod Moved
 pub mod Gaps
 pub mod Front
