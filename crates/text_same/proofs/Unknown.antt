@@ -26,7 +26,7 @@ use Rattle.text_step.specs.Steps.{notes, parse, goesOn, misfit, isTop, closedBl
 use Rattle.text_reader.specs.Texts.{Stand, stand, tokenMore, textFrom}
 use Rattle.text_same.specs.Tokens.{SameFirst, SameTokens}
 use Rattle.text_same.specs.Answers.{SameCheck, both-pass, SameStand}
-use Rattle.text_same.specs.Promises.{after, beginsAt, nextToken, UnknownAssigned, Inserted, UnknownNamesDoNotMatter}
+use Rattle.text_same.specs.Promises.{after, beginsAt, nextToken, UnknownAssigned, PutBetween, UnknownNamesDoNotMatter}
 use Rattle.text_same.proofs.Related.{SameWanted, want-statement, want-equals, want-value, want-semicolon, want-none}
 use Rattle.text_same.proofs.Holds.{Alike, after-alike, begins-alike, kept-still, by-wanted, after-add, ends-alike}
 
@@ -131,7 +131,8 @@ module _ (text : List ℕ) (asked : Asked) where
         ap (λ (x : Stand). tokenMore text asked (tokenMore text asked (tokenMore text asked x))) first
         ∙ ap (λ (x : Stand). tokenMore text asked (tokenMore text asked x)) second ∙ ap (tokenMore text asked) third ∙ fourth
 
-module _ (a b : List ℕ) (asked : Asked) (at from m next : ℕ) (h : Inserted a b asked at from m next) where
+module _ (a b : List ℕ) (asked : Asked) (at from m next : ℕ) (h : PutBetween a b asked at from m next)
+    (u : UnknownAssigned b (after a asked m (beginsAt at) .parse .scope) (after b asked m (beginsAt from) .parse .at) next) where
   abbrev s : Stand
   s = after a asked m (beginsAt at)
 
@@ -145,7 +146,7 @@ module _ (a b : List ℕ) (asked : Asked) (at from m next : ℕ) (h : Inserted a
   wanted-too = statement-too (so-far .parse .wanted) (h .between)
 
   assigned-too : UnknownAssigned b (r .parse .scope) (r .parse .at) next
-  assigned-too = subst (λ (x : Scope). UnknownAssigned b x (r .parse .at) next) (so-far .parse .base .scope) (h .assigned)
+  assigned-too = subst (λ (x : Scope). UnknownAssigned b x (r .parse .at) next) (so-far .parse .base .scope) u
 
   -- behind the four tokens both stand alike, with the same tokens to come
   behind-alike : (n : ℕ) → Alike a b n s (after b asked 4 r)
@@ -178,4 +179,4 @@ put-in a b asked at from m k h =
     (after-alike a b asked n (h n))))
 
 pub unknown-names : UnknownNamesDoNotMatter
-unknown-names a b asked at from m next h = put-in a b asked at from m 4 (behind-alike a b asked at from m next h)
+unknown-names a b asked at from m next h u = put-in a b asked at from m 4 (behind-alike a b asked at from m next h u)

@@ -28,7 +28,7 @@ use Rattle.text_step.specs.Steps.{notes, parse, goesOn, refusedWith, misfit, is
 use Rattle.text_reader.specs.Texts.{Stand, stand, keptAfter, tokenMore}
 use Rattle.text_same.specs.Tokens.{SameFirst}
 use Rattle.text_same.specs.Answers.{SameCheck, both-pass}
-use Rattle.text_same.specs.Promises.{after, beginsAt, nextToken, AllUnknown, none, more, UnknownBlock, BlockInserted, UnknownBlocksDoNotMatter}
+use Rattle.text_same.specs.Promises.{after, beginsAt, nextToken, AllUnknown, none, more, UnknownBlock, PutBetween, UnknownBlocksDoNotMatter}
 use Rattle.text_same.proofs.Related.{SameWanted, want-statement}
 use Rattle.text_same.proofs.Holds.{Alike, after-alike, begins-alike, kept-still, by-wanted, after-add}
 use Rattle.text_same.proofs.Unknown.{taken, statement-too, plain-step, four-tokens, put-in}
@@ -140,7 +140,9 @@ module _ (text : List ℕ) (asked : Asked) (s : Stand) (next : ℕ) (e : s .pars
       ∙ brace-passed text asked (t₁ .start) (p₀ .notes) (s .kept) (u .close) (u .closes) other
       ∙ ap (λ (at : ℕ). stand (parse Statement Top 0 at Pass (p₀ .notes)) noPlaces (s .kept)) (u .behind)
 
-module _ (a b : List ℕ) (asked : Asked) (at from m next : ℕ) (h : BlockInserted a b asked at from m next) where
+module _ (a b : List ℕ) (asked : Asked) (at from m next : ℕ) (h : PutBetween a b asked at from m next)
+    (top : isTop (after a asked m (beginsAt at) .parse .scope) ≡ true) (other : isAsked asked Unknown 0 ≡ false)
+    (u : UnknownBlock b (after b asked m (beginsAt from) .parse .at) next) where
   abbrev stand-a : Stand
   stand-a = after a asked m (beginsAt at)
 
@@ -154,24 +156,24 @@ module _ (a b : List ℕ) (asked : Asked) (at from m next : ℕ) (h : BlockInser
   wanted-too = statement-too (so-far .parse .wanted) (h .between)
 
   top-too : isTop (stand-b .parse .scope) ≡ true
-  top-too = sym (ap isTop (so-far .parse .base .scope)) ∙ h .top
+  top-too = sym (ap isTop (so-far .parse .base .scope)) ∙ top
 
   at-top : stand-a .parse .scope ≡ Top
-  at-top = number-tells (stand-a .parse .scope) Top (eqb-true (scopeNumber (stand-a .parse .scope)) 0 (h .top))
+  at-top = number-tells (stand-a .parse .scope) Top (eqb-true (scopeNumber (stand-a .parse .scope)) 0 top)
 
   -- behind the block both stand alike, with the same tokens to come
-  behind-block : (n : ℕ) → Alike a b n stand-a (after b asked (size b asked stand-b next wanted-too top-too (h .notAsked) (h .block)) stand-b)
+  behind-block : (n : ℕ) → Alike a b n stand-a (after b asked (size b asked stand-b next wanted-too top-too other u) stand-b)
   behind-block n =
-      subst (Alike a b n stand-a) (sym (block-passed b asked stand-b next wanted-too top-too (h .notAsked) (h .block)))
+      subst (Alike a b n stand-a) (sym (block-passed b asked stand-b next wanted-too top-too other u))
       (record {
         parse = record {
           base = record { scope = at-top; notes = so-far .parse .base .notes; tokens = h .behind n };
           wanted = subst (λ (w : Wanted). SameWanted a b (stand-a .parse .at) next w Statement) (sym (h .between)) want-statement;
           check = subst (λ (c : Check). SameCheck c Pass) (sym (h .good)) both-pass;
         };
-        places = λ e. absurd (true≢false (sym (h .top) ∙ e));
+        places = λ e. absurd (true≢false (sym top ∙ e));
         kept = so-far .kept;
       })
 
 pub unknown-blocks : UnknownBlocksDoNotMatter
-unknown-blocks a b asked at from m next h = put-in a b asked at from m _ (behind-block a b asked at from m next h)
+unknown-blocks a b asked at from m next h top other u = put-in a b asked at from m _ (behind-block a b asked at from m next h top other u)

@@ -138,17 +138,17 @@ pub record UnknownAssigned (text : List ℕ) (scope : Scope) (at next : ℕ) : T
   pub ends : eqb (nextToken text (nextToken text (nextToken text (tokenAt text at))) .form) semicolon ≡ true
   pub behind : nextToken text (nextToken text (nextToken text (tokenAt text at))) .next ≡ next
 
--- one text is the other with such an assignment put between two statements, behind the first `m` tokens
-pub record Inserted (a b : List ℕ) (asked : Asked) (at from m next : ℕ) : Type 0 where
+-- one text is the other with something put between two statements, behind the first `m` tokens; it ends before `next`
+pub record PutBetween (a b : List ℕ) (asked : Asked) (at from m next : ℕ) : Type 0 where
   pub before : SameFirst m a at b from
   pub between : after a asked m (beginsAt at) .parse .wanted ≡ Statement
   pub good : after a asked m (beginsAt at) .parse .check ≡ Pass
-  pub assigned : UnknownAssigned b (after a asked m (beginsAt at) .parse .scope) (after b asked m (beginsAt from) .parse .at) next
   pub behind : SameTokens a (after a asked m (beginsAt at) .parse .at) b next
 
--- it changes no answer but places
+-- such an assignment changes no answer but places
 abbrev pub UnknownNamesDoNotMatter : Type 0
-UnknownNamesDoNotMatter = (a b : List ℕ) (asked : Asked) (at from m next : ℕ) → Inserted a b asked at from m next
+UnknownNamesDoNotMatter = (a b : List ℕ) (asked : Asked) (at from m next : ℕ) → PutBetween a b asked at from m next
+    → UnknownAssigned b (after a asked m (beginsAt at) .parse .scope) (after b asked m (beginsAt from) .parse .at) next
     → SameStand a b (textFrom a asked at) (textFrom b asked from)
 
 -- assignments one behind the other from `at` on, in a block that knows no name; they end before `next`
@@ -166,18 +166,9 @@ pub record UnknownBlock (text : List ℕ) (at next : ℕ) : Type 0 where
   pub closes : eqb (tokenAt text close .form) closeBrace ≡ true
   pub behind : tokenAt text close .next ≡ next
 
--- one text is the other with such a block put between two statements at the top, behind the first `m` tokens; and no block of an unknown
--- name is asked for
-pub record BlockInserted (a b : List ℕ) (asked : Asked) (at from m next : ℕ) : Type 0 where
-  pub before : SameFirst m a at b from
-  pub between : after a asked m (beginsAt at) .parse .wanted ≡ Statement
-  pub good : after a asked m (beginsAt at) .parse .check ≡ Pass
-  pub top : isTop (after a asked m (beginsAt at) .parse .scope) ≡ true
-  pub notAsked : isAsked asked Unknown 0 ≡ false
-  pub block : UnknownBlock b (after b asked m (beginsAt from) .parse .at) next
-  pub behind : SameTokens a (after a asked m (beginsAt at) .parse .at) b next
-
--- it changes no answer but places
+-- such a block at the top changes no answer but places, unless a block of an unknown name is asked for, which no exported function does
 abbrev pub UnknownBlocksDoNotMatter : Type 0
-UnknownBlocksDoNotMatter = (a b : List ℕ) (asked : Asked) (at from m next : ℕ) → BlockInserted a b asked at from m next
+UnknownBlocksDoNotMatter = (a b : List ℕ) (asked : Asked) (at from m next : ℕ) → PutBetween a b asked at from m next
+    → isTop (after a asked m (beginsAt at) .parse .scope) ≡ true → isAsked asked Unknown 0 ≡ false
+    → UnknownBlock b (after b asked m (beginsAt from) .parse .at) next
     → SameStand a b (textFrom a asked at) (textFrom b asked from)
