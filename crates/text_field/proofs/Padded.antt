@@ -1,10 +1,10 @@
 -- A word among padded rows is a word among the names: behind a name stand spaces, and a name has none. Assumes nothing.
-use Prim.Native.Nat.{ℕ, zero, suc, _+_, _-_, _*_, _≤_, _<_}
+use Prim.Native.Nat.{ℕ, _+_, _-_, _*_, _≤_, _<_}
 use mathlib.Core.Bool.{Bool, true, false, not, _&&_, cond, and-false, and-eq-true-iff, true≢false}
 use mathlib.Core.List.{List, [], _∷_, _++_}
 use mathlib.Core.Path.{_≡_, refl, sym, ap, _∙_}
 use native.Mathlib.Omega.{arith}
-use borrow.Author.Tests.{eqb-true, eqb-false, eq-eqb, ltb-true, ltb-false, lt-ltb, le-ltb}
+use borrow.Author.Tests.{eqb-true, eqb-false, eq-eqb, ltb-true, ltb-false, lt-ltb}
 use lib.Dec.{eqb, ltb}
 use lib.ListN.{length, getD, replicate, List·getD-append, getD-replicate}
 use lib.Seq.{getD-append-add, getD-take}
@@ -14,7 +14,7 @@ use Rattle.text_table.specs.Table.{Row, kindNames, globalNames, vertexFields, l
 use Rattle.text_table.specs.Inner.{paddedName, padded}
 use Rattle.text_table.proofs.Table.{length-name, behind-row}
 use Rattle.text_field.specs.Names.{every, letterAt, isName, nameIn}
-use Rattle.text_field.specs.Inner.{sameAt, longAs, isRow, rowIn}
+use Rattle.text_field.specs.Inner.{sameAt, isRow, rowIn}
 use Rattle.text_field.proofs.Names.{every-stop, every-same}
 
 -- a name that a row has room for: one letter at least, a space behind it, and none in it

@@ -3,9 +3,9 @@
 use Prim.Native.Nat.{ℕ, suc, _+_}
 use mathlib.Core.Bool.{Bool, true, false, not, _&&_, cond, and-eq-true-iff, true≢false}
 use mathlib.Core.List.{List}
-use mathlib.Core.Path.{_≡_, refl, sym, ap, _∙_, subst}
+use mathlib.Core.Path.{_≡_, refl, sym, ap, _∙_}
 use native.Mathlib.Omega.{arith}
-use borrow.Author.Tests.{eqb-true, eqb-false, eq-eqb, ltb-true, ltb-false, lt-ltb, le-ltb}
+use borrow.Author.Tests.{eqb-true, eqb-false, ltb-true, ltb-false, lt-ltb, le-ltb}
 use lib.Dec.{eqb, ltb}
 use lib.ListN.{length}
 use Rattle.refusal.specs.declared.Check.{Check}
@@ -33,7 +33,6 @@ use Rattle.text_step.specs.declared.Parse.{Parse}
 use Rattle.text_step.specs.Steps.{notes, parse, isTop, isFound, notesAfter, heldBy, valueCheck, judged, stepBy}
 use Rattle.text_reader.specs.Texts.{Stand, stand, goes, tokenMore, textFrom}
 use Rattle.text_reader.proofs.Runs.{runs-map, runs-keep}
-use Rattle.text_map.specs.declared.TextAnswer.{TextAnswer}
 use Rattle.text_map.specs.Answers.{summaryBy, blockCheck, fieldsBy, numbered}
 use Rattle.text_same.specs.Found.{isKind, checkBelow, FoundBelowTheCount}
 use Rattle.text_same.proofs.Readings.{cond-both}

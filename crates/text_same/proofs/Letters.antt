@@ -1,5 +1,5 @@
 -- The case of letters in identifiers and keywords changes nothing. Assumes nothing.
-use Prim.Native.Nat.{ℕ, zero, suc, _+_, _-_, _*_, _≤_, _<_}
+use Prim.Native.Nat.{ℕ, zero, suc, _+_, _-_, _<_}
 use mathlib.Core.Bool.{Bool, true, false, not, _&&_, _||_, cond, and-false, and-eq-true-iff}
 use mathlib.Core.List.{List, [], _∷_}
 use mathlib.Core.Path.{_≡_, refl, sym, ap, _∙_, subst}
@@ -7,13 +7,13 @@ use native.Mathlib.Omega.{arith}
 use borrow.Author.Tests.{eqb-true, ne-eqb, lt-leb, ltb-true, ltb-false}
 use lib.Dec.{eqb, ltb, leb}
 use lib.ListN.{getD, length}
-use Rattle.text_byte.specs.Bytes.{within, isDigit, isLetter, isNameByte, lowerAt}
+use Rattle.text_byte.specs.Bytes.{within, isDigit, isLetter, isNameByte}
 use Rattle.text_byte.specs.Spans.{spanEnd}
 use Rattle.text_byte.proofs.Bytes.{within-true}
 use Rattle.text_byte.proofs.Spans.{span-stop, span-done}
 use Rattle.text_value.specs.declared.Reading.{Reading}
 use Rattle.text_value.specs.declared.Reading.the-variants.{NoValue}
-use Rattle.text_number.specs.Numbers.{zeroDigit, plusSign, minusSign, digitsFrom, digitsEnd, hexOk, hexEnd, smallX, wholeOk, decimalOk, isSign, behindSign}
+use Rattle.text_number.specs.Numbers.{zeroDigit, plusSign, minusSign, digitsFrom, digitsEnd, hexOk, hexEnd, smallX, behindSign}
 use Rattle.text_value.specs.Values.{isTrue, isFalse, wholeRead, digitsRead, numberRead, wordRead}
 use Rattle.text_scope.specs.declared.Scope.{Scope}
 use Rattle.text_table.specs.Table.{Row, kindNames, fieldsOf}

@@ -1,39 +1,34 @@
 -- One token more leads to the same point in both texts. Assumes nothing.
-use Prim.Native.Nat.{ℕ, zero, suc, _+_, _-_, _≤_, _<_}
+use Prim.Native.Nat.{ℕ, zero, suc, _-_}
 use mathlib.Core.Bool.{Bool, true, false, not, _&&_, cond, and-eq-true-iff, true≢false}
 use mathlib.Core.List.{List, [], _∷_}
 use mathlib.Core.Path.{_≡_, refl, sym, ap, _∙_, subst}
 use native.Mathlib.Omega.{arith}
 use borrow.Author.Tests.{eqb-true}
-use lib.Dec.{eqb, leb}
+use lib.Dec.{eqb}
 use lib.ListN.{getD, length, length-set, set, replicate}
 use Rattle.refusal.specs.declared.Refusal.{Refusal}
 use Rattle.refusal.specs.declared.Check.{Check}
 use Rattle.refusal.specs.declared.Check.the-variants.{Pass, Refused}
-use Rattle.refusal.specs.declared.Refusal.the-variants.{TextGrammar, TextNumber, TextField, TextBlocks}
+use Rattle.refusal.specs.declared.Refusal.the-variants.{TextGrammar, TextNumber}
 use Rattle.refusal.specs.Table.{numberOf}
 use Rattle.refusal.specs.Checks.{unless}
 use Rattle.text_token.specs.declared.Token.{Token}
 use Rattle.text_byte.specs.Bytes.{equalsSign, semicolon, openBrace, closeBrace}
-use Rattle.text_token.specs.Tokens.{endForm, wordForm, bytesOf, wordOf}
+use Rattle.text_token.specs.Tokens.{endForm, bytesOf}
 use Rattle.text_byte.proofs.Spans.{cond-on}
 use Rattle.text_name.specs.Identifiers.{isIdentifier}
 use Rattle.text_value.specs.declared.Reading.{Reading}
 use Rattle.text_value.specs.Values.{tokenRead}
 use Rattle.text_scope.specs.declared.Scope.{Scope}
-use Rattle.text_scope.specs.declared.Scope.the-variants.{Top}
 use Rattle.text_table.specs.Table.{fieldsOf, isRequired, whole, decimal, string, flag}
 use Rattle.text_field.specs.Names.{every, fieldNamed, kindNamed}
-use Rattle.text_scope.specs.Scopes.{scopeNumber}
-use Rattle.text_given.specs.Fields.{valueAt}
 use Rattle.text_block.specs.declared.Asked.{Asked}
-use Rattle.text_block.specs.declared.Counts.{Counts}
 use Rattle.text_block.specs.declared.Wanted.{Wanted}
 use Rattle.text_block.specs.declared.Wanted.the-variants.{Statement, Equals, Value, Semicolon, NoMore}
-use Rattle.text_step.specs.declared.Notes.{Notes}
 use Rattle.text_step.specs.declared.Parse.{Parse}
-use Rattle.text_block.specs.Blocks.{countOf, counted, isFull, isAsked, stopsThere, stopsInside, isGiven, allGiven, stored, filed, noPlaces}
-use Rattle.text_step.specs.Steps.{goesOn, refusedWith, misfit, isTop, isFound, notesAfter, wantedAfter, closedBlock, onStatement, openedBlock, onEquals, heldBy, serves, valueCheck, judged, onValue, notesAssigned, onSemicolon, stepBy}
+use Rattle.text_block.specs.Blocks.{countOf, counted, isFull, isAsked, stopsThere, stopsInside, allGiven, filed, noPlaces}
+use Rattle.text_step.specs.Steps.{goesOn, refusedWith, misfit, isTop, isFound, notesAfter, closedBlock, onStatement, openedBlock, onEquals, heldBy, serves, valueCheck, judged, onValue, notesAssigned, onSemicolon, stepBy}
 use Rattle.text_same.specs.Tokens.{SameFirst}
 use Rattle.text_same.specs.Answers.{SameCheck, both-pass, both-refused}
 use Rattle.text_same.proofs.Readings.{cond-both, cond-both-on, SameReading, same-whole, same-decimal, same-flag, same-string, same-whole-past, same-decimal-past, same-none}

@@ -10,12 +10,16 @@ use Rattle.refusal.specs.declared.Check.{Check}
 use Rattle.refusal.specs.declared.Check.the-variants.{Pass}
 use Rattle.text_token.specs.declared.Token.{Token}
 use Rattle.text_byte.specs.Bytes.{equalsSign, openBrace, closeBrace}
-use Rattle.text_token.specs.Tokens.{wordForm, endForm, tokenAt, wordOf}
+use Rattle.text_gap.specs.Gaps.{gapFrom}
+use Rattle.text_byte.specs.Spans.{spanEnd}
+use Rattle.text_number.specs.Numbers.{digitsFrom}
+use Rattle.text_token.specs.Tokens.{wordForm, tokenAt, wordOf}
 use Rattle.text_scope.specs.declared.Scope.{Scope}
 use Rattle.text_scope.specs.declared.Scope.the-variants.{Top, Unknown}
 use Rattle.text_scope.specs.Scopes.{scopeNumber}
 use Rattle.text_scope.proofs.Scopes.{number-tells}
-use Rattle.text_field.specs.Names.{every, fieldNamed, kindNamed}
+use Rattle.text_table.specs.Table.{kindNames}
+use Rattle.text_field.specs.Names.{every, nameIn, fieldNamed, kindNamed}
 use Rattle.text_block.specs.declared.Asked.{Asked}
 use Rattle.text_block.specs.declared.Asked.the-variants.{Nothing, Numbered, First, Opening}
 use Rattle.text_block.specs.declared.Wanted.{Wanted}
@@ -28,7 +32,7 @@ use Rattle.text_step.specs.Steps.{notes, parse, goesOn, refusedWith, misfit, is
 use Rattle.text_reader.specs.Texts.{Stand, stand, keptAfter, tokenMore}
 use Rattle.text_same.specs.Tokens.{SameFirst}
 use Rattle.text_same.specs.Answers.{SameCheck, both-pass}
-use Rattle.text_same.specs.Promises.{after, beginsAt, nextToken, AllUnknown, none, more, UnknownBlock, PutBetween, UnknownBlocksDoNotMatter}
+use Rattle.text_same.specs.Promises.{after, beginsAt, nextToken, AllUnknown, none, more, UnknownBlock, BlockBehind, PutBetween, UnknownBlocksDoNotMatter}
 use Rattle.text_same.proofs.Related.{SameWanted, want-statement}
 use Rattle.text_same.proofs.Holds.{Alike, after-alike, begins-alike, kept-still, by-wanted, after-add}
 use Rattle.text_same.proofs.Unknown.{taken, statement-too, plain-step, four-tokens, put-in}
@@ -177,3 +181,15 @@ module _ (a b : List ℕ) (asked : Asked) (at from m next : ℕ) (h : PutBetween
 
 pub unknown-blocks : UnknownBlocksDoNotMatter
 unknown-blocks a b asked at from m next h top other u = put-in a b asked at from m _ (behind-block a b asked at from m next h top other u)
+
+pub block-behind : BlockBehind
+unfolding gapFrom spanEnd kindNames nameIn every digitsFrom
+block-behind = record {
+  name = refl;
+  unknown = refl;
+  opens = refl;
+  close = 20;
+  assigned = more 13 20 20 (record { name = refl; unknown = refl; equals = refl; value = refl; ends = refl; behind = refl }) (none 20);
+  closes = refl;
+  behind = refl;
+}

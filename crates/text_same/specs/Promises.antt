@@ -166,6 +166,10 @@ pub record UnknownBlock (text : List ℕ) (at next : ℕ) : Type 0 where
   pub closes : eqb (tokenAt text close .form) closeBrace ≡ true
   pub behind : tokenAt text close .next ≡ next
 
+-- for example, behind `x = 1;`
+abbrev pub BlockBehind : Type 0
+BlockBehind = UnknownBlock (bytes "x = 1; junk { a = 2; }") 6 22
+
 -- such a block at the top changes no answer but places, unless a block of an unknown name is asked for, which no exported function does
 abbrev pub UnknownBlocksDoNotMatter : Type 0
 UnknownBlocksDoNotMatter = (a b : List ℕ) (asked : Asked) (at from m next : ℕ) → PutBetween a b asked at from m next

@@ -1,6 +1,5 @@
 -- The code's rows against the table: how long they are, and what stands in them. Assumes nothing.
-use Prim.Native.Nat.{ℕ, zero, suc, _+_, _*_, _≤_, _<_}
-use mathlib.Core.Bool.{Bool}
+use Prim.Native.Nat.{ℕ, zero, suc, _+_, _*_, _≤_}
 use mathlib.Core.List.{List, [], _∷_, _++_}
 use mathlib.Core.Path.{_≡_, refl, sym, ap, _∙_}
 use native.Mathlib.Omega.{arith}
@@ -10,9 +9,8 @@ use lib.Seq.{length-take-le, getD-append-add, take-append-seam}
 use Rattle.text_scope.specs.declared.Scope.{Scope}
 use Rattle.text_scope.specs.declared.Scope.the-variants.{Top, Vertex, Linedef, Sidedef, Sector, Thing, Unknown}
 use Rattle.text_scope.specs.Scopes.{rowCount}
-use Rattle.text_table.specs.Table.{Row, noRow, required, kindNames, globalNames, vertexFields, linedefFields, sidedefFields, sectorFields, thingFields, zeroIdNames}
-use Rattle.text_table.specs.Table.{fieldsOf, holdsOf, defaultOf, isRequired}
-use Rattle.text_table.specs.Inner.{nameRoom, rowSize, paddedName, padded, kindRows, namespaceRows, rowsOf, loaded, heldAt, defaultAt, requiredAt}
+use Rattle.text_table.specs.Table.{Row, required, kindNames, globalNames, vertexFields, linedefFields, sidedefFields, sectorFields, thingFields, zeroIdNames, fieldsOf, holdsOf, defaultOf, isRequired}
+use Rattle.text_table.specs.Inner.{rowSize, paddedName, padded, rowsOf, loaded, heldAt, defaultAt, requiredAt}
 
 pub length-name : (name : List ℕ) → length (paddedName name) ≡ 16
 length-name name =

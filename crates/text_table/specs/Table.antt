@@ -1,7 +1,7 @@
 -- The names of a text map (02, W-206; document 002, "Standardized Fields" and its last note): the kinds of block, the global name, and the
 -- fields of each kind in the document's order, each with what it holds and what it is where no value is given. Assumes nothing.
 use Prim.Native.Nat.{ℕ}
-use Prim.Native.Char.{Char, code}
+use Prim.Native.Char.{code}
 use Prim.Native.String.{String, [] as []ˢ, _∷_ as _∷ˢ_}
 use mathlib.Core.Bool.{Bool}
 use mathlib.Core.List.{List, [], _∷_}

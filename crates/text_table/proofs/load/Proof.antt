@@ -1,6 +1,5 @@
 -- `text_table::load` meets its contract: by the scope. Assumes nothing.
-use mathlib.Core.Path.{refl, sym, ap, _∙_}
-use native.Mathlib.Omega.{arith}
+use mathlib.Core.Path.{refl}
 use borrow.Author.Needs.{needs}
 use Rattle.text_table.proofs.Table.{loaded-by}
 use Rattle.text_table.proofs.load.Statement.{statement}
