@@ -76,7 +76,8 @@ module _ (word : List ℕ) (exact : Bool) (bytes : List ℕ) (k : ℕ) (r : Row)
   blank-there : (j : ℕ) → m ≤ j → j < 16 → eqb (getD bytes (18 * k + j) 0) 32 ≡ true
   blank-there j h l =
       let e : j ≡ m + (j - m) = omega (arith, h) in
-      eq-eqb _ _ (in-name j l ∙ ap (λ (i : ℕ). getD (name ++ replicate 16 32) i 0) e ∙ getD-append-add name (replicate 16 32) (j - m) 0
+      eq-eqb _ _
+      (in-name j l ∙ ap (λ (i : ℕ). getD (name ++ replicate 16 32) i 0) e ∙ getD-append-add name (replicate 16 32) (j - m) 0
       ∙ getD-replicate 16 (j - m) 32 0 (omega (arith, l)))
 
   letter-good : (j : ℕ) → j < m → eqb (getD name j 0) 32 ≡ false
@@ -112,10 +113,13 @@ module _ (word : List ℕ) (exact : Bool) (bytes : List ℕ) (k : ℕ) (r : Row)
       by true e =
           let l = ltb-true n 16 e in
           let x = ltb n 16 && eqb (getD bytes (18 * k + n) 0) 32 in
-          ap (λ (b : Bool). (x && not b) && every (sameAt word exact bytes k) n) (blank-there (n - 1) (omega (arith, h)) (omega (arith, h, l)))
+          ap (λ (b : Bool). (x && not b) && every (sameAt word exact bytes k) n)
+          (blank-there (n - 1) (omega (arith, h)) (omega (arith, h, l)))
           ∙ ap (λ (b : Bool). b && every (sameAt word exact bytes k) n) (and-false x)
       by false e =
-          ap (λ (b : Bool). ((b && eqb (getD bytes (18 * k + n) 0) 32) && not (eqb (getD bytes (18 * k + (n - 1)) 0) 32)) && every (sameAt word exact bytes k) n) e
+          let behind = eqb (getD bytes (18 * k + n) 0) 32 in
+          let last = eqb (getD bytes (18 * k + (n - 1)) 0) 32 in
+          ap (λ (b : Bool). ((b && behind) && not last) && every (sameAt word exact bytes k) n) e
 
   is-row : isRow word exact bytes k ≡ isName word exact name
   is-row = by (eqb n m) refl
@@ -137,7 +141,8 @@ module _ (word : List ℕ) (exact : Bool) (bytes : List ℕ) (k : ℕ) (r : Row)
 
 -- so the first row of a name is the same
 rows-from : (word : List ℕ) (exact : Bool) (bytes : List ℕ) (k : ℕ) (rows : List Row) → goodNames rows ≡ true
-    → ((j : ℕ) → getD bytes (18 * k + j) 0 ≡ getD (padded rows) j 0) → rowIn word exact bytes k (length rows) ≡ nameIn word exact k rows
+    → ((j : ℕ) → getD bytes (18 * k + j) 0 ≡ getD (padded rows) j 0)
+    → rowIn word exact bytes k (length rows) ≡ nameIn word exact k rows
 unfolding rowIn nameIn
 rows-from word exact bytes k [] g at = refl
 rows-from word exact bytes k (r ∷ rows) g at =
@@ -153,4 +158,5 @@ rows-from word exact bytes k (r ∷ rows) g at =
 
 pub row-in : (word : List ℕ) (exact : Bool) (rows : List Row) → goodNames rows ≡ true
     → rowIn word exact (padded rows) 0 (length rows) ≡ nameIn word exact 0 rows
-row-in word exact rows g = rows-from word exact (padded rows) 0 rows g (λ j. let e : 18 * 0 + j ≡ j = omega arith in ap (λ (i : ℕ). getD (padded rows) i 0) e)
+row-in word exact rows g =
+    rows-from word exact (padded rows) 0 rows g (λ j. let e : 18 * 0 + j ≡ j = omega arith in ap (λ (i : ℕ). getD (padded rows) i 0) e)

@@ -20,7 +20,8 @@ letterAt word exact k = cond exact (getD word k 0) (lowerAt word k)
 
 -- the word is a name: as long, and the same letter by letter
 abbrev pub isName : List ℕ → Bool → List ℕ → Bool
-isName word exact name = eqb (length word) (length name) && every (λ k. eqb (letterAt word exact k) (getD name k 0)) (length word)
+isName word exact name =
+    eqb (length word) (length name) && every (λ k. eqb (letterAt word exact k) (getD name k 0)) (length word)
 
 -- which of some rows has the word as its name, counted from 1, where `k` rows stand before them; 0 for none
 unfoldable pub nameIn : List ℕ → Bool → ℕ → List Row → ℕ

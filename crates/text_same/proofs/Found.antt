@@ -1,5 +1,5 @@
--- A block is found exactly if its number is below the count: asked for a block or not, a text is read to the same end, and the block is found
--- when the count passes its number. Assumes nothing.
+-- A block is found exactly if its number is below the count. Asked for a block or not, a text is read to the same end; and the block is
+-- found when the count passes its number. Assumes nothing.
 use Prim.Native.Nat.{ℕ, suc, _+_}
 use mathlib.Core.Bool.{Bool, true, false, not, _&&_, cond, and-eq-true-iff, true≢false}
 use mathlib.Core.List.{List}
@@ -51,32 +51,36 @@ plainStand s = stand (plain (s .parse)) (s .places) noPlaces
 record Plain (p q : Parse) : Type 0 where
   same : plain p ≡ q
 
+unchanged : {p : Parse} → Plain p (plain p)
+unchanged = record { same = refl }
+
 module _ (text : List ℕ) (kind : Scope) (number : ℕ) where
   module _ (places : List ℕ) (p : Parse) (t : Token) where
     closed-plain : (next : ℕ) → plainNotes (notesAfter (Numbered kind number) p next) ≡ notesAfter Nothing (plain p) next
     closed-plain next =
-        cond-on (λ (n : Notes). plainNotes n ≡ notesAfter Nothing (plain p) next) (isFound (Numbered kind number) p) (λ _. refl) (λ _. refl)
+        cond-on (λ (n : Notes). plainNotes n ≡ notesAfter Nothing (plain p) next) (isFound (Numbered kind number) p)
+        (λ _. refl) (λ _. refl)
 
     judged-plain : (field : ℕ) (c : Check) → Plain (judged p t field c) (judged (plain p) t field c)
-    judged-plain field Pass = record { same = refl }
-    judged-plain field (Refused r) = record { same = refl }
+    judged-plain field Pass = unchanged
+    judged-plain field (Refused r) = unchanged
 
     -- one token more: asked for a block or not, the rest of what was read is the same
     step-plain : (w : Wanted) → Plain (stepBy text (Numbered kind number) places p t w) (stepBy text Nothing places (plain p) t w)
     step-plain Statement =
-        cond-both Plain {b = isIdentifier text t} refl (record { same = refl })
+        cond-both Plain {b = isIdentifier text t} refl unchanged
         (cond-both Plain {b = not (isTop (p .scope)) && eqb (t .form) closeBrace} refl
-        (cond-both Plain {b = allGiven (p .scope) places} refl (record { same = ap (parse Statement Top 0 (t .next) Pass) (closed-plain (t .next)) })
-        (record { same = refl }))
-        (cond-both Plain {b = isTop (p .scope) && eqb (t .form) endForm} refl (record { same = refl }) (record { same = refl })))
+        (cond-both Plain {b = allGiven (p .scope) places} refl
+        (record { same = ap (parse Statement Top 0 (t .next) Pass) (closed-plain (t .next)) }) unchanged)
+        (cond-both Plain {b = isTop (p .scope) && eqb (t .form) endForm} refl unchanged unchanged))
     step-plain (Equals start end) =
-        cond-both Plain {b = eqb (t .form) equalsSign} refl (record { same = refl })
+        cond-both Plain {b = eqb (t .form) equalsSign} refl unchanged
         (cond-both Plain {b = isTop (p .scope) && eqb (t .form) openBrace} refl
-        (cond-both Plain {b = isFull (p .notes .counts) (kindNamed (bytesOf text start end))} refl (record { same = refl }) (record { same = refl }))
-        (record { same = refl }))
+        (cond-both Plain {b = isFull (p .notes .counts) (kindNamed (bytesOf text start end))} refl unchanged unchanged)
+        unchanged)
     step-plain (Value field) = judged-plain field (valueCheck (heldBy (p .scope) field) (tokenRead text t) (t .start))
-    step-plain (Semicolon field place) = cond-both Plain {b = eqb (t .form) semicolon} refl (record { same = refl }) (record { same = refl })
-    step-plain NoMore = record { same = refl }
+    step-plain (Semicolon field place) = cond-both Plain {b = eqb (t .form) semicolon} refl unchanged unchanged
+    step-plain NoMore = unchanged
 
   more-plain : (s : Stand) → plainStand (tokenMore text (Numbered kind number) s) ≡ tokenMore text Nothing (plainStand s)
   more-plain s =
@@ -146,30 +150,36 @@ module _ (text : List ℕ) (kind : Scope) (number : ℕ) (known : isKind kind �
   abbrev Passed : Notes → Type 0
   Passed n = n .found ≡ ltb number (countOf (n .counts) kind)
 
-  passed-after : (p : Parse) (next : ℕ) → Passed (p .notes) → Passed (notesAfter (Numbered kind number) p next)
-  passed-after p next h = cond-on Passed (isFound (Numbered kind number) p) found (by (eqb (scopeNumber kind) (scopeNumber (p .scope))) refl)
-    where
-      count : (x : Bool) → eqb (scopeNumber kind) (scopeNumber (p .scope)) ≡ x
-          → countOf (counted (p .notes .counts) (p .scope)) kind ≡ cond x (countOf (p .notes .counts) kind + 1) (countOf (p .notes .counts) kind)
-      count x e =
-          let n = countOf (p .notes .counts) kind in
-          count-after (p .notes .counts) kind (p .scope) known ∙ ap (λ (z : Bool). cond z (n + 1) n) e
+  -- where a block ends: it is of the kind or of another one, and the count is the number or not
+  module _ (p : Parse) (next : ℕ) (h : Passed (p .notes)) where
+    abbrev n : ℕ
+    n = countOf (p .notes .counts) kind
 
-      here : eqb (scopeNumber kind) (scopeNumber (p .scope)) ≡ true → countOf (p .notes .counts) kind ≡ countOf (p .notes .counts) (p .scope)
-      here e = ap (countOf (p .notes .counts)) (number-tells kind (p .scope) (eqb-true (scopeNumber kind) (scopeNumber (p .scope)) e))
+    abbrev m : ℕ
+    m = countOf (counted (p .notes .counts) (p .scope)) kind
 
-      found : isFound (Numbered kind number) p ≡ true → true ≡ ltb number (countOf (counted (p .notes .counts) (p .scope)) kind)
-      found e =
-          let both = and-eq-true-iff (eqb (scopeNumber kind) (scopeNumber (p .scope))) (eqb (countOf (p .notes .counts) (p .scope)) number) .0 e in
-          let more = count true (both .0) in
-          let n = here (both .0) ∙ eqb-true (countOf (p .notes .counts) (p .scope)) number (both .1) in
-          sym (lt-ltb number (countOf (counted (p .notes .counts) (p .scope)) kind) (omega (arith, more, n)))
+    abbrev same : Bool
+    same = eqb (scopeNumber kind) (scopeNumber (p .scope))
 
-      by : (x : Bool) → eqb (scopeNumber kind) (scopeNumber (p .scope)) ≡ x → (x && eqb (countOf (p .notes .counts) (p .scope)) number) ≡ false
-          → p .notes .found ≡ ltb number (countOf (counted (p .notes .counts) (p .scope)) kind)
-      by true e f =
-          h ∙ below-more number (countOf (p .notes .counts) kind) (ap (λ (n : ℕ). eqb n number) (here e) ∙ f) ∙ ap (ltb number) (sym (count true e))
-      by false e f = h ∙ ap (ltb number) (sym (count false e))
+    count : (x : Bool) → same ≡ x → m ≡ cond x (n + 1) n
+    count x e = count-after (p .notes .counts) kind (p .scope) known ∙ ap (λ (z : Bool). cond z (n + 1) n) e
+
+    here : same ≡ true → n ≡ countOf (p .notes .counts) (p .scope)
+    here e = ap (countOf (p .notes .counts)) (number-tells kind (p .scope) (eqb-true (scopeNumber kind) (scopeNumber (p .scope)) e))
+
+    found : isFound (Numbered kind number) p ≡ true → true ≡ ltb number m
+    found e =
+        let both = and-eq-true-iff same (eqb (countOf (p .notes .counts) (p .scope)) number) .0 e in
+        let more = count true (both .0) in
+        let met = here (both .0) ∙ eqb-true (countOf (p .notes .counts) (p .scope)) number (both .1) in
+        sym (lt-ltb number m (omega (arith, more, met)))
+
+    other : (x : Bool) → same ≡ x → (x && eqb (countOf (p .notes .counts) (p .scope)) number) ≡ false → p .notes .found ≡ ltb number m
+    other true e f = h ∙ below-more number n (ap (λ (k : ℕ). eqb k number) (here e) ∙ f) ∙ ap (ltb number) (sym (count true e))
+    other false e f = h ∙ ap (ltb number) (sym (count false e))
+
+    passed-after : Passed (notesAfter (Numbered kind number) p next)
+    passed-after = cond-on Passed (isFound (Numbered kind number) p) found (other same refl)
 
   passed-first : false ≡ ltb number (countOf (counts 0 0 0 0 0) kind)
   passed-first = sym (ap (ltb number) (none kind) ∙ le-ltb number 0 (omega arith))
@@ -185,10 +195,14 @@ module _ (text : List ℕ) (kind : Scope) (number : ℕ) (known : isKind kind �
 
   passed : Passed (numbered text kind number .parse .notes)
   passed =
-      runs-keep goes (tokenMore text (Numbered kind number)) (λ (s : Stand). s .parse .at) (length text) (λ (s : Stand). Passed (s .parse .notes))
-      (λ s _ h. let t = tokenAt text (s .parse .at) in
-      step-notes text (Numbered kind number) (s .places) (s .parse) t Passed (s .parse .wanted) h (passed-after (s .parse) (t .next) h) (λ _ _ _ _. h))
-      (suc (length text)) passed-first
+      runs-keep goes (tokenMore text (Numbered kind number)) (λ (s : Stand). s .parse .at) (length text)
+      (λ (s : Stand). Passed (s .parse .notes)) (λ s _ h. step s h) (suc (length text)) passed-first
+    where
+      step : (s : Stand) → Passed (s .parse .notes) → Passed (tokenMore text (Numbered kind number) s .parse .notes)
+      step s h =
+          let t = tokenAt text (s .parse .at) in
+          step-notes text (Numbered kind number) (s .places) (s .parse) t Passed (s .parse .wanted) h
+          (passed-after (s .parse) (t .next) h) (λ _ _ _ _. h)
 
 fields-check : (text : List ℕ) (p : Parse) (c : Check) → fieldsBy text p c .check ≡ c
 fields-check text p Pass = refl
@@ -205,4 +219,5 @@ found-below-the-count text kind number known =
     let p = textFrom text Nothing 0 .parse in
     let same = ap (λ (x : Stand). x .parse) (read-plain text kind number) in
     let found = passed text kind number known ∙ ap (λ (x : Parse). ltb number (countOf (x .notes .counts) kind)) same in
-    fields-check text s (blockCheck s) ∙ (λ i. same i .check andThen unless (found i) TextMissing) ∙ below text kind number p (p .check)
+    fields-check text s (blockCheck s) ∙ (λ i. same i .check andThen unless (found i) TextMissing)
+    ∙ below text kind number p (p .check)

@@ -144,7 +144,8 @@ module _ (a b : List ℕ) where
         let l = h .parse .base .tokens in
         let at = s .parse .at in
         let from = r .parse .at in
-        stepped-alike a b asked (s .places) (r .places) (h .parse) (token-alike n at from l) (λ e. h .places e .values) (value-alike n at from l) (h .parse .wanted)
+        stepped-alike a b asked (s .places) (r .places) (h .parse) (token-alike n at from l) (λ e. h .places e .values)
+        (value-alike n at from l) (h .parse .wanted)
 
     same-top : isTop (s .parse .scope) ≡ true → isTop (r .parse .scope) ≡ true
     same-top e = sym (ap isTop (h .parse .base .scope)) ∙ e
@@ -163,10 +164,12 @@ module _ (a b : List ℕ) where
             subst (λ (ps : List ℕ). SameFields a b ps (filed (r .parse .wanted) token-b (r .places))) (sym p)
             (subst (SameFields a b noPlaces) (sym q) (record { values = no-places a b; long = refl }))
         by false top =
-            filed-alike a b (s .places) (r .places) token-a token-b (h .places top) (form-alike n (s .parse .at) (r .parse .at) (h .parse .base .tokens)) (h .parse .wanted)
+            filed-alike a b (s .places) (r .places) token-a token-b (h .places top)
+            (form-alike n (s .parse .at) (r .parse .at) (h .parse .base .tokens)) (h .parse .wanted)
 
     -- a block is found inside it
-    found-inside : (not (s .parse .notes .found) && tokenMore a asked s .parse .notes .found) ≡ true → isTop (s .parse .scope) ≡ false
+    found-inside : (not (s .parse .notes .found) && tokenMore a asked s .parse .notes .found) ≡ true
+        → isTop (s .parse .scope) ≡ false
     found-inside e = by (isTop (s .parse .scope)) refl
       where
         none-new : (f : Bool) → (not f && f) ≡ false
@@ -176,7 +179,8 @@ module _ (a b : List ℕ) where
         by : (x : Bool) → isTop (s .parse .scope) ≡ x → x ≡ false
         by true top =
             let same = step-top a asked (s .places) (s .parse) token-a top (s .parse .wanted) .found in
-            absurd (true≢false (sym e ∙ ap (λ (f : Bool). not (s .parse .notes .found) && f) same ∙ none-new (s .parse .notes .found)))
+            let old = s .parse .notes .found in
+            absurd (true≢false (sym e ∙ ap (λ (f : Bool). not old && f) same ∙ none-new old))
         by false top = refl
 
     pub step-alike : Alike n (tokenMore a asked s) (tokenMore b asked r)

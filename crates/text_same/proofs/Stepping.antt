@@ -63,7 +63,8 @@ inside : (x y : Bool) → (not x && y) ≡ true → x ≡ false
 inside true y e = absurd (true≢false (sym e))
 inside false y e = refl
 
--- at the top a token leads into a block only with the brace that opens it, and finds none; so the places of the last block do not matter there
+-- at the top a token leads into a block only with the brace that opens it, and finds none; so the places of the last block do not
+-- matter there
 module _ (text : List ℕ) (asked : Asked) (places : List ℕ) (p : Parse) (t : Token) (top : isTop (p .scope) ≡ true) where
   -- `q` is at the top, or its token opened a block
   pub record AtTop (w : Wanted) (q : Parse) : Type 0 where
@@ -82,7 +83,8 @@ module _ (text : List ℕ) (asked : Asked) (places : List ℕ) (p : Parse) (t : 
       cond-on (AtTop Statement) (isIdentifier text t) (λ _. stays _ _ refl refl)
       (λ _. cond-on (AtTop Statement) (not (isTop (p .scope)) && eqb (t .form) closeBrace)
       (λ e. absurd (true≢false (sym top ∙ inside (isTop (p .scope)) (eqb (t .form) closeBrace) e)))
-      (λ _. cond-on (AtTop Statement) (isTop (p .scope) && eqb (t .form) endForm) (λ _. stays _ _ refl refl) (λ _. stays _ _ refl refl)))
+      (λ _. cond-on (AtTop Statement) (isTop (p .scope) && eqb (t .form) endForm)
+      (λ _. stays _ _ refl refl) (λ _. stays _ _ refl refl)))
   step-top (Equals start end) =
       let w = Equals start end in
       let kind = kindNamed (bytesOf text start end) in
@@ -103,7 +105,9 @@ module _ (a b : List ℕ) where
   SamePlaces ps qs = (k : ℕ) → SamePlace a b (getD ps k 0) (getD qs k 0)
 
   all-given : (ps qs : List ℕ) {x y : Scope} → x ≡ y → SamePlaces ps qs → allGiven x ps ≡ allGiven y qs
-  all-given ps qs {x} {y} e h = ap (λ (z : Scope). allGiven z ps) e ∙ (λ i. every (λ k. not (isRequired (fieldsOf y) k && h k .given i)) (length (fieldsOf y)))
+  all-given ps qs {x} {y} e h =
+      ap (λ (z : Scope). allGiven z ps) e
+      ∙ (λ i. every (λ k. not (isRequired (fieldsOf y) k && h k .given i)) (length (fieldsOf y)))
 
   module _ {n : ℕ} {p q : Parse} {t u : Token} (s : SameBase a b (suc n) p q) (l : SameToken a b n t u) where
     on : {w v : Wanted} → SameWanted a b (t .next) (u .next) w v → SameParse a b n (goesOn p t w) (goesOn q u v)
@@ -146,10 +150,12 @@ module _ (a b : List ℕ) where
             (record { namespace = s .notes .namespace; counts = more; found = refl; kind = s .scope })
             (record { namespace = s .notes .namespace; counts = more; found = s .notes .found; kind = s .notes .kind })
 
-    on-statement : (asked : Asked) (ps qs : List ℕ) → (isTop (p .scope) ≡ false → SamePlaces ps qs) → SameParse a b n (onStatement a asked ps p t) (onStatement b asked qs q u)
+    on-statement : (asked : Asked) (ps qs : List ℕ) → (isTop (p .scope) ≡ false → SamePlaces ps qs)
+        → SameParse a b n (onStatement a asked ps p t) (onStatement b asked qs q u)
     on-statement asked ps qs h =
         cond-both (SameParse a b n) (l .named) (on (want-equals (t .start) (t .end) (u .start) (u .end) (l .name)))
-        (cond-both-on (SameParse a b n) (λ i. not (top i) && has closeBrace i) (λ e. closed asked ps qs (h (inside (isTop (p .scope)) (eqb (t .form) closeBrace) e)))
+        (cond-both-on (SameParse a b n) (λ i. not (top i) && has closeBrace i)
+        (λ e. closed asked ps qs (h (inside (isTop (p .scope)) (eqb (t .form) closeBrace) e)))
         (cond-both (SameParse a b n) (λ i. top i && has endForm i) (on want-none) unfit))
 
     opened : (asked : Asked) (s₀ p₀ : ℕ) {x y : Scope} → x ≡ y → SameParse a b n (openedBlock asked p t s₀ x) (openedBlock asked q u p₀ y)
@@ -197,7 +203,8 @@ module _ (a b : List ℕ) where
   weaker s = record { base = record { scope = s .base .scope; notes = s .base .notes; tokens = λ k h. s .base .tokens k (omega (arith, h)) }; wanted = s .wanted; check = s .check }
 
   -- one token, where the same is wanted; a value's place is looked at only where one is wanted
-  pub stepped-alike : {n : ℕ} {p q : Parse} {t u : Token} (asked : Asked) (ps qs : List ℕ) {w v : Wanted} → SameParse a b (suc n) p q → SameToken a b n t u
+  pub stepped-alike : {n : ℕ} {p q : Parse} {t u : Token} (asked : Asked) (ps qs : List ℕ) {w v : Wanted}
+      → SameParse a b (suc n) p q → SameToken a b n t u
       → (isTop (p .scope) ≡ false → SamePlaces ps qs)
       → (Begun a b (p .at) (q .at) → SamePlace a b (t .start) (u .start)) → SameWanted a b (p .at) (q .at) w v
       → SameParse a b n (stepBy a asked ps p t w) (stepBy b asked qs q u v)

@@ -111,7 +111,8 @@ module _ (text : List ℕ) (asked : Asked) (s : Stand) (next : ℕ) (e : s .pars
   s₃ = stand (parse Statement Top 0 next Pass (p₀ .notes)) noPlaces (s .kept)
 
   named : tokenMore text asked s ≡ s₁
-  named = plain-step text asked s Statement (s₁ .parse) e (taken (isIdentifier text t₁) (onEnd asked (s .places) p₀ t₁) (u .name)) refl refl
+  named =
+      plain-step text asked s Statement (s₁ .parse) e (taken (isIdentifier text t₁) (onEnd asked (s .places) p₀ t₁) (u .name)) refl refl
 
   no-equals : eqb (t₂ .form) equalsSign ≡ false
   no-equals = let k = eqb-true (t₂ .form) openBrace (u .opens) in ne-eqb (t₂ .form) equalsSign (λ q. omega (arith, q, k))
@@ -120,7 +121,8 @@ module _ (text : List ℕ) (asked : Asked) (s : Stand) (next : ℕ) (e : s .pars
   opened : stepBy text asked (s .places) (s₁ .parse) t₂ (Equals (t₁ .start) (t₁ .end)) ≡ s₂ .parse
   opened =
       let name = wordOf text t₁ in
-      ap (λ (x : Bool). cond x (goesOn (s₁ .parse) t₂ (Value (fieldNamed (p₀ .scope) name))) (onBrace asked (s₁ .parse) t₂ (t₁ .start) name)) no-equals
+      let field = Value (fieldNamed (p₀ .scope) name) in
+      ap (λ (x : Bool). cond x (goesOn (s₁ .parse) t₂ field) (onBrace asked (s₁ .parse) t₂ (t₁ .start) name)) no-equals
       ∙ (λ i. cond (top i && u .opens i) (openedBlock asked (s₁ .parse) t₂ (t₁ .start) (kindNamed name)) (misfit (s₁ .parse) t₂))
       ∙ ap (openedBlock asked (s₁ .parse) t₂ (t₁ .start)) (u .unknown)
       ∙ ap (λ (x : Bool). parse (cond x NoMore Statement) Unknown (t₁ .start) (t₂ .next) Pass (p₀ .notes)) (goes-in asked)
@@ -128,7 +130,8 @@ module _ (text : List ℕ) (asked : Asked) (s : Stand) (next : ℕ) (e : s .pars
   entered : tokenMore text asked s₁ ≡ s₂
   entered =
       by-wanted text asked s₁ refl
-      ∙ (λ i. stand (opened i) (cond (u .opens i) noPlaces (s .places)) (cond (not (p₀ .notes .found) && opened i .notes .found) (s .places) (s .kept)))
+      ∙ (λ i. stand (opened i) (cond (u .opens i) noPlaces (s .places))
+      (cond (not (p₀ .notes .found) && opened i .notes .found) (s .places) (s .kept)))
       ∙ ap (stand (s₂ .parse) noPlaces) (kept-still (p₀ .notes .found) (s .places) (s .kept))
 
   -- the name and the brace, the assignments, and the brace
@@ -180,7 +183,8 @@ module _ (a b : List ℕ) (asked : Asked) (at from m next : ℕ) (h : PutBetween
       })
 
 pub unknown-blocks : UnknownBlocksDoNotMatter
-unknown-blocks a b asked at from m next h top other u = put-in a b asked at from m _ (behind-block a b asked at from m next h top other u)
+unknown-blocks a b asked at from m next h top other u =
+    put-in a b asked at from m _ (behind-block a b asked at from m next h top other u)
 
 pub block-behind : BlockBehind
 unfolding gapFrom spanEnd kindNames nameIn every digitsFrom

@@ -19,7 +19,8 @@ length-name name =
     length-take-le 16 (name ++ replicate 16 32) (omega (arith, e, f))
 
 -- what stands behind the first name
-behind-name : (r : Row) (rows : List Row) (k n : ℕ) → k ≡ 16 + n → getD (padded (r ∷ rows)) k 0 ≡ getD (r .holds ∷ r .default ∷ padded rows) n 0
+behind-name : (r : Row) (rows : List Row) (k n : ℕ) → k ≡ 16 + n
+    → getD (padded (r ∷ rows)) k 0 ≡ getD (r .holds ∷ r .default ∷ padded rows) n 0
 behind-name r rows k n e =
     let long = length-name (r .name) in
     let f : k ≡ length (paddedName (r .name)) + n = omega (arith, e, long) in
@@ -90,4 +91,5 @@ loaded-by bytes e f q = q ∙ ap (λ (xs : List ℕ). xs ++ drop (length xs) byt
 
 pub take-loaded : (scope : Scope) (bytes : List ℕ) → take (rowSize * rowCount scope) (loaded scope bytes) ≡ rowsOf scope
 take-loaded scope bytes =
-    ap (λ (n : ℕ). take n (loaded scope bytes)) (sym (length-rows scope)) ∙ take-append-seam (rowsOf scope) (drop (length (rowsOf scope)) bytes)
+    ap (λ (n : ℕ). take n (loaded scope bytes)) (sym (length-rows scope))
+    ∙ take-append-seam (rowsOf scope) (drop (length (rowsOf scope)) bytes)

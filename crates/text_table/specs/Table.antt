@@ -15,8 +15,8 @@ abbrev pub bytes : String → List ℕ
 bytes []ˢ = []
 bytes (c ∷ˢ s) = code c ∷ bytes s
 
--- what a field holds; a row that is no field names a kind of block, or is a name that is compared byte for byte. (Each is the letter that
--- the code's row has: w, d, s, f, b, e.)
+-- what a field holds; the last two are rows that are no fields: the name of a kind of block, and a name that is compared byte for byte.
+-- (The code's rows have the letters w, d, s, f, b and e.)
 abbrev pub whole : ℕ
 whole = 119
 
@@ -35,8 +35,8 @@ blockName = 98
 abbrev pub exactName : ℕ
 exactName = 101
 
--- what a field is where no value is given: it has no default; 0, false and no string; -1; 160; 0 or -1 by the namespace; or the row is no
--- field. (The letters are !, 0, m, l, n and a space.)
+-- what a field is where no value is given: nothing, so that one must be given; 0, false or no string; -1; 160; 0 or -1 by the namespace.
+-- The last is that of a row that is no field. (The letters are !, 0, m, l, n and a space.)
 abbrev pub required : ℕ
 required = 33
 

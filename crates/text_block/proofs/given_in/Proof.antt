@@ -24,7 +24,8 @@ abbrev μ-loop : tie.MeasureT-loop
 tested : (c : tie.After-is-required Inv-loop μ-loop)
     → let l = c .before .before in
     let a = l .before .before .args in
-    isGiven (requiredAt (now (a .rows))) (now (a .places)) (l .loop .k) ≡ not (c .is-required .result && eqb (getD (now (a .places)) (l .loop .k) 0) 0)
+    isGiven (requiredAt (now (a .rows))) (now (a .places)) (l .loop .k)
+    ≡ not (c .is-required .result && eqb (getD (now (a .places)) (l .loop .k) 0) 0)
 tested c =
     let l = c .before .before in
     sym (λ i. not (c .is-required .ensures i && eqb (getD (now (l .before .before .args .places)) (l .loop .k) 0) 0))

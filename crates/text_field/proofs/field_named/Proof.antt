@@ -23,8 +23,9 @@ returns : tie.Need-returns
 returns c =
     let a = c .before .before .before .before in
     let scope = a .args .scope in
-    c .name-in .ensures ∙ (λ i. rowIn (now (a .args .word)) false (a .pre i) 0 ((c .before .row-count .ensures .0 ∙ sym (count-fields scope)) i))
-    ∙ row-in (now (a .args .word)) false (fieldsOf scope) (good-fields scope)
+    let word = now (a .args .word) in
+    let count = c .before .row-count .ensures .0 ∙ sym (count-fields scope) in
+    c .name-in .ensures ∙ (λ i. rowIn word false (a .pre i) 0 (count i)) ∙ row-in word false (fieldsOf scope) (good-fields scope)
 
 pub field-named-spec : {M : Type 1} → statement M
 field-named-spec = tie.close (tie.spec (λ c κs. search needs) name-in-requires returns)

@@ -26,7 +26,8 @@ returns-3 : tie.Need-returns-3
 returns-3 c =
     let b = c .before .before .before .before in
     simp (ne-eqb _ _ (c .before .before .if1 .left))
-    (c .holds-of .ensures ∙ ap (λ (rows : List ℕ). heldAt rows (b .args .i - 1)) (b .pre) ∙ held-at (fieldsOf (b .args .scope)) (b .args .i - 1))
+    (c .holds-of .ensures ∙ ap (λ (rows : List ℕ). heldAt rows (b .args .i - 1)) (b .pre)
+    ∙ held-at (fieldsOf (b .args .scope)) (b .args .i - 1))
 
 pub held-by-spec : {M : Type 1} → statement M
 held-by-spec = tie.close (tie.spec returns returns-2 (λ c. search needs) (λ c κs. search needs) returns-3)
