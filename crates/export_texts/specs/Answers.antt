@@ -7,6 +7,7 @@ use lib.IntN.{ℤ}
 use Rattle.text_token.specs.Tokens.{bytesOf}
 use Rattle.text_scope.specs.declared.Scope.{Scope}
 use Rattle.text_scope.specs.declared.Scope.the-variants.{Vertex, Linedef, Sidedef, Sector, Thing}
+use Rattle.text_table.specs.Table.{defaultOf}
 use Rattle.text_block.specs.declared.Counts.{Counts}
 use Rattle.text_record.specs.Records.{vertexOf, linedefOf, sidedefOf, sectorOf, thingOf}
 use Rattle.text_map.specs.declared.TextSummary.{TextSummary}
@@ -69,16 +70,23 @@ vertexOut text f places = record { status = statusOf (f .check); vertex = vertex
 -- of a linedef with its id's default
 abbrev pub linedefOut : List ℕ → ℤ → BlockFields → List ℕ → TextLinedefAnswer
 linedefOut text id f places =
-    record { status = statusOf (f .check); linedef = linedefOf text places (rowsBy Linedef (f .check)) id; next = f .next }
+    let defaults = defaultOf (rowsBy Linedef (f .check)) in
+    record { status = statusOf (f .check); linedef = linedefOf text places defaults id; next = f .next }
 
 abbrev pub sidedefOut : List ℕ → BlockFields → List ℕ → TextSidedefAnswer
-sidedefOut text f places = record { status = statusOf (f .check); sidedef = sidedefOf text places (rowsBy Sidedef (f .check)); next = f .next }
+sidedefOut text f places =
+    let defaults = defaultOf (rowsBy Sidedef (f .check)) in
+    record { status = statusOf (f .check); sidedef = sidedefOf text places defaults; next = f .next }
 
 abbrev pub sectorOut : List ℕ → BlockFields → List ℕ → TextSectorAnswer
-sectorOut text f places = record { status = statusOf (f .check); sector = sectorOf text places (rowsBy Sector (f .check)); next = f .next }
+sectorOut text f places =
+    let defaults = defaultOf (rowsBy Sector (f .check)) in
+    record { status = statusOf (f .check); sector = sectorOf text places defaults; next = f .next }
 
 abbrev pub thingOut : List ℕ → BlockFields → List ℕ → TextThingAnswer
-thingOut text f places = record { status = statusOf (f .check); thing = thingOf text places (rowsBy Thing (f .check)); next = f .next }
+thingOut text f places =
+    let defaults = defaultOf (rowsBy Thing (f .check)) in
+    record { status = statusOf (f .check); thing = thingOf text places defaults; next = f .next }
 
 -- block `number` of each kind, after the whole text was judged; a linedef's id is by the text's namespace
 abbrev pub VertexNumbered : List ℕ → ℕ → TextVertexAnswer → Type 0

@@ -4,13 +4,13 @@ use Prim.Native.Nat.{ℕ, _+_, _-_}
 use mathlib.Core.Bool.{Bool, true, false, not, _&&_, cond}
 use mathlib.Core.List.{List}
 use lib.Dec.{eqb, leb}
-use lib.ListN.{getD, set, replicate}
+use lib.ListN.{length, getD, set, replicate}
 use Rattle.text_token.specs.declared.Token.{Token}
 use Rattle.text_byte.specs.Bytes.{semicolon, openBrace}
 use Rattle.text_scope.specs.declared.Scope.{Scope}
 use Rattle.text_scope.specs.declared.Scope.the-variants.{Top, Vertex, Linedef, Sidedef, Sector, Thing, Unknown}
-use Rattle.text_table.specs.Table.{rowsOf, isRequired}
-use Rattle.text_scope.specs.Scopes.{rowCount, scopeNumber}
+use Rattle.text_table.specs.Table.{fieldsOf, isRequired}
+use Rattle.text_scope.specs.Scopes.{scopeNumber}
 use Rattle.text_field.specs.Names.{every}
 use Rattle.text_block.specs.declared.Counts.{Counts}
 use Rattle.text_block.specs.declared.Asked.{Asked}
@@ -92,10 +92,10 @@ filed (Value field) t places = places
 filed (Semicolon field place) t places = cond (eqb (t .form) semicolon) (stored places field place) places
 filed NoMore t places = places
 
--- field `k` of some rows has a value, or a default
-abbrev pub isGiven : List ℕ → List ℕ → ℕ → Bool
-isGiven rows places k = not (isRequired rows k && eqb (getD places k 0) 0)
+-- field `k` has a value, or need not have one
+abbrev pub isGiven : (ℕ → Bool) → List ℕ → ℕ → Bool
+isGiven required places k = not (required k && eqb (getD places k 0) 0)
 
--- all fields of a kind have
+-- all fields of a kind: each has a value, or a default
 abbrev pub allGiven : Scope → List ℕ → Bool
-allGiven kind places = every (isGiven (rowsOf kind) places) (rowCount kind)
+allGiven kind places = every (isGiven (isRequired (fieldsOf kind)) places) (length (fieldsOf kind))

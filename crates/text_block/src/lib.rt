@@ -5,7 +5,7 @@ ghost use mathlib.Core.Path.{_≡_};
 ghost use Prim.Native.Nat.{_≤_, _<_};
 ghost use lib.Dec.{eqb};
 ghost use lib.ListN.{length};
-ghost use Rattle.text_table.specs.Table.{rowsOf};
+ghost use Rattle.text_table.specs.Inner.{rowsOf, requiredAt};
 ghost use Rattle.text_scope.specs.Scopes.{scopeNumber};
 ghost use Rattle.text_field.specs.Names.{every};
 ghost use Rattle.text_block.specs.declared.Asked.the-variants.{Numbered};
@@ -187,7 +187,7 @@ pub fn all_given(rows: &[u8], kind: Scope, places: &[usize; 34]) -> bool
 
 fn given_in(rows: &[u8], places: &[usize; 34], n: usize) -> bool
     requires { ⌜ n ≤ 34 ⌝ }
-    ensures { λ r. ⌜ r ≡ every (isGiven (now (rows .entry)) (now (places .entry))) n ⌝ }
+    ensures { λ r. ⌜ r ≡ every (isGiven (requiredAt (now (rows .entry))) (now (places .entry))) n ⌝ }
 {
     for k in 0..n {
         if text_table::is_required(rows, k) & (places[k] == 0) {

@@ -9,8 +9,9 @@ use native.Mathlib.Numerals.{add-one}
 use native.Mathlib.Omega.{arith}
 use lib.Dec.{eqb, ltb}
 use lib.ListN.{length, getD}
-use Rattle.text_table.specs.Table.{rowSize}
-use Rattle.text_field.specs.Names.{every, sameAt, longAs, isName, nameIn}
+use Rattle.text_table.specs.Inner.{rowSize}
+use Rattle.text_field.specs.Names.{every}
+use Rattle.text_field.specs.Inner.{sameAt, longAs, isRow, rowIn}
 
 module _ (test : ℕ → Bool) where
   every-step : (n : ℕ) → every test (suc n) ≡ (every test n && test n)
@@ -36,6 +37,11 @@ module _ (test : ℕ → Bool) where
   pub every-done : (k n : ℕ) → true ≡ every test k → k ≤ n → n ≤ k → true ≡ every test n
   every-done k n h low high = let e : k ≡ n = omega arith in h ∙ ap (every test) e
 
+pub every-same : (f g : ℕ → Bool) (n : ℕ) → ((k : ℕ) → k < n → f k ≡ g k) → every f n ≡ every g n
+unfolding every
+every-same f g zero h = refl
+every-same f g (suc n) h = λ i. every-same f g n (λ k l. h k (omega (arith, l))) i && h n (omega arith) i
+
 -- a word without letters is no name
 no-letters : (a b : Bool) → ((a && b) && not b) ≡ false
 no-letters true true = refl
@@ -44,13 +50,13 @@ no-letters false b = refl
 
 -- a word with another letter near its end
 pub name-other : (word : List ℕ) (exact : Bool) (rows : List ℕ) (i k : ℕ) → (0 < length word → k < length word) → sameAt word exact rows i k ≡ false
-    → false ≡ isName word exact rows i
+    → false ≡ isRow word exact rows i
 name-other word exact rows i k h e = by (length word) refl
   where
     long : Bool
     long = longAs rows i (length word)
 
-    by : (n : ℕ) → length word ≡ n → false ≡ isName word exact rows i
+    by : (n : ℕ) → length word ≡ n → false ≡ isRow word exact rows i
     by zero q =
         sym (ap (λ (m : ℕ). longAs rows i m && every (sameAt word exact rows i) m) q
         ∙ ap (λ (x : Bool). x && every (sameAt word exact rows i) 0) (no-letters (ltb 0 16) (eqb (getD rows (rowSize * i + 0) 0) 32)))
@@ -59,21 +65,21 @@ name-other word exact rows i k h e = by (length word) refl
 
 module _ (word : List ℕ) (exact : Bool) (rows : List ℕ) (k end : ℕ) where
   name-next : Bool → ℕ
-  name-next b = cond b (k + 1) (nameIn word exact rows (k + 1) (end - (k + 1)))
+  name-next b = cond b (k + 1) (rowIn word exact rows (k + 1) (end - (k + 1)))
 
-  name-step : k < end → nameIn word exact rows k (end - k) ≡ name-next (isName word exact rows k)
-  unfolding nameIn name-next
-  name-step h = let e : end - k ≡ suc (end - (k + 1)) = omega arith in ap (nameIn word exact rows k) e
+  name-step : k < end → rowIn word exact rows k (end - k) ≡ name-next (isRow word exact rows k)
+  unfolding rowIn name-next
+  name-step h = let e : end - k ≡ suc (end - (k + 1)) = omega arith in ap (rowIn word exact rows k) e
 
-  pub name-more : {b : Bool} → k < end → b ≡ isName word exact rows k → b ≡ false
-      → nameIn word exact rows k (end - k) ≡ nameIn word exact rows (k + 1) (end - (k + 1))
+  pub name-more : {b : Bool} → k < end → b ≡ isRow word exact rows k → b ≡ false
+      → rowIn word exact rows k (end - k) ≡ rowIn word exact rows (k + 1) (end - (k + 1))
   unfolding name-next
   name-more h e t = name-step h ∙ ap name-next (sym e ∙ t)
 
-  pub name-stop : {b : Bool} → k < end → b ≡ isName word exact rows k → b ≡ true → nameIn word exact rows k (end - k) ≡ k + 1
+  pub name-stop : {b : Bool} → k < end → b ≡ isRow word exact rows k → b ≡ true → rowIn word exact rows k (end - k) ≡ k + 1
   unfolding name-next
   name-stop h e t = name-step h ∙ ap name-next (sym e ∙ t)
 
-  pub name-none : end ≤ k → nameIn word exact rows k (end - k) ≡ 0
-  unfolding nameIn
-  name-none h = let e : end - k ≡ 0 = omega arith in ap (nameIn word exact rows k) e
+  pub name-none : end ≤ k → rowIn word exact rows k (end - k) ≡ 0
+  unfolding rowIn
+  name-none h = let e : end - k ≡ 0 = omega arith in ap (rowIn word exact rows k) e

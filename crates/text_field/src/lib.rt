@@ -4,9 +4,9 @@ ghost use mathlib.Core.Path.{_≡_};
 ghost use Prim.Native.Nat.{_-_, _*_, _≤_, _<_};
 ghost use lib.ListN.{length};
 ghost use Rattle.text_byte.specs.Bytes.{lower};
-ghost use Rattle.text_table.specs.Table.{nameRoom, rowSize, kindRows, namespaceRows, rowsOf};
-ghost use Rattle.text_field.specs.Names.{every, sameAt, isName, nameIn, fieldNamed, kindNamed, zeroIds};
-ghost use Rattle.text_field.specs.Inner.{Among, Tells};
+ghost use Rattle.text_table.specs.Inner.{nameRoom, rowSize, kindRows, namespaceRows, rowsOf};
+ghost use Rattle.text_field.specs.Names.{every, fieldNamed, kindNamed, zeroIds};
+ghost use Rattle.text_field.specs.Inner.{sameAt, isRow, rowIn, Among, Tells};
 use text_byte as bytes;
 use text_scope::Scope;
 use text_table::NAME_ROOM;
@@ -39,7 +39,7 @@ pub fn zero_ids(namespaces: &[u8], namespace: &[u8]) -> bool
 // Which of the rows has the word as its name. The byte that is compared first is `at`, a row further each time.
 fn name_in(rows: &[u8], word: &[u8], exact: bool, count: usize) -> usize
     requires { ⌜ (count ≤ 34) × (rowSize * count ≤ length (now rows)) ⌝ }
-    ensures { λ r. ⌜ r ≡ nameIn (now (word .entry)) exact (now (rows .entry)) 0 count ⌝ }
+    ensures { λ r. ⌜ r ≡ rowIn (now (word .entry)) exact (now (rows .entry)) 0 count ⌝ }
 {
     let k = last_of(word.len());
     let last = letter(exact, bytes::byte_at(word, k));
@@ -72,7 +72,7 @@ fn last_of(length: usize) -> usize
 fn is_name(rows: &[u8], word: &[u8], exact: bool, last: u8, at: usize, i: usize) -> bool
     requires { ⌜ Among i (now rows) ⌝ }
     requires { ⌜ (at < length (now rows)) × Tells (now word) exact (now rows) last at i ⌝ }
-    ensures { λ r. ⌜ r ≡ isName (now (word .entry)) exact (now (rows .entry)) i ⌝ }
+    ensures { λ r. ⌜ r ≡ isRow (now (word .entry)) exact (now (rows .entry)) i ⌝ }
 {
     if last != rows[at] {
         return false;
@@ -83,7 +83,7 @@ fn is_name(rows: &[u8], word: &[u8], exact: bool, last: u8, at: usize, i: usize)
 // Behind the name a space is wanted, then its letters.
 fn is_spelled(rows: &[u8], word: &[u8], exact: bool, i: usize) -> bool
     requires { ⌜ Among i (now rows) ⌝ }
-    ensures { λ r. ⌜ r ≡ isName (now (word .entry)) exact (now (rows .entry)) i ⌝ }
+    ensures { λ r. ⌜ r ≡ isRow (now (word .entry)) exact (now (rows .entry)) i ⌝ }
 {
     if NAME_ROOM <= word.len() {
         return false;

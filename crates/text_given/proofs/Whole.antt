@@ -14,6 +14,7 @@ pub whole : {r z : ℤ} → mag r < 2 ^ hbits w32 → r ≡ z → toZ w32 (ofZ w
 whole {r} fits e = toZ-ofZ w32 r (record { sfits = fits }) ∙ e
 
 -- field `k` of a linedef, whose default was kept so before
-pub whole-by : (text places rows : List ℕ) (k : ℕ) {r d z : ℤ} → mag r < 2 ^ hbits w32 → r ≡ wholeField text places rows d k → d ≡ z
-    → toZ w32 (ofZ w32 r) ≡ wholeField text places rows z k
-whole-by text places rows k fits e default = whole fits (e ∙ ap (λ (x : ℤ). wholeField text places rows x k) default)
+pub whole-by : (text places : List ℕ) (defaults : ℕ → ℕ) (k : ℕ) {r d z : ℤ} → mag r < 2 ^ hbits w32
+    → r ≡ wholeField text places defaults d k → d ≡ z
+    → toZ w32 (ofZ w32 r) ≡ wholeField text places defaults z k
+whole-by text places defaults k fits e default = whole fits (e ∙ ap (λ (x : ℤ). wholeField text places defaults x k) default)

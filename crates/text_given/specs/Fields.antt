@@ -12,7 +12,7 @@ use Rattle.text_value.specs.declared.Value.the-variants.{Whole, Decimal, Text, 
 use Rattle.text_value.specs.declared.Reading.{Reading}
 use Rattle.text_value.specs.declared.Reading.the-variants.{Good, WholePast, DecimalPast, NoValue}
 use Rattle.text_value.specs.Values.{tokenRead}
-use Rattle.text_table.specs.Table.{minusOne, light, byNamespace, defaultOf}
+use Rattle.text_table.specs.Table.{minusOne, light, byNamespace}
 use Rattle.text_given.specs.declared.Places.{Places}
 
 -- what is read at the place of a value; none at place 0
@@ -82,9 +82,9 @@ flagOr WholePast = false
 flagOr DecimalPast = false
 flagOr NoValue = false
 
--- field `k` of a block whose values stand at `places`, by the rows of its kind
-abbrev pub wholeField : List ℕ → List ℕ → List ℕ → ℤ → ℕ → ℤ
-wholeField text places rows id k = wholeOr (defaultWhole id (defaultOf rows k)) (valueAt text (getD places k 0))
+-- the field of row `k` of a block whose values stand at `places`; `defaults` has the default of each row
+abbrev pub wholeField : List ℕ → List ℕ → (ℕ → ℕ) → ℤ → ℕ → ℤ
+wholeField text places defaults id k = wholeOr (defaultWhole id (defaults k)) (valueAt text (getD places k 0))
 
 abbrev pub decimalField : List ℕ → List ℕ → ℕ → Float
 decimalField text places k = decimalOr (valueAt text (getD places k 0))

@@ -2,6 +2,7 @@
 // definitions are in specs/.
 ghost use mathlib.Core.Path.{_≡_};
 ghost use Prim.Native.Nat.{_<_};
+ghost use Rattle.text_table.specs.Inner.{defaultAt};
 ghost use Rattle.text_given.specs.Fields.{valueAt, defaultWhole, wholeIn, wholeOr, decimalIn, decimalOr, stringIn, stringOr, flagIn, flagOr};
 ghost use Rattle.text_given.specs.Fields.{wholeField, decimalField, stringField, flagField};
 use text_value::Reading;
@@ -17,7 +18,7 @@ pub struct Places {
 // A whole number; `id` is the default where the namespace decides.
 pub fn whole_field(text: &[u8], rows: &[u8], places: &[usize; 34], id: i32, k: usize) -> i32
     requires { ⌜ k < 34 ⌝ }
-    ensures { λ r. ⌜ r ≡ wholeField (now (text .entry)) (now (places .entry)) (now (rows .entry)) id k ⌝ }
+    ensures { λ r. ⌜ r ≡ wholeField (now (text .entry)) (now (places .entry)) (defaultAt (now (rows .entry))) id k ⌝ }
 {
     let letter = text_table::default_of(rows, k);
     whole_or(default_whole(id, letter), value_at(text, places[k]))

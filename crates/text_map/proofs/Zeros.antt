@@ -19,7 +19,7 @@ module _ (text : List ℕ) (k : ℕ) where
   unread : {A : Type 0} (f : ℕ → A) → f (getD noPlaces k 0) ≡ f 0
   unread f = ap f (getD-zeros 34 k)
 
-  pub wholeField-none : (id : ℤ) → wholeField text noPlaces [] id k ≡ pos 0
+  pub wholeField-none : (id : ℤ) → wholeField text noPlaces (defaultOf []) id k ≡ pos 0
   wholeField-none id =
       unread (λ (p : ℕ). wholeOr (defaultWhole id (defaultOf [] k)) (valueAt text p))
 

@@ -12,7 +12,7 @@ use Rattle.refusal.specs.Checks.{unless, _andThen_}
 use Rattle.text_token.specs.Tokens.{bytesOf}
 use Rattle.text_scope.specs.declared.Scope.{Scope}
 use Rattle.text_scope.specs.Scopes.{scopeNumber}
-use Rattle.text_table.specs.Table.{rowsOf}
+use Rattle.text_table.specs.Table.{Row, fieldsOf}
 use Rattle.text_field.specs.Names.{zeroIds}
 use Rattle.text_block.specs.declared.Asked.{Asked}
 use Rattle.text_block.specs.declared.Asked.the-variants.{Nothing, Numbered, First, Opening}
@@ -76,8 +76,8 @@ placesBy kept (Refused r) = noPlaces
 abbrev pub blockPlaces : Stand → List ℕ
 blockPlaces s = placesBy (s .kept) (blockCheck (s .parse))
 
-abbrev pub rowsBy : Scope → Check → List ℕ
-rowsBy kind Pass = rowsOf kind
+abbrev pub rowsBy : Scope → Check → List Row
+rowsBy kind Pass = fieldsOf kind
 rowsBy kind (Refused r) = []
 
 -- block `number` of a kind, after the whole text was judged

@@ -2,7 +2,7 @@
 // specs/.
 ghost use mathlib.Core.Path.{_≡_};
 ghost use Rattle.text_scope.specs.Scopes.{scopeNumber};
-ghost use Rattle.text_table.specs.Table.{namespaceRows};
+ghost use Rattle.text_table.specs.Inner.{namespaceRows};
 ghost use Rattle.text_token.specs.Tokens.{bytesOf};
 ghost use Rattle.text_map.specs.Answers.{namespaceOf, summaryBy, textAnswer, blockCheck, openedCheck, blockBy, blockAnswer};
 ghost use Rattle.text_map.specs.Answers.{fieldsBy, blockFields, placesBy, blockPlaces, numbered, firstFrom, nextFrom, idBy, idOf};

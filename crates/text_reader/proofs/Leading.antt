@@ -1,5 +1,5 @@
 -- Laws of a text read on by several tokens: what is left of the run answers the same, and less of it is left. Assumes nothing.
-use Prim.Native.Nat.{ℕ, _≤_, _<_}
+use Prim.Native.Nat.{ℕ, _<_}
 use mathlib.Core.Bool.{Bool, true, false, not, _&&_, cond, true≢false}
 use mathlib.Core.List.{List}
 use mathlib.Core.Path.{_≡_, refl, sym, ap, _∙_}
@@ -9,14 +9,13 @@ use lib.ListN.{length}
 use Rattle.text_byte.proofs.Spans.{cond-on}
 use Rattle.text_token.specs.declared.Token.{Token}
 use Rattle.text_token.specs.Tokens.{tokenAt}
-use Rattle.text_scope.specs.declared.Scope.{Scope}
 use Rattle.text_block.specs.declared.Asked.{Asked}
 use Rattle.text_block.specs.declared.Wanted.{Wanted}
-use Rattle.text_block.specs.declared.Wanted.the-variants.{Statement, NoMore}
+use Rattle.text_block.specs.declared.Wanted.the-variants.{NoMore}
 use Rattle.text_block.specs.Blocks.{isFull, stopsThere, stopsInside, allGiven, filed}
 use Rattle.text_field.specs.Names.{kindNamed}
 use Rattle.text_step.specs.declared.Parse.{Parse}
-use Rattle.text_step.specs.Steps.{isTop, isFound, closedBlock, onEnd, wantedInside, openedBlock, onBrace, onSemicolon, stepBy}
+use Rattle.text_step.specs.Steps.{isTop, isFound, onEnd, onBrace, onSemicolon, stepBy}
 use Rattle.text_reader.specs.Texts.{Stand, stand, isMore, goes, keptAfter, tokenMore}
 use Rattle.text_reader.specs.Inner.{Leads, last, then, ReadsOn, Rests}
 use Rattle.text_reader.proofs.Onward.{Next, step-next}

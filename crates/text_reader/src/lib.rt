@@ -3,7 +3,7 @@
 ghost use mathlib.Core.Bool.{false};
 ghost use mathlib.Core.Path.{_≡_};
 ghost use lib.ListN.{length};
-ghost use Rattle.text_table.specs.Table.{kindRows, rowsOf};
+ghost use Rattle.text_table.specs.Inner.{kindRows, rowsOf};
 ghost use Rattle.text_block.specs.declared.Asked.{Asked};
 ghost use Rattle.text_block.specs.declared.Wanted.the-variants.{Statement, Equals, Value, Semicolon};
 ghost use Rattle.text_block.specs.Blocks.{isFull, noPlaces};

@@ -1,8 +1,16 @@
 -- The five records of a text map (02, W-206; document 002, "Standardized Fields"), fields in the document's order: of a block whose values
--- stand at `places`, by the rows of its kind. Assumes nothing.
-use Prim.Native.Nat.{ℕ}
+-- stand at `places`, each field by its name. `defaults` has the default of each row of the kind. Assumes nothing.
+use Prim.Native.Nat.{ℕ, _-_}
+use Prim.Native.String.{String}
+use mathlib.Core.Bool.{Bool}
 use mathlib.Core.List.{List}
 use lib.IntN.{ℤ, pos}
+use lib.Ieee.{Float}
+use Rattle.text_scope.specs.declared.Scope.{Scope}
+use Rattle.text_scope.specs.declared.Scope.the-variants.{Vertex, Linedef, Sidedef, Sector, Thing}
+use Rattle.text_table.specs.Table.{bytes}
+use Rattle.text_field.specs.Names.{fieldNamed}
+use Rattle.text_given.specs.declared.Places.{Places}
 use Rattle.text_given.specs.Fields.{wholeField, decimalField, stringField, flagField}
 use Rattle.text_record.specs.declared.TextVertex.{TextVertex}
 use Rattle.text_record.specs.declared.TextLinedef.{TextLinedef}
@@ -10,106 +18,127 @@ use Rattle.text_record.specs.declared.TextSidedef.{TextSidedef}
 use Rattle.text_record.specs.declared.TextSector.{TextSector}
 use Rattle.text_record.specs.declared.TextThing.{TextThing}
 
+-- the row of a field, found by its name as a text's own words are
+abbrev pub rowOf : Scope → String → ℕ
+rowOf kind name = fieldNamed kind (bytes name) - 1
+
 abbrev pub vertexOf : List ℕ → List ℕ → TextVertex
-vertexOf text places = record {
-  x = decimalField text places 0;
-  y = decimalField text places 1;
-}
+vertexOf text places =
+    let decimal : String → Float = λ name. decimalField text places (rowOf Vertex name) in
+    record {
+      x = decimal "x";
+      y = decimal "y";
+    }
 
 -- a linedef, whose id is `id` by default
-abbrev pub linedefOf : List ℕ → List ℕ → List ℕ → ℤ → TextLinedef
-linedefOf text places rows id = record {
-  id = wholeField text places rows id 0;
-  v1 = wholeField text places rows id 1;
-  v2 = wholeField text places rows id 2;
-  blocking = flagField text places 3;
-  blockmonsters = flagField text places 4;
-  twosided = flagField text places 5;
-  dontpegtop = flagField text places 6;
-  dontpegbottom = flagField text places 7;
-  secret = flagField text places 8;
-  blocksound = flagField text places 9;
-  dontdraw = flagField text places 10;
-  mapped = flagField text places 11;
-  passuse = flagField text places 12;
-  translucent = flagField text places 13;
-  jumpover = flagField text places 14;
-  blockfloaters = flagField text places 15;
-  playercross = flagField text places 16;
-  playeruse = flagField text places 17;
-  monstercross = flagField text places 18;
-  monsteruse = flagField text places 19;
-  impact = flagField text places 20;
-  playerpush = flagField text places 21;
-  monsterpush = flagField text places 22;
-  missilecross = flagField text places 23;
-  repeatspecial = flagField text places 24;
-  special = wholeField text places rows id 25;
-  arg0 = wholeField text places rows id 26;
-  arg1 = wholeField text places rows id 27;
-  arg2 = wholeField text places rows id 28;
-  arg3 = wholeField text places rows id 29;
-  arg4 = wholeField text places rows id 30;
-  sidefront = wholeField text places rows id 31;
-  sideback = wholeField text places rows id 32;
-  comment = stringField text places 33;
-}
+abbrev pub linedefOf : List ℕ → List ℕ → (ℕ → ℕ) → ℤ → TextLinedef
+linedefOf text places defaults id =
+    let whole : String → ℤ = λ name. wholeField text places defaults id (rowOf Linedef name) in
+    let flag : String → Bool = λ name. flagField text places (rowOf Linedef name) in
+    let string : String → Places = λ name. stringField text places (rowOf Linedef name) in
+    record {
+      id = whole "id";
+      v1 = whole "v1";
+      v2 = whole "v2";
+      blocking = flag "blocking";
+      blockmonsters = flag "blockmonsters";
+      twosided = flag "twosided";
+      dontpegtop = flag "dontpegtop";
+      dontpegbottom = flag "dontpegbottom";
+      secret = flag "secret";
+      blocksound = flag "blocksound";
+      dontdraw = flag "dontdraw";
+      mapped = flag "mapped";
+      passuse = flag "passuse";
+      translucent = flag "translucent";
+      jumpover = flag "jumpover";
+      blockfloaters = flag "blockfloaters";
+      playercross = flag "playercross";
+      playeruse = flag "playeruse";
+      monstercross = flag "monstercross";
+      monsteruse = flag "monsteruse";
+      impact = flag "impact";
+      playerpush = flag "playerpush";
+      monsterpush = flag "monsterpush";
+      missilecross = flag "missilecross";
+      repeatspecial = flag "repeatspecial";
+      special = whole "special";
+      arg0 = whole "arg0";
+      arg1 = whole "arg1";
+      arg2 = whole "arg2";
+      arg3 = whole "arg3";
+      arg4 = whole "arg4";
+      sidefront = whole "sidefront";
+      sideback = whole "sideback";
+      comment = string "comment";
+    }
 
-abbrev pub sidedefOf : List ℕ → List ℕ → List ℕ → TextSidedef
-sidedefOf text places rows = record {
-  offsetx = wholeField text places rows (pos 0) 0;
-  offsety = wholeField text places rows (pos 0) 1;
-  texturetop = stringField text places 2;
-  texturebottom = stringField text places 3;
-  texturemiddle = stringField text places 4;
-  sector = wholeField text places rows (pos 0) 5;
-  comment = stringField text places 6;
-}
+abbrev pub sidedefOf : List ℕ → List ℕ → (ℕ → ℕ) → TextSidedef
+sidedefOf text places defaults =
+    let whole : String → ℤ = λ name. wholeField text places defaults (pos 0) (rowOf Sidedef name) in
+    let string : String → Places = λ name. stringField text places (rowOf Sidedef name) in
+    record {
+      offsetx = whole "offsetx";
+      offsety = whole "offsety";
+      texturetop = string "texturetop";
+      texturebottom = string "texturebottom";
+      texturemiddle = string "texturemiddle";
+      sector = whole "sector";
+      comment = string "comment";
+    }
 
-abbrev pub sectorOf : List ℕ → List ℕ → List ℕ → TextSector
-sectorOf text places rows = record {
-  heightfloor = wholeField text places rows (pos 0) 0;
-  heightceiling = wholeField text places rows (pos 0) 1;
-  texturefloor = stringField text places 2;
-  textureceiling = stringField text places 3;
-  lightlevel = wholeField text places rows (pos 0) 4;
-  special = wholeField text places rows (pos 0) 5;
-  id = wholeField text places rows (pos 0) 6;
-  comment = stringField text places 7;
-}
+abbrev pub sectorOf : List ℕ → List ℕ → (ℕ → ℕ) → TextSector
+sectorOf text places defaults =
+    let whole : String → ℤ = λ name. wholeField text places defaults (pos 0) (rowOf Sector name) in
+    let string : String → Places = λ name. stringField text places (rowOf Sector name) in
+    record {
+      heightfloor = whole "heightfloor";
+      heightceiling = whole "heightceiling";
+      texturefloor = string "texturefloor";
+      textureceiling = string "textureceiling";
+      lightlevel = whole "lightlevel";
+      special = whole "special";
+      id = whole "id";
+      comment = string "comment";
+    }
 
 -- a thing; `kind` is the field `type`, a word of the language
-abbrev pub thingOf : List ℕ → List ℕ → List ℕ → TextThing
-thingOf text places rows = record {
-  id = wholeField text places rows (pos 0) 0;
-  x = decimalField text places 1;
-  y = decimalField text places 2;
-  height = decimalField text places 3;
-  angle = wholeField text places rows (pos 0) 4;
-  kind = wholeField text places rows (pos 0) 5;
-  skill1 = flagField text places 6;
-  skill2 = flagField text places 7;
-  skill3 = flagField text places 8;
-  skill4 = flagField text places 9;
-  skill5 = flagField text places 10;
-  ambush = flagField text places 11;
-  single = flagField text places 12;
-  dm = flagField text places 13;
-  coop = flagField text places 14;
-  friend = flagField text places 15;
-  dormant = flagField text places 16;
-  class1 = flagField text places 17;
-  class2 = flagField text places 18;
-  class3 = flagField text places 19;
-  standing = flagField text places 20;
-  strifeally = flagField text places 21;
-  translucent = flagField text places 22;
-  invisible = flagField text places 23;
-  special = wholeField text places rows (pos 0) 24;
-  arg0 = wholeField text places rows (pos 0) 25;
-  arg1 = wholeField text places rows (pos 0) 26;
-  arg2 = wholeField text places rows (pos 0) 27;
-  arg3 = wholeField text places rows (pos 0) 28;
-  arg4 = wholeField text places rows (pos 0) 29;
-  comment = stringField text places 30;
-}
+abbrev pub thingOf : List ℕ → List ℕ → (ℕ → ℕ) → TextThing
+thingOf text places defaults =
+    let whole : String → ℤ = λ name. wholeField text places defaults (pos 0) (rowOf Thing name) in
+    let decimal : String → Float = λ name. decimalField text places (rowOf Thing name) in
+    let flag : String → Bool = λ name. flagField text places (rowOf Thing name) in
+    let string : String → Places = λ name. stringField text places (rowOf Thing name) in
+    record {
+      id = whole "id";
+      x = decimal "x";
+      y = decimal "y";
+      height = decimal "height";
+      angle = whole "angle";
+      kind = whole "type";
+      skill1 = flag "skill1";
+      skill2 = flag "skill2";
+      skill3 = flag "skill3";
+      skill4 = flag "skill4";
+      skill5 = flag "skill5";
+      ambush = flag "ambush";
+      single = flag "single";
+      dm = flag "dm";
+      coop = flag "coop";
+      friend = flag "friend";
+      dormant = flag "dormant";
+      class1 = flag "class1";
+      class2 = flag "class2";
+      class3 = flag "class3";
+      standing = flag "standing";
+      strifeally = flag "strifeally";
+      translucent = flag "translucent";
+      invisible = flag "invisible";
+      special = whole "special";
+      arg0 = whole "arg0";
+      arg1 = whole "arg1";
+      arg2 = whole "arg2";
+      arg3 = whole "arg3";
+      arg4 = whole "arg4";
+      comment = string "comment";
+    }

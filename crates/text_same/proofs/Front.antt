@@ -12,8 +12,8 @@ use Rattle.text_gap.specs.declared.Mode.{Mode}
 use Rattle.text_gap.specs.declared.Mode.the-variants.{Between, Line, Opening, Comment, Star, Stop}
 use Rattle.text_gap.specs.declared.Gap.{Gap}
 use Rattle.text_byte.specs.Bytes.{newline, star, slash, doubleQuote, backslash, isMark}
-use Rattle.text_gap.specs.Gaps.{between, modeAfter, isStop, isOpen, gap, gapFrom}
-use Rattle.text_token.specs.Tokens.{endForm, unclosedForm, wordForm, stringForm, token, inWord, quoteEnd, ended, stringTo, wordTo, tokenHere, tokenBehind, tokenAt}
+use Rattle.text_gap.specs.Gaps.{between, modeAfter, isStop, gap, gapFrom}
+use Rattle.text_token.specs.Tokens.{unclosedForm, wordForm, stringForm, token, inWord, quoteEnd, ended, stringTo, wordTo, tokenHere, tokenBehind, tokenAt}
 use Rattle.text_byte.specs.Spans.{spanEnd}
 use Rattle.text_byte.proofs.Spans.{span-reach}
 use Rattle.text_token.proofs.Tokens.{quote-reach, tokenAt-placed}

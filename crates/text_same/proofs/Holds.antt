@@ -25,7 +25,7 @@ use Rattle.text_block.specs.declared.Asked.{Asked}
 use Rattle.text_block.specs.declared.Wanted.{Wanted}
 use Rattle.text_block.specs.declared.Wanted.the-variants.{Statement, Equals, Value, Semicolon, NoMore}
 use Rattle.text_reader.specs.Runs.{runs}
-use Rattle.text_block.specs.Blocks.{filed}
+use Rattle.text_block.specs.Blocks.{filed, noPlaces}
 use Rattle.text_name.specs.Identifiers.{identifierOk}
 use Rattle.text_scope.specs.declared.Scope.{Scope}
 use Rattle.text_step.specs.Steps.{isTop, stepBy}
@@ -35,10 +35,10 @@ use Rattle.text_reader.proofs.Onward.{step-next}
 use Rattle.text_same.specs.Tokens.{SameLetters, SameLexeme, placeOf, SameFirst}
 use Rattle.text_same.specs.Answers.{SameCheck, both-pass, both-refused, SameStand}
 use Rattle.text_same.specs.Promises.{TokensDecide, after, beginsAt}
-use Rattle.text_same.proofs.Readings.{token-again, token-start, token-ended, cond-both, token-same, SameReading, same-none, whole-same, decimal-same, flag-same, string-same, absent-same}
+use Rattle.text_same.proofs.Readings.{token-again, token-start, token-ended, cond-both, cond-both-on, token-same, SameReading, same-none, whole-same, decimal-same, flag-same, string-same, absent-same}
 use Rattle.text_same.proofs.Letters.{field-named, kind-named, letters-read}
 use Rattle.text_same.proofs.Related.{SamePlace, SameName, Begun, SameWanted, want-statement, want-equals, want-value, want-semicolon, want-none, SameParse, SameToken}
-use Rattle.text_same.proofs.Stepping.{stepped-alike, no-places, SameFields, filed-alike}
+use Rattle.text_same.proofs.Stepping.{step-top, stepped-alike, no-places, SameFields, filed-alike}
 
 -- words with the same letters say the same
 letters-same : (a b : List ℕ) (t u : Token) → t .form ≡ u .form → t .form ≡ wordForm → SameLetters (wordOf a t) (wordOf b u) → SameReading a b (tokenRead a t) (tokenRead b u)
@@ -119,9 +119,10 @@ module _ (a b : List ℕ) where
             (subst (λ (z : Token). SameReading a b (tokenRead a t) (tokenRead b z)) (sym (token-again b from (subst (λ (f : ℕ). wordForm ≤ f) form-alike high)))
             read-alike)
 
+  -- two stands that lead to the same answers: in a block its fields have the same values
   pub record Alike (n : ℕ) (s r : Stand) : Type 0 where
     pub parse : SameParse a b n (s .parse) (r .parse)
-    pub places : SameFields a b (s .places) (r .places)
+    pub places : isTop (s .parse .scope) ≡ false → SameFields a b (s .places) (r .places)
     pub kept : SameFields a b (s .kept) (r .kept)
 
   more-alike : {at from : ℕ} {w v : Wanted} → SameWanted a b at from w v → isMore w ≡ isMore v
@@ -131,22 +132,70 @@ module _ (a b : List ℕ) where
   more-alike (want-semicolon f p q g) = refl
   more-alike want-none = refl
 
-  step-alike : (asked : Asked) {n : ℕ} {s r : Stand} → Alike (suc n) s r → Alike n (tokenMore a asked s) (tokenMore b asked r)
-  step-alike asked {n} {s} {r} h =
-      let l = h .parse .base .tokens in
-      let at = s .parse .at in
-      let from = r .parse .at in
-      let next = stepped-alike a b asked (s .places) (r .places) (h .parse) (token-alike n at from l) (h .places .values) (value-alike n at from l) (h .parse .wanted) in
-      record {
-        parse = next;
-        places = filed-alike a b (s .places) (r .places) (tokenAt a at) (tokenAt b from) (h .places) (form-alike n at from l) (h .parse .wanted);
-        kept = cond-both (SameFields a b) (λ i. not (h .parse .base .notes .found i) && next .base .notes .found i) (h .places) (h .kept);
-      }
+  module _ (asked : Asked) (n : ℕ) (s r : Stand) (h : Alike (suc n) s r) where
+    abbrev token-a : Token
+    token-a = tokenAt a (s .parse .at)
+
+    abbrev token-b : Token
+    token-b = tokenAt b (r .parse .at)
+
+    next-alike-parse : SameParse a b n (tokenMore a asked s .parse) (tokenMore b asked r .parse)
+    next-alike-parse =
+        let l = h .parse .base .tokens in
+        let at = s .parse .at in
+        let from = r .parse .at in
+        stepped-alike a b asked (s .places) (r .places) (h .parse) (token-alike n at from l) (λ e. h .places e .values)
+        (value-alike n at from l) (h .parse .wanted)
+
+    same-top : isTop (s .parse .scope) ≡ true → isTop (r .parse .scope) ≡ true
+    same-top e = sym (ap isTop (h .parse .base .scope)) ∙ e
+
+    -- in a block the places go on alike; where one opens there are none yet
+    places-alike : isTop (tokenMore a asked s .parse .scope) ≡ false
+        → SameFields a b (filed (s .parse .wanted) token-a (s .places)) (filed (r .parse .wanted) token-b (r .places))
+    places-alike e = by (isTop (s .parse .scope)) refl
+      where
+        by : (x : Bool) → isTop (s .parse .scope) ≡ x
+            → SameFields a b (filed (s .parse .wanted) token-a (s .places)) (filed (r .parse .wanted) token-b (r .places))
+        by true top =
+            let p = step-top a asked (s .places) (s .parse) token-a top (s .parse .wanted) .cleared e in
+            let q = step-top b asked (r .places) (r .parse) token-b (same-top top) (r .parse .wanted) .cleared
+            (sym (ap isTop (next-alike-parse .base .scope)) ∙ e) in
+            subst (λ (ps : List ℕ). SameFields a b ps (filed (r .parse .wanted) token-b (r .places))) (sym p)
+            (subst (SameFields a b noPlaces) (sym q) (record { values = no-places a b; long = refl }))
+        by false top =
+            filed-alike a b (s .places) (r .places) token-a token-b (h .places top)
+            (form-alike n (s .parse .at) (r .parse .at) (h .parse .base .tokens)) (h .parse .wanted)
+
+    -- a block is found inside it
+    found-inside : (not (s .parse .notes .found) && tokenMore a asked s .parse .notes .found) ≡ true
+        → isTop (s .parse .scope) ≡ false
+    found-inside e = by (isTop (s .parse .scope)) refl
+      where
+        none-new : (f : Bool) → (not f && f) ≡ false
+        none-new true = refl
+        none-new false = refl
+
+        by : (x : Bool) → isTop (s .parse .scope) ≡ x → x ≡ false
+        by true top =
+            let same = step-top a asked (s .places) (s .parse) token-a top (s .parse .wanted) .found in
+            let old = s .parse .notes .found in
+            absurd (true≢false (sym e ∙ ap (λ (f : Bool). not old && f) same ∙ none-new old))
+        by false top = refl
+
+    pub step-alike : Alike n (tokenMore a asked s) (tokenMore b asked r)
+    step-alike = record {
+      parse = next-alike-parse;
+      places = places-alike;
+      kept =
+          cond-both-on (SameFields a b) (λ i. not (h .parse .base .notes .found i) && next-alike-parse .base .notes .found i)
+          (λ e. h .places (found-inside e)) (h .kept);
+    }
 
   pub after-alike : (asked : Asked) (n : ℕ) {s r : Stand} → Alike n s r → Alike 0 (after a asked n s) (after b asked n r)
   unfolding after
   after-alike asked zero h = h
-  after-alike asked (suc n) h = after-alike asked n (step-alike asked h)
+  after-alike asked (suc n) {s} {r} h = after-alike asked n (step-alike asked n s r h)
 
   pub begins-alike : (n at from : ℕ) → SameFirst n a at b from → Alike n (beginsAt at) (beginsAt from)
   begins-alike n at from h = record {
@@ -155,7 +204,7 @@ module _ (a b : List ℕ) where
       wanted = want-statement;
       check = both-pass;
     };
-    places = record { values = no-places a b; long = refl };
+    places = λ _. record { values = no-places a b; long = refl };
     kept = record { values = no-places a b; long = refl };
   }
 

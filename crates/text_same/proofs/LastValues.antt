@@ -64,14 +64,14 @@ after-kept text asked i (suc n) s h =
 
 -- what a token does to the notes: it ends a block, or an assignment, or leaves them
 module _ (text : List ℕ) (asked : Asked) (places : List ℕ) (p : Parse) (t : Token) (P : Notes → Type 0) where
-  abbrev Noted : Parse → Type 0
+  abbrev pub Noted : Parse → Type 0
   Noted q = P (q .notes)
 
   judged-notes : (field : ℕ) (c : Check) → P (p .notes) → Noted (judged p t field c)
   judged-notes field Pass h = h
   judged-notes field (Refused r) h = h
 
-  step-notes : (w : Wanted) → P (p .notes) → P (notesAfter asked p (t .next))
+  pub step-notes : (w : Wanted) → P (p .notes) → P (notesAfter asked p (t .next))
       → ((field place : ℕ) → w ≡ Semicolon field place → eqb (t .form) semicolon ≡ true → P (notesAssigned p field place))
       → Noted (stepBy text asked places p t w)
   step-notes Statement h closed assigned =

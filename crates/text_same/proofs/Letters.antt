@@ -1,43 +1,43 @@
 -- The case of letters in identifiers and keywords changes nothing. Assumes nothing.
-use Prim.Native.Nat.{ℕ, zero, suc, _+_, _-_, _*_, _≤_, _<_}
+use Prim.Native.Nat.{ℕ, zero, suc, _+_, _-_, _<_}
 use mathlib.Core.Bool.{Bool, true, false, not, _&&_, _||_, cond, and-false, and-eq-true-iff}
-use mathlib.Core.List.{List}
+use mathlib.Core.List.{List, [], _∷_}
 use mathlib.Core.Path.{_≡_, refl, sym, ap, _∙_, subst}
 use native.Mathlib.Omega.{arith}
 use borrow.Author.Tests.{eqb-true, ne-eqb, lt-leb, ltb-true, ltb-false}
 use lib.Dec.{eqb, ltb, leb}
 use lib.ListN.{getD, length}
-use Rattle.text_byte.specs.Bytes.{within, isDigit, isLetter, isNameByte, lowerAt}
+use Rattle.text_byte.specs.Bytes.{within, isDigit, isLetter, isNameByte}
 use Rattle.text_byte.specs.Spans.{spanEnd}
 use Rattle.text_byte.proofs.Bytes.{within-true}
 use Rattle.text_byte.proofs.Spans.{span-stop, span-done}
 use Rattle.text_value.specs.declared.Reading.{Reading}
 use Rattle.text_value.specs.declared.Reading.the-variants.{NoValue}
-use Rattle.text_number.specs.Numbers.{zeroDigit, plusSign, minusSign, digitsFrom, digitsEnd, hexOk, hexEnd, smallX, wholeOk, decimalOk, isSign, behindSign}
+use Rattle.text_number.specs.Numbers.{zeroDigit, plusSign, minusSign, digitsFrom, digitsEnd, hexOk, hexEnd, smallX, behindSign}
 use Rattle.text_value.specs.Values.{isTrue, isFalse, wholeRead, digitsRead, numberRead, wordRead}
 use Rattle.text_scope.specs.declared.Scope.{Scope}
-use Rattle.text_table.specs.Table.{rowSize, kindRows, rowsOf}
-use Rattle.text_field.specs.Names.{every, longAs, isName, nameIn, fieldNamed, kindNamed, kindCount}
-use Rattle.text_scope.specs.Scopes.{rowCount, scopeOf}
+use Rattle.text_table.specs.Table.{Row, kindNames, fieldsOf}
+use Rattle.text_field.specs.Names.{every, isName, nameIn, fieldNamed, kindNamed}
+use Rattle.text_scope.specs.Scopes.{scopeOf}
 use Rattle.text_name.specs.Identifiers.{identifierOk}
 use Rattle.text_same.specs.Tokens.{SameLetters}
 use Rattle.text_same.proofs.Readings.{cond-both, SameReading, same-flag, same-none}
 
 -- the same name of the table
 module _ {v w : List ℕ} (s : SameLetters v w) where
-  is-name : (rows : List ℕ) (i : ℕ) → isName v false rows i ≡ isName w false rows i
-  is-name rows i = λ j. longAs rows i (s .long j) && every (λ k. eqb (s .letters k j) (getD rows (rowSize * i + k) 0)) (s .long j)
+  is-name : (name : List ℕ) → isName v false name ≡ isName w false name
+  is-name name = λ j. eqb (s .long j) (length name) && every (λ k. eqb (s .letters k j) (getD name k 0)) (s .long j)
 
-  name-in : (rows : List ℕ) (passed n : ℕ) → nameIn v false rows passed n ≡ nameIn w false rows passed n
+  name-in : (rows : List Row) (passed : ℕ) → nameIn v false passed rows ≡ nameIn w false passed rows
   unfolding nameIn
-  name-in rows passed zero = refl
-  name-in rows passed (suc n) = λ j. cond (is-name rows passed j) (passed + 1) (name-in rows (passed + 1) n j)
+  name-in [] passed = refl
+  name-in (r ∷ rows) passed = λ j. cond (is-name (r .name) j) (passed + 1) (name-in rows (passed + 1) j)
 
   pub field-named : (scope : Scope) → fieldNamed scope v ≡ fieldNamed scope w
-  field-named scope = name-in (rowsOf scope) 0 (rowCount scope)
+  field-named scope = name-in (fieldsOf scope) 0
 
   pub kind-named : kindNamed v ≡ kindNamed w
-  kind-named = ap scopeOf (name-in kindRows 0 kindCount)
+  kind-named = ap scopeOf (name-in kindNames 0)
 
   pub true-same : isTrue v ≡ isTrue w
   true-same = λ j. (eqb (s .long j) 4 && eqb (s .letters 0 j) 116) && (eqb (s .letters 1 j) 114 && (eqb (s .letters 2 j) 117 && eqb (s .letters 3 j) 101))

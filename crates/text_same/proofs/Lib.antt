@@ -7,8 +7,10 @@ pub mod Stepping
 pub mod Holds
 pub mod LastValues
 pub mod Unknown
+pub mod UnknownBlocks
 pub mod Moved
 pub mod Gaps
 pub mod Front
 pub mod Seams
 pub mod Between
+pub mod Found

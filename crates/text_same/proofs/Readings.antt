@@ -1,6 +1,6 @@
 -- The same value in two texts, and where it is read. Assumes nothing.
 use Prim.Native.Nat.{ℕ, zero, suc, _+_, _-_, _≤_, _<_}
-use mathlib.Core.Bool.{Bool, true, false, not, _&&_, cond, true≢false}
+use mathlib.Core.Bool.{Bool, true, false, _&&_, cond, true≢false}
 use mathlib.Core.List.{List, [], _∷_}
 use mathlib.Core.Path.{_≡_, refl, sym, ap, _∙_, subst}
 use native.Mathlib.Omega.{arith}
@@ -18,9 +18,7 @@ use Rattle.text_byte.specs.Bytes.{newline, star, slash, doubleQuote, isMark}
 use Rattle.text_gap.specs.Gaps.{between, modeAfter, isStop, isOpen, gap, gapFrom}
 use Rattle.text_token.specs.Tokens.{endForm, unclosedForm, wordForm, stringForm, quoteEnd, ended, tokenHere, tokenBehind, tokenAt, bytesOf, wordOf}
 use Rattle.text_byte.proofs.Spans.{cond-on}
-use Rattle.text_gap.proofs.Scans.{gap-reach}
-use Rattle.text_gap.proofs.Scans.{gap-stop}
-use Rattle.text_value.specs.declared.Value.{Value}
+use Rattle.text_gap.proofs.Scans.{gap-reach, gap-stop}
 use Rattle.text_value.specs.declared.Value.the-variants.{Whole, Decimal, Text, Flag}
 use Rattle.text_value.specs.declared.Reading.{Reading}
 use Rattle.text_value.specs.declared.Reading.the-variants.{Good, WholePast, DecimalPast, NoValue}

@@ -1,37 +1,34 @@
 -- One token more leads to the same point in both texts. Assumes nothing.
-use Prim.Native.Nat.{ℕ, zero, suc, _+_, _-_, _≤_, _<_}
-use mathlib.Core.Bool.{Bool, true, false, not, _&&_, cond}
+use Prim.Native.Nat.{ℕ, zero, suc, _-_}
+use mathlib.Core.Bool.{Bool, true, false, not, _&&_, cond, and-eq-true-iff, true≢false}
 use mathlib.Core.List.{List, [], _∷_}
 use mathlib.Core.Path.{_≡_, refl, sym, ap, _∙_, subst}
 use native.Mathlib.Omega.{arith}
 use borrow.Author.Tests.{eqb-true}
-use lib.Dec.{eqb, leb}
+use lib.Dec.{eqb}
 use lib.ListN.{getD, length, length-set, set, replicate}
 use Rattle.refusal.specs.declared.Refusal.{Refusal}
 use Rattle.refusal.specs.declared.Check.{Check}
 use Rattle.refusal.specs.declared.Check.the-variants.{Pass, Refused}
-use Rattle.refusal.specs.declared.Refusal.the-variants.{TextGrammar, TextNumber, TextField, TextBlocks}
+use Rattle.refusal.specs.declared.Refusal.the-variants.{TextGrammar, TextNumber}
 use Rattle.refusal.specs.Table.{numberOf}
 use Rattle.refusal.specs.Checks.{unless}
 use Rattle.text_token.specs.declared.Token.{Token}
 use Rattle.text_byte.specs.Bytes.{equalsSign, semicolon, openBrace, closeBrace}
-use Rattle.text_token.specs.Tokens.{endForm, wordForm, bytesOf, wordOf}
+use Rattle.text_token.specs.Tokens.{endForm, bytesOf}
+use Rattle.text_byte.proofs.Spans.{cond-on}
+use Rattle.text_name.specs.Identifiers.{isIdentifier}
 use Rattle.text_value.specs.declared.Reading.{Reading}
 use Rattle.text_value.specs.Values.{tokenRead}
 use Rattle.text_scope.specs.declared.Scope.{Scope}
-use Rattle.text_scope.specs.declared.Scope.the-variants.{Top}
-use Rattle.text_table.specs.Table.{rowsOf, isRequired, whole, decimal, string, flag}
+use Rattle.text_table.specs.Table.{fieldsOf, isRequired, whole, decimal, string, flag}
 use Rattle.text_field.specs.Names.{every, fieldNamed, kindNamed}
-use Rattle.text_scope.specs.Scopes.{rowCount, scopeNumber}
-use Rattle.text_given.specs.Fields.{valueAt}
 use Rattle.text_block.specs.declared.Asked.{Asked}
-use Rattle.text_block.specs.declared.Counts.{Counts}
 use Rattle.text_block.specs.declared.Wanted.{Wanted}
 use Rattle.text_block.specs.declared.Wanted.the-variants.{Statement, Equals, Value, Semicolon, NoMore}
-use Rattle.text_step.specs.declared.Notes.{Notes}
 use Rattle.text_step.specs.declared.Parse.{Parse}
-use Rattle.text_block.specs.Blocks.{countOf, counted, isFull, isAsked, stopsThere, stopsInside, isGiven, allGiven, stored, filed, noPlaces}
-use Rattle.text_step.specs.Steps.{goesOn, refusedWith, misfit, isTop, isFound, notesAfter, wantedAfter, closedBlock, onStatement, openedBlock, onEquals, heldBy, serves, valueCheck, judged, onValue, notesAssigned, onSemicolon, stepBy}
+use Rattle.text_block.specs.Blocks.{countOf, counted, isFull, isAsked, stopsThere, stopsInside, allGiven, filed, noPlaces}
+use Rattle.text_step.specs.Steps.{goesOn, refusedWith, misfit, isTop, isFound, notesAfter, closedBlock, onStatement, openedBlock, onEquals, heldBy, serves, valueCheck, judged, onValue, notesAssigned, onSemicolon, stepBy}
 use Rattle.text_same.specs.Tokens.{SameFirst}
 use Rattle.text_same.specs.Answers.{SameCheck, both-pass, both-refused}
 use Rattle.text_same.proofs.Readings.{cond-both, cond-both-on, SameReading, same-whole, same-decimal, same-flag, same-string, same-whole-past, same-decimal-past, same-none}
@@ -62,13 +59,55 @@ module _ (held : ℕ) (at from : ℕ) where
   value-check same-decimal-past = past decimal
   value-check same-none = both-refused _ _ refl
 
+inside : (x y : Bool) → (not x && y) ≡ true → x ≡ false
+inside true y e = absurd (true≢false (sym e))
+inside false y e = refl
+
+-- at the top a token leads into a block only with the brace that opens it, and finds none; so the places of the last block do not
+-- matter there
+module _ (text : List ℕ) (asked : Asked) (places : List ℕ) (p : Parse) (t : Token) (top : isTop (p .scope) ≡ true) where
+  -- `q` is at the top, or its token opened a block
+  pub record AtTop (w : Wanted) (q : Parse) : Type 0 where
+    pub cleared : isTop (q .scope) ≡ false → filed w t places ≡ noPlaces
+    pub found : q .notes .found ≡ p .notes .found
+
+  stays : (w : Wanted) (q : Parse) → q .scope ≡ p .scope → q .notes .found ≡ p .notes .found → AtTop w q
+  stays w q e f = record { cleared = λ h. absurd (true≢false (sym (ap isTop e ∙ top) ∙ h)); found = f }
+
+  judged-top : (w : Wanted) (field : ℕ) (c : Check) → AtTop w (judged p t field c)
+  judged-top w field Pass = stays w _ refl refl
+  judged-top w field (Refused r) = stays w _ refl refl
+
+  pub step-top : (w : Wanted) → AtTop w (stepBy text asked places p t w)
+  step-top Statement =
+      cond-on (AtTop Statement) (isIdentifier text t) (λ _. stays _ _ refl refl)
+      (λ _. cond-on (AtTop Statement) (not (isTop (p .scope)) && eqb (t .form) closeBrace)
+      (λ e. absurd (true≢false (sym top ∙ inside (isTop (p .scope)) (eqb (t .form) closeBrace) e)))
+      (λ _. cond-on (AtTop Statement) (isTop (p .scope) && eqb (t .form) endForm)
+      (λ _. stays _ _ refl refl) (λ _. stays _ _ refl refl)))
+  step-top (Equals start end) =
+      let w = Equals start end in
+      let kind = kindNamed (bytesOf text start end) in
+      cond-on (AtTop w) (eqb (t .form) equalsSign) (λ _. stays w _ refl refl)
+      (λ _. cond-on (AtTop w) (isTop (p .scope) && eqb (t .form) openBrace)
+      (λ e. let brace = and-eq-true-iff (isTop (p .scope)) (eqb (t .form) openBrace) .0 e .1 in
+      cond-on (AtTop w) (isFull (p .notes .counts) kind) (λ _. stays w _ refl refl)
+      (λ _. record { cleared = λ _. ap (λ (x : Bool). cond x noPlaces places) brace; found = refl }))
+      (λ _. stays w _ refl refl))
+  step-top (Value field) = judged-top (Value field) field (valueCheck (heldBy (p .scope) field) (tokenRead text t) (t .start))
+  step-top (Semicolon field place) =
+      cond-on (AtTop (Semicolon field place)) (eqb (t .form) semicolon) (λ _. stays _ _ refl refl) (λ _. stays _ _ refl refl)
+  step-top NoMore = stays _ _ refl refl
+
 module _ (a b : List ℕ) where
   -- the fields of two blocks have the same values
   abbrev pub SamePlaces : List ℕ → List ℕ → Type 0
   SamePlaces ps qs = (k : ℕ) → SamePlace a b (getD ps k 0) (getD qs k 0)
 
   all-given : (ps qs : List ℕ) {x y : Scope} → x ≡ y → SamePlaces ps qs → allGiven x ps ≡ allGiven y qs
-  all-given ps qs {x} {y} e h = ap (λ (z : Scope). allGiven z ps) e ∙ (λ i. every (λ k. not (isRequired (rowsOf y) k && h k .given i)) (rowCount y))
+  all-given ps qs {x} {y} e h =
+      ap (λ (z : Scope). allGiven z ps) e
+      ∙ (λ i. every (λ k. not (isRequired (fieldsOf y) k && h k .given i)) (length (fieldsOf y)))
 
   module _ {n : ℕ} {p q : Parse} {t u : Token} (s : SameBase a b (suc n) p q) (l : SameToken a b n t u) where
     on : {w v : Wanted} → SameWanted a b (t .next) (u .next) w v → SameParse a b n (goesOn p t w) (goesOn q u v)
@@ -111,10 +150,12 @@ module _ (a b : List ℕ) where
             (record { namespace = s .notes .namespace; counts = more; found = refl; kind = s .scope })
             (record { namespace = s .notes .namespace; counts = more; found = s .notes .found; kind = s .notes .kind })
 
-    on-statement : (asked : Asked) (ps qs : List ℕ) → SamePlaces ps qs → SameParse a b n (onStatement a asked ps p t) (onStatement b asked qs q u)
+    on-statement : (asked : Asked) (ps qs : List ℕ) → (isTop (p .scope) ≡ false → SamePlaces ps qs)
+        → SameParse a b n (onStatement a asked ps p t) (onStatement b asked qs q u)
     on-statement asked ps qs h =
         cond-both (SameParse a b n) (l .named) (on (want-equals (t .start) (t .end) (u .start) (u .end) (l .name)))
-        (cond-both (SameParse a b n) (λ i. not (top i) && has closeBrace i) (closed asked ps qs h)
+        (cond-both-on (SameParse a b n) (λ i. not (top i) && has closeBrace i)
+        (λ e. closed asked ps qs (h (inside (isTop (p .scope)) (eqb (t .form) closeBrace) e)))
         (cond-both (SameParse a b n) (λ i. top i && has endForm i) (on want-none) unfit))
 
     opened : (asked : Asked) (s₀ p₀ : ℕ) {x y : Scope} → x ≡ y → SameParse a b n (openedBlock asked p t s₀ x) (openedBlock asked q u p₀ y)
@@ -162,7 +203,9 @@ module _ (a b : List ℕ) where
   weaker s = record { base = record { scope = s .base .scope; notes = s .base .notes; tokens = λ k h. s .base .tokens k (omega (arith, h)) }; wanted = s .wanted; check = s .check }
 
   -- one token, where the same is wanted; a value's place is looked at only where one is wanted
-  pub stepped-alike : {n : ℕ} {p q : Parse} {t u : Token} (asked : Asked) (ps qs : List ℕ) {w v : Wanted} → SameParse a b (suc n) p q → SameToken a b n t u → SamePlaces ps qs
+  pub stepped-alike : {n : ℕ} {p q : Parse} {t u : Token} (asked : Asked) (ps qs : List ℕ) {w v : Wanted}
+      → SameParse a b (suc n) p q → SameToken a b n t u
+      → (isTop (p .scope) ≡ false → SamePlaces ps qs)
       → (Begun a b (p .at) (q .at) → SamePlace a b (t .start) (u .start)) → SameWanted a b (p .at) (q .at) w v
       → SameParse a b n (stepBy a asked ps p t w) (stepBy b asked qs q u v)
   stepped-alike asked ps qs s l h v want-statement = on-statement (s .base) l asked ps qs h

@@ -25,12 +25,12 @@ use Rattle.text_name.specs.Identifiers.{isIdentifier}
 use Rattle.text_step.specs.Steps.{notes, parse, goesOn, misfit, isTop, closedBlock, openedBlock, valueCheck, judged, stepBy}
 use Rattle.text_reader.specs.Texts.{Stand, stand, tokenMore, textFrom}
 use Rattle.text_same.specs.Tokens.{SameFirst, SameTokens}
-use Rattle.text_same.specs.Answers.{SameCheck, both-pass}
-use Rattle.text_same.specs.Promises.{after, beginsAt, nextToken, UnknownAssigned, Inserted, UnknownNamesDoNotMatter}
+use Rattle.text_same.specs.Answers.{SameCheck, both-pass, SameStand}
+use Rattle.text_same.specs.Promises.{after, beginsAt, nextToken, UnknownAssigned, PutBetween, UnknownNamesDoNotMatter}
 use Rattle.text_same.proofs.Related.{SameWanted, want-statement, want-equals, want-value, want-semicolon, want-none}
 use Rattle.text_same.proofs.Holds.{Alike, after-alike, begins-alike, kept-still, by-wanted, after-add, ends-alike}
 
-taken : {A : Type 0} (x : Bool) {y : A} (z : A) → x ≡ true → cond x y z ≡ y
+pub taken : {A : Type 0} (x : Bool) {y : A} (z : A) → x ≡ true → cond x y z ≡ y
 taken true z e = refl
 taken false z e = absurd (true≢false (sym e))
 
@@ -42,7 +42,7 @@ isStatement (Semicolon field place) = false
 isStatement NoMore = false
 
 -- a statement is wanted in both
-statement-too : {a b : List ℕ} {at from : ℕ} {w v : Wanted} → SameWanted a b at from w v → w ≡ Statement → v ≡ Statement
+pub statement-too : {a b : List ℕ} {at from : ℕ} {w v : Wanted} → SameWanted a b at from w v → w ≡ Statement → v ≡ Statement
 statement-too want-statement e = refl
 statement-too (want-equals s e₀ p q n) e = absurd (true≢false (sym (ap isStatement e)))
 statement-too (want-value f g) e = absurd (true≢false (sym (ap isStatement e)))
@@ -51,7 +51,7 @@ statement-too want-none e = absurd (true≢false (sym (ap isStatement e)))
 
 module _ (text : List ℕ) (asked : Asked) where
   -- a token that changes neither the notes nor the places
-  plain-step : (s : Stand) (w : Wanted) (next : Parse) → s .parse .wanted ≡ w → let t = tokenAt text (s .parse .at) in
+  pub plain-step : (s : Stand) (w : Wanted) (next : Parse) → s .parse .wanted ≡ w → let t = tokenAt text (s .parse .at) in
       stepBy text asked (s .places) (s .parse) t w ≡ next → filed w t (s .places) ≡ s .places → next .notes .found ≡ s .parse .notes .found
       → tokenMore text asked s ≡ stand next (s .places) (s .kept)
   plain-step s w next e f g h =
@@ -131,7 +131,8 @@ module _ (text : List ℕ) (asked : Asked) where
         ap (λ (x : Stand). tokenMore text asked (tokenMore text asked (tokenMore text asked x))) first
         ∙ ap (λ (x : Stand). tokenMore text asked (tokenMore text asked x)) second ∙ ap (tokenMore text asked) third ∙ fourth
 
-module _ (a b : List ℕ) (asked : Asked) (at from m next : ℕ) (h : Inserted a b asked at from m next) where
+module _ (a b : List ℕ) (asked : Asked) (at from m next : ℕ) (h : PutBetween a b asked at from m next)
+    (u : UnknownAssigned b (after a asked m (beginsAt at) .parse .scope) (after b asked m (beginsAt from) .parse .at) next) where
   abbrev s : Stand
   s = after a asked m (beginsAt at)
 
@@ -145,7 +146,7 @@ module _ (a b : List ℕ) (asked : Asked) (at from m next : ℕ) (h : Inserted a
   wanted-too = statement-too (so-far .parse .wanted) (h .between)
 
   assigned-too : UnknownAssigned b (r .parse .scope) (r .parse .at) next
-  assigned-too = subst (λ (x : Scope). UnknownAssigned b x (r .parse .at) next) (so-far .parse .base .scope) (h .assigned)
+  assigned-too = subst (λ (x : Scope). UnknownAssigned b x (r .parse .at) next) (so-far .parse .base .scope) u
 
   -- behind the four tokens both stand alike, with the same tokens to come
   behind-alike : (n : ℕ) → Alike a b n s (after b asked 4 r)
@@ -165,11 +166,17 @@ module _ (a b : List ℕ) (asked : Asked) (at from m next : ℕ) (h : Inserted a
         kept = so-far .kept;
       })
 
-pub unknown-names : UnknownNamesDoNotMatter
-unknown-names a b asked at from m next h =
+-- `k` tokens put in behind the first `m`: where both then stand alike, with the same tokens to come, they have the same answers
+pub put-in : (a b : List ℕ) (asked : Asked) (at from m k : ℕ)
+    → ((n : ℕ) → Alike a b n (after a asked m (beginsAt at)) (after b asked k (after b asked m (beginsAt from))))
+    → SameStand a b (textFrom a asked at) (textFrom b asked from)
+put-in a b asked at from m k h =
     let n = length a + suc (length b) in
-    ends-alike a b asked at from (m + n) (m + (4 + n)) (m + length b) (m + 4 + length a) (omega arith) (omega arith)
-    (subst (λ (x : Stand). Alike a b 0 x (after b asked (m + (4 + n)) (beginsAt from))) (sym (after-add a asked m n (beginsAt at)))
-    (subst (Alike a b 0 (after a asked n (s a b asked at from m next h)))
-    (sym (after-add b asked m (4 + n) (beginsAt from) ∙ after-add b asked 4 n (r a b asked at from m next h)))
-    (after-alike a b asked n (behind-alike a b asked at from m next h n))))
+    ends-alike a b asked at from (m + n) (m + (k + n)) (m + length b) (m + k + length a) (omega arith) (omega arith)
+    (subst (λ (x : Stand). Alike a b 0 x (after b asked (m + (k + n)) (beginsAt from))) (sym (after-add a asked m n (beginsAt at)))
+    (subst (Alike a b 0 (after a asked n (after a asked m (beginsAt at))))
+    (sym (after-add b asked m (k + n) (beginsAt from) ∙ after-add b asked k n (after b asked m (beginsAt from))))
+    (after-alike a b asked n (h n))))
+
+pub unknown-names : UnknownNamesDoNotMatter
+unknown-names a b asked at from m next h u = put-in a b asked at from m 4 (behind-alike a b asked at from m next h u)

@@ -4,3 +4,4 @@ pub mod Tokens
 pub mod Answers
 pub mod Gaps
 pub mod Promises
+pub mod Found

@@ -7,16 +7,17 @@ use lib.Dec.{eqb}
 use lib.ListN.{getD, length}
 use Rattle.text_token.specs.declared.Token.{Token}
 use Rattle.refusal.specs.declared.Check.the-variants.{Pass}
-use Rattle.text_byte.specs.Bytes.{slash, equalsSign, semicolon, openBrace}
+use Rattle.text_byte.specs.Bytes.{slash, equalsSign, semicolon, openBrace, closeBrace}
 use Rattle.text_token.specs.Tokens.{wordForm, tokenAt, wordOf}
 use Rattle.text_value.specs.Values.{tokenRead}
 use Rattle.text_scope.specs.declared.Scope.{Scope}
+use Rattle.text_scope.specs.declared.Scope.the-variants.{Unknown}
 use Rattle.text_table.specs.Table.{bytes}
-use Rattle.text_field.specs.Names.{fieldNamed}
+use Rattle.text_field.specs.Names.{fieldNamed, kindNamed}
 use Rattle.text_block.specs.declared.Asked.{Asked}
 use Rattle.text_block.specs.declared.Wanted.{Wanted}
 use Rattle.text_block.specs.declared.Wanted.the-variants.{Statement, Equals, Value, Semicolon, NoMore}
-use Rattle.text_block.specs.Blocks.{noPlaces}
+use Rattle.text_block.specs.Blocks.{noPlaces, isAsked}
 use Rattle.text_name.specs.Identifiers.{isIdentifier}
 use Rattle.text_step.specs.Steps.{isTop, valueCheck}
 use Rattle.text_reader.specs.Texts.{Stand, stand, tokenMore, startAt, textFrom}
@@ -137,15 +138,41 @@ pub record UnknownAssigned (text : List ℕ) (scope : Scope) (at next : ℕ) : T
   pub ends : eqb (nextToken text (nextToken text (nextToken text (tokenAt text at))) .form) semicolon ≡ true
   pub behind : nextToken text (nextToken text (nextToken text (tokenAt text at))) .next ≡ next
 
--- one text is the other with such an assignment put between two statements, behind the first `m` tokens
-pub record Inserted (a b : List ℕ) (asked : Asked) (at from m next : ℕ) : Type 0 where
+-- one text is the other with something put between two statements, behind the first `m` tokens; it ends before `next`
+pub record PutBetween (a b : List ℕ) (asked : Asked) (at from m next : ℕ) : Type 0 where
   pub before : SameFirst m a at b from
   pub between : after a asked m (beginsAt at) .parse .wanted ≡ Statement
   pub good : after a asked m (beginsAt at) .parse .check ≡ Pass
-  pub assigned : UnknownAssigned b (after a asked m (beginsAt at) .parse .scope) (after b asked m (beginsAt from) .parse .at) next
   pub behind : SameTokens a (after a asked m (beginsAt at) .parse .at) b next
 
--- it changes no answer but places
+-- such an assignment changes no answer but places
 abbrev pub UnknownNamesDoNotMatter : Type 0
-UnknownNamesDoNotMatter = (a b : List ℕ) (asked : Asked) (at from m next : ℕ) → Inserted a b asked at from m next
+UnknownNamesDoNotMatter = (a b : List ℕ) (asked : Asked) (at from m next : ℕ) → PutBetween a b asked at from m next
+    → UnknownAssigned b (after a asked m (beginsAt at) .parse .scope) (after b asked m (beginsAt from) .parse .at) next
+    → SameStand a b (textFrom a asked at) (textFrom b asked from)
+
+-- assignments one behind the other from `at` on, in a block that knows no name; they end before `next`
+pub data AllUnknown (text : List ℕ) : ℕ → ℕ → Type 0 where
+  none : (at : ℕ) → AllUnknown text at at
+  more : (at mid next : ℕ) → UnknownAssigned text Unknown at mid → AllUnknown text mid next → AllUnknown text at next
+
+-- from `at` on stands a block of an unknown name, with any number of assignments between its braces; it ends before `next`
+pub record UnknownBlock (text : List ℕ) (at next : ℕ) : Type 0 where
+  pub name : isIdentifier text (tokenAt text at) ≡ true
+  pub unknown : kindNamed (wordOf text (tokenAt text at)) ≡ Unknown
+  pub opens : eqb (nextToken text (tokenAt text at) .form) openBrace ≡ true
+  pub close : ℕ
+  pub assigned : AllUnknown text (nextToken text (tokenAt text at) .next) close
+  pub closes : eqb (tokenAt text close .form) closeBrace ≡ true
+  pub behind : tokenAt text close .next ≡ next
+
+-- for example, behind `x = 1;`
+abbrev pub BlockBehind : Type 0
+BlockBehind = UnknownBlock (bytes "x = 1; junk { a = 2; }") 6 22
+
+-- such a block at the top changes no answer but places, unless a block of an unknown name is asked for, which no exported function does
+abbrev pub UnknownBlocksDoNotMatter : Type 0
+UnknownBlocksDoNotMatter = (a b : List ℕ) (asked : Asked) (at from m next : ℕ) → PutBetween a b asked at from m next
+    → isTop (after a asked m (beginsAt at) .parse .scope) ≡ true → isAsked asked Unknown 0 ≡ false
+    → UnknownBlock b (after b asked m (beginsAt from) .parse .at) next
     → SameStand a b (textFrom a asked at) (textFrom b asked from)

@@ -20,7 +20,7 @@ use Rattle.text_value.specs.declared.Reading.the-variants.{Good, WholePast, Dec
 use Rattle.text_value.specs.Values.{tokenRead}
 use Rattle.text_scope.specs.declared.Scope.{Scope}
 use Rattle.text_scope.specs.declared.Scope.the-variants.{Top}
-use Rattle.text_table.specs.Table.{whole, decimal, string, flag, rowsOf, holdsOf}
+use Rattle.text_table.specs.Table.{whole, decimal, string, flag, fieldsOf, holdsOf}
 use Rattle.text_scope.specs.Scopes.{scopeNumber}
 use Rattle.text_field.specs.Names.{fieldNamed, kindNamed}
 use Rattle.text_block.specs.declared.Asked.{Asked}
@@ -112,7 +112,7 @@ onEquals text asked s t start end =
 
 -- what name `i` of a scope holds, counted from 1; 0, which is anything, for an unknown one
 abbrev pub heldBy : Scope → ℕ → ℕ
-heldBy scope i = cond (eqb i 0) 0 (holdsOf (rowsOf scope) (i - 1))
+heldBy scope i = cond (eqb i 0) 0 (holdsOf (fieldsOf scope) (i - 1))
 
 -- what is held may be given as this: anything where the name is unknown, and a whole number where a decimal is held
 abbrev pub serves : ℕ → ℕ → Bool

@@ -5,7 +5,7 @@ ghost use Prim.Native.Nat.{_≤_};
 ghost use lib.ListN.{length};
 ghost use Rattle.refusal.specs.declared.Refusal.the-variants.{TextGrammar, TextNumber};
 ghost use Rattle.refusal.specs.declared.Check.the-variants.{Refused};
-ghost use Rattle.text_table.specs.Table.{kindRows, rowsOf};
+ghost use Rattle.text_table.specs.Inner.{kindRows, rowsOf};
 ghost use Rattle.text_block.specs.Blocks.{isFull};
 ghost use Rattle.text_value.specs.Values.{tokenRead};
 ghost use Rattle.text_step.specs.Steps.{goesOn, refusedWith, misfit, isTop, isFound, notesAfter, wantedAfter, closedBlock, onEnd, wantedInside, openedBlock, onBrace};

@@ -1,3 +1,4 @@
 -- The table of the names that a text map knows. Assumes nothing.
 
 pub mod Table
+pub mod Inner

@@ -1,12 +1,12 @@
 -- The names of a text map (02, W-206; document 002, "Standardized Fields" and its last note): the kinds of block, the global name, and the
 -- fields of each kind in the document's order, each with what it holds and what it is where no value is given. Assumes nothing.
-use Prim.Native.Nat.{ℕ, _+_, _*_}
-use Prim.Native.Char.{Char, code}
+use Prim.Native.Nat.{ℕ}
+use Prim.Native.Char.{code}
 use Prim.Native.String.{String, [] as []ˢ, _∷_ as _∷ˢ_}
 use mathlib.Core.Bool.{Bool}
-use mathlib.Core.List.{List, [], _∷_, _++_}
+use mathlib.Core.List.{List, [], _∷_}
 use lib.Dec.{eqb}
-use lib.ListN.{getD, take, replicate}
+use lib.ListN.{getD}
 use Rattle.text_scope.specs.declared.Scope.{Scope}
 use Rattle.text_scope.specs.declared.Scope.the-variants.{Top, Vertex, Linedef, Sidedef, Sector, Thing, Unknown}
 
@@ -15,8 +15,8 @@ abbrev pub bytes : String → List ℕ
 bytes []ˢ = []
 bytes (c ∷ˢ s) = code c ∷ bytes s
 
--- what a field holds, as the letter of its row: w, d, s, f; a row that is no field has b, the name of a kind of block, or e, a name that
--- is compared byte for byte
+-- what a field holds; the last two are rows that are no fields: the name of a kind of block, and a name that is compared byte for byte.
+-- (The code's rows have the letters w, d, s, f, b and e.)
 abbrev pub whole : ℕ
 whole = 119
 
@@ -35,8 +35,8 @@ blockName = 98
 abbrev pub exactName : ℕ
 exactName = 101
 
--- what a field is where no value is given, as the letter of its row: ! for one that has no default; 0 for 0, false and no string; m for -1;
--- l for 160; n for 0 or -1 by the namespace; and a space where the row is no field
+-- what a field is where no value is given: nothing, so that one must be given; 0, false or no string; -1; 160; 0 or -1 by the namespace.
+-- The last is that of a row that is no field. (The letters are !, 0, m, l, n and a space.)
 abbrev pub required : ℕ
 required = 33
 
@@ -55,55 +55,41 @@ byNamespace = 110
 abbrev pub none : ℕ
 none = 32
 
--- a name's room in a row, and the row's bytes
-abbrev pub nameRoom : ℕ
-nameRoom = 16
+-- a row: the bytes of a name, what it holds, and what it is by default
+pub record Row : Type 0 where
+  pub name : List ℕ
+  pub holds : ℕ
+  pub default : ℕ
 
-abbrev pub rowSize : ℕ
-rowSize = 18
-
--- a row: the name, spaces behind it up to its room, and the two letters
-abbrev pub row : String → ℕ → ℕ → List ℕ
-row name holds default = take nameRoom (bytes name ++ replicate nameRoom 32) ++ holds ∷ default ∷ []
-
--- the bytes of several rows
-abbrev pub joined : List (List ℕ) → List ℕ
-joined [] = []
-joined (xs ∷ ls) = xs ++ joined ls
+abbrev pub row : String → ℕ → ℕ → Row
+row name holds default = record { name = bytes name; holds = holds; default = default }
 
 -- the kinds of block
-unfoldable pub kindRows : List ℕ
-kindRows =
-    joined (
+unfoldable pub kindNames : List Row
+kindNames =
     row "vertex" blockName none
     ∷ row "linedef" blockName none
     ∷ row "sidedef" blockName none
     ∷ row "sector" blockName none
     ∷ row "thing" blockName none
     ∷ []
-    )
 
 -- the one global name
-unfoldable pub globalRows : List ℕ
-globalRows =
-    joined (
+unfoldable pub globalNames : List Row
+globalNames =
     row "namespace" string zeroValue
     ∷ []
-    )
 
 -- the fields of a vertex
-unfoldable pub vertexRows : List ℕ
-vertexRows =
-    joined (
+unfoldable pub vertexFields : List Row
+vertexFields =
     row "x" decimal required
     ∷ row "y" decimal required
     ∷ []
-    )
 
 -- of a linedef
-unfoldable pub linedefRows : List ℕ
-linedefRows =
-    joined (
+unfoldable pub linedefFields : List Row
+linedefFields =
     row "id" whole byNamespace
     ∷ row "v1" whole required
     ∷ row "v2" whole required
@@ -139,12 +125,10 @@ linedefRows =
     ∷ row "sideback" whole minusOne
     ∷ row "comment" string zeroValue
     ∷ []
-    )
 
 -- of a sidedef
-unfoldable pub sidedefRows : List ℕ
-sidedefRows =
-    joined (
+unfoldable pub sidedefFields : List Row
+sidedefFields =
     row "offsetx" whole zeroValue
     ∷ row "offsety" whole zeroValue
     ∷ row "texturetop" string zeroValue
@@ -153,12 +137,10 @@ sidedefRows =
     ∷ row "sector" whole required
     ∷ row "comment" string zeroValue
     ∷ []
-    )
 
 -- of a sector
-unfoldable pub sectorRows : List ℕ
-sectorRows =
-    joined (
+unfoldable pub sectorFields : List Row
+sectorFields =
     row "heightfloor" whole zeroValue
     ∷ row "heightceiling" whole zeroValue
     ∷ row "texturefloor" string required
@@ -168,12 +150,10 @@ sectorRows =
     ∷ row "id" whole zeroValue
     ∷ row "comment" string zeroValue
     ∷ []
-    )
 
 -- of a thing
-unfoldable pub thingRows : List ℕ
-thingRows =
-    joined (
+unfoldable pub thingFields : List Row
+thingFields =
     row "id" whole zeroValue
     ∷ row "x" decimal required
     ∷ row "y" decimal required
@@ -206,36 +186,37 @@ thingRows =
     ∷ row "arg4" whole zeroValue
     ∷ row "comment" string zeroValue
     ∷ []
-    )
 
 -- the namespaces whose linedefs have id 0 by default
-unfoldable pub namespaceRows : List ℕ
-namespaceRows =
-    joined (
+unfoldable pub zeroIdNames : List Row
+zeroIdNames =
     row "Doom" exactName none
     ∷ row "Heretic" exactName none
     ∷ row "Strife" exactName none
     ∷ []
-    )
 
--- the rows of a scope's names: at the top the global name, in a block the fields of its kind
-abbrev pub rowsOf : Scope → List ℕ
-rowsOf Top = globalRows
-rowsOf Vertex = vertexRows
-rowsOf Linedef = linedefRows
-rowsOf Sidedef = sidedefRows
-rowsOf Sector = sectorRows
-rowsOf Thing = thingRows
-rowsOf Unknown = []
+-- the names of a scope: at the top the global name, in a block the fields of its kind
+abbrev pub fieldsOf : Scope → List Row
+fieldsOf Top = globalNames
+fieldsOf Vertex = vertexFields
+fieldsOf Linedef = linedefFields
+fieldsOf Sidedef = sidedefFields
+fieldsOf Sector = sectorFields
+fieldsOf Thing = thingFields
+fieldsOf Unknown = []
+
+-- past the last row
+abbrev pub noRow : Row
+noRow = record { name = []; holds = 0; default = 0 }
 
 -- what the field of row `i` holds, 0 past the last
-abbrev pub holdsOf : List ℕ → ℕ → ℕ
-holdsOf rows i = getD rows (rowSize * i + 16) 0
+abbrev pub holdsOf : List Row → ℕ → ℕ
+holdsOf rows i = getD rows i noRow .holds
 
 -- what it is by default, 0 past the last
-abbrev pub defaultOf : List ℕ → ℕ → ℕ
-defaultOf rows i = getD rows (rowSize * i + 17) 0
+abbrev pub defaultOf : List Row → ℕ → ℕ
+defaultOf rows i = getD rows i noRow .default
 
 -- the field of row `i` has no default
-abbrev pub isRequired : List ℕ → ℕ → Bool
+abbrev pub isRequired : List Row → ℕ → Bool
 isRequired rows i = eqb (defaultOf rows i) required

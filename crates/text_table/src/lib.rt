@@ -1,10 +1,11 @@
 // The names that a text map knows, as constant rows, a table for each scope (W-206). The definitions are in specs/.
 ghost use mathlib.Core.Path.{_≡_};
-ghost use Prim.Native.Nat.{_+_, _*_, _≤_, _<_};
-ghost use lib.ListN.{length, take};
+ghost use Prim.Native.Nat.{_*_, _≤_, _<_};
+ghost use mathlib.Core.List.{_++_};
+ghost use lib.ListN.{length, drop};
 ghost use Rattle.text_scope.specs.Scopes.{rowCount};
-ghost use Rattle.text_table.specs.Table.{rowSize, kindRows, vertexRows, linedefRows, sidedefRows, sectorRows, thingRows, namespaceRows};
-ghost use Rattle.text_table.specs.Table.{globalRows, rowsOf, holdsOf, defaultOf, isRequired};
+ghost use Rattle.text_table.specs.Table.{globalNames, vertexFields, linedefFields, sidedefFields, sectorFields, thingFields};
+ghost use Rattle.text_table.specs.Inner.{rowSize, padded, kindRows, namespaceRows, loaded, heldAt, defaultAt, requiredAt};
 use text_byte as bytes;
 use text_scope::Scope;
 
@@ -133,7 +134,7 @@ const NAMESPACES: [u8; 54] = *b"Doom            e \
     Heretic         e \
     Strife          e ";
 
-// The rows, for a caller to hold while he reads: a function that names a constant array writes all of it anew at each call.
+// The rows, returned by value: a function that names a constant array writes all of it anew at each call.
 pub fn kinds() -> [u8; 90]
     ensures { λ r. ⌜ r ≡ kindRows ⌝ }
 {
@@ -141,37 +142,37 @@ pub fn kinds() -> [u8; 90]
 }
 
 fn globals() -> [u8; 18]
-    ensures { λ r. ⌜ r ≡ globalRows ⌝ }
+    ensures { λ r. ⌜ r ≡ padded globalNames ⌝ }
 {
     GLOBALS
 }
 
 pub fn vertex() -> [u8; 36]
-    ensures { λ r. ⌜ r ≡ vertexRows ⌝ }
+    ensures { λ r. ⌜ r ≡ padded vertexFields ⌝ }
 {
     VERTEX
 }
 
 pub fn linedef() -> [u8; 612]
-    ensures { λ r. ⌜ r ≡ linedefRows ⌝ }
+    ensures { λ r. ⌜ r ≡ padded linedefFields ⌝ }
 {
     LINEDEF
 }
 
 pub fn sidedef() -> [u8; 126]
-    ensures { λ r. ⌜ r ≡ sidedefRows ⌝ }
+    ensures { λ r. ⌜ r ≡ padded sidedefFields ⌝ }
 {
     SIDEDEF
 }
 
 pub fn sector() -> [u8; 144]
-    ensures { λ r. ⌜ r ≡ sectorRows ⌝ }
+    ensures { λ r. ⌜ r ≡ padded sectorFields ⌝ }
 {
     SECTOR
 }
 
 pub fn thing() -> [u8; 558]
-    ensures { λ r. ⌜ r ≡ thingRows ⌝ }
+    ensures { λ r. ⌜ r ≡ padded thingFields ⌝ }
 {
     THING
 }
@@ -182,10 +183,10 @@ pub fn namespaces() -> [u8; 54]
     NAMESPACES
 }
 
-// The rows of a scope, at the front of what is lent. So only those of scopes that are met are written.
+// The rows of a scope, at the front of what is lent; what stands behind them stays. So only those of scopes that are met are written.
 pub fn load(scope: Scope, rows: &mut [u8; 612])
     requires { ⌜ length (now rows) ≡ 612 ⌝ }
-    ensures { λ _. ⌜ take (rowSize * rowCount scope) (now (rows .exit)) ≡ rowsOf scope ⌝ }
+    ensures { λ _. ⌜ now (rows .exit) ≡ loaded scope (now (rows .entry)) ⌝ }
     ensures { λ _. ⌜ length (now (rows .exit)) ≡ 612 ⌝ }
 {
     match scope {
@@ -208,7 +209,7 @@ pub fn size_of(scope: Scope) -> usize
 
 fn put(from: &[u8], rows: &mut [u8; 612])
     requires { ⌜ (length (now from) ≤ 612) × (length (now rows) ≡ 612) ⌝ }
-    ensures { λ _. ⌜ take (length (now (from .entry))) (now (rows .exit)) ≡ now (from .entry) ⌝ }
+    ensures { λ _. ⌜ now (rows .exit) ≡ now (from .entry) ++ drop (length (now (from .entry))) (now (rows .entry)) ⌝ }
     ensures { λ _. ⌜ length (now (rows .exit)) ≡ 612 ⌝ }
 {
     for i in 0..from.len() {
@@ -219,7 +220,7 @@ fn put(from: &[u8], rows: &mut [u8; 612])
 // What the field of row `i` holds; 0 past the last.
 pub fn holds_of(rows: &[u8], i: usize) -> u8
     requires { ⌜ i < 34 ⌝ }
-    ensures { λ r. ⌜ r ≡ holdsOf (now (rows .entry)) i ⌝ }
+    ensures { λ r. ⌜ r ≡ heldAt (now (rows .entry)) i ⌝ }
 {
     bytes::byte_at(rows, ROW_SIZE * i + 16)
 }
@@ -227,14 +228,14 @@ pub fn holds_of(rows: &[u8], i: usize) -> u8
 // What it is by default; 0 past the last.
 pub fn default_of(rows: &[u8], i: usize) -> u8
     requires { ⌜ i < 34 ⌝ }
-    ensures { λ r. ⌜ r ≡ defaultOf (now (rows .entry)) i ⌝ }
+    ensures { λ r. ⌜ r ≡ defaultAt (now (rows .entry)) i ⌝ }
 {
     bytes::byte_at(rows, ROW_SIZE * i + 17)
 }
 
 pub fn is_required(rows: &[u8], i: usize) -> bool
     requires { ⌜ i < 34 ⌝ }
-    ensures { λ r. ⌜ r ≡ isRequired (now (rows .entry)) i ⌝ }
+    ensures { λ r. ⌜ r ≡ requiredAt (now (rows .entry)) i ⌝ }
 {
     default_of(rows, i) == REQUIRED
 }

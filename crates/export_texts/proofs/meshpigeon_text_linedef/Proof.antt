@@ -1,5 +1,5 @@
 -- `export_texts::meshpigeon_text_linedef` meets its contract, by the answer of the layer below. Assumes nothing.
-use mathlib.Core.Path.{_≡_, ap, _∙_}
+use mathlib.Core.Path.{ap, _∙_}
 use denote.Ref.{now}
 use lib.IntN.{ℤ}
 use mir.Syntax.{w32}

@@ -1,7 +1,6 @@
 -- `export_texts::meshpigeon_text_linedef_at` meets its contract, by the answer of the layer below. Assumes nothing.
-use mathlib.Core.Path.{_≡_, ap, _∙_}
+use mathlib.Core.Path.{_∙_}
 use denote.Ref.{now}
-use lib.IntN.{ℤ}
 use mir.Syntax.{w32}
 use mir.ValLaws.{toZ-ofZ}
 use Rattle.export_texts.specs.Answers.{linedefOut}

@@ -1,5 +1,5 @@
 -- `export_texts::meshpigeon_text_map` meets its contract, by the answer of the layer below. Assumes nothing.
-use mathlib.Core.Path.{_≡_, sym, ap, _∙_}
+use mathlib.Core.Path.{sym, ap, _∙_}
 use Rattle.export_texts.specs.Answers.{summaryOut}
 use borrow.Author.Needs.{needs}
 use Rattle.export_texts.proofs.meshpigeon_text_map.Statement.{statement}

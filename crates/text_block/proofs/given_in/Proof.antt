@@ -9,12 +9,13 @@ use lib.Dec.{eqb}
 use lib.ListN.{getD}
 use Rattle.text_field.proofs.Names.{every-none, every-more, every-stop, every-done}
 use Rattle.text_field.specs.Names.{every}
+use Rattle.text_table.specs.Inner.{requiredAt}
 use Rattle.text_block.specs.Blocks.{isGiven}
 use Rattle.text_block.proofs.given_in.Statement.{statement}
 use Rattle.text_block.proofs.given_in.Tie as tie
 
 abbrev Inv-loop : tie.InvT-loop
-Inv-loop rows places n k₀ k = (k ≤ n) × (true ≡ every (isGiven rows places) k)
+Inv-loop rows places n k₀ k = (k ≤ n) × (true ≡ every (isGiven (requiredAt rows) places) k)
 
 abbrev μ-loop : tie.MeasureT-loop
 μ-loop rows places n k₀ k = n - k
@@ -23,7 +24,8 @@ abbrev μ-loop : tie.MeasureT-loop
 tested : (c : tie.After-is-required Inv-loop μ-loop)
     → let l = c .before .before in
     let a = l .before .before .args in
-    isGiven (now (a .rows)) (now (a .places)) (l .loop .k) ≡ not (c .is-required .result && eqb (getD (now (a .places)) (l .loop .k) 0) 0)
+    isGiven (requiredAt (now (a .rows))) (now (a .places)) (l .loop .k)
+    ≡ not (c .is-required .result && eqb (getD (now (a .places)) (l .loop .k) 0) 0)
 tested c =
     let l = c .before .before in
     sym (λ i. not (c .is-required .ensures i && eqb (getD (now (l .before .before .args .places)) (l .loop .k) 0) 0))

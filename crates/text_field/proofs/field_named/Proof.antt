@@ -1,13 +1,14 @@
 -- `text_field::field_named` meets its contract: the rows are a scope's. Assumes nothing.
-use Prim.Native.Nat.{ℕ, _≤_}
 use mathlib.Core.Bool.{false}
-use mathlib.Core.Path.{_≡_, sym, ap, _∙_}
+use mathlib.Core.Path.{sym, ap, _∙_}
 use native.Mathlib.Omega.{arith}
 use borrow.Author.Needs.{needs}
 use denote.Ref.{now}
 use lib.ListN.{length}
-use Rattle.text_field.specs.Names.{nameIn}
-use Rattle.text_table.proofs.Table.{length-rows}
+use Rattle.text_field.specs.Inner.{rowIn}
+use Rattle.text_field.proofs.Padded.{row-in, good-fields}
+use Rattle.text_table.specs.Table.{fieldsOf}
+use Rattle.text_table.proofs.Table.{length-rows, count-fields}
 use Rattle.text_field.proofs.field_named.Statement.{statement}
 use Rattle.text_field.proofs.field_named.Tie as tie
 
@@ -21,7 +22,10 @@ name-in-requires c κs =
 returns : tie.Need-returns
 returns c =
     let a = c .before .before .before .before in
-    c .name-in .ensures ∙ (λ i. nameIn (now (a .args .word)) false (a .pre i) 0 (c .before .row-count .ensures .0 i))
+    let scope = a .args .scope in
+    let word = now (a .args .word) in
+    let count = c .before .row-count .ensures .0 ∙ sym (count-fields scope) in
+    c .name-in .ensures ∙ (λ i. rowIn word false (a .pre i) 0 (count i)) ∙ row-in word false (fieldsOf scope) (good-fields scope)
 
 pub field-named-spec : {M : Type 1} → statement M
 field-named-spec = tie.close (tie.spec (λ c κs. search needs) name-in-requires returns)

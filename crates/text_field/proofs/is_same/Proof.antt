@@ -1,14 +1,15 @@
 -- `text_field::is_same` meets its contract: the letters passed are the row's. Assumes nothing.
 use Prim.Native.Nat.{_+_, _-_, _*_, _≤_}
 use mathlib.Core.Bool.{true}
-use mathlib.Core.Path.{_≡_, sym, ap, _∙_}
+use mathlib.Core.Path.{_≡_, sym, _∙_}
 use native.Mathlib.Omega.{arith}
 use borrow.Author.Needs.{needs}
 use borrow.Author.Tests.{eq-eqb, ne-eqb}
 use denote.Ref.{now}
 use lib.Dec.{eqb}
 use lib.ListN.{length, getD}
-use Rattle.text_field.specs.Names.{every, sameAt}
+use Rattle.text_field.specs.Names.{every}
+use Rattle.text_field.specs.Inner.{sameAt}
 use Rattle.text_field.proofs.Names.{every-none, every-more, every-stop, every-done}
 use Rattle.text_field.proofs.is_same.Statement.{statement}
 use Rattle.text_field.proofs.is_same.Tie as tie

@@ -8,7 +8,7 @@ use borrow.Author.Tests.{eq-eqb, ne-eqb, lt-ltb, le-ltb}
 use denote.Ref.{now}
 use lib.Dec.{eqb}
 use lib.ListN.{length, getD}
-use Rattle.text_table.specs.Table.{rowSize}
+use Rattle.text_table.specs.Inner.{rowSize}
 use Rattle.text_field.proofs.is_spelled.Statement.{statement}
 use Rattle.text_field.proofs.is_spelled.Tie as tie
 

@@ -1,6 +1,6 @@
 -- `text_field::name_in` meets its contract: the rows left find what all find. The measure is how many are left. Assumes nothing.
 use Prim.Native.Nat.{ℕ, _+_, _-_, _*_, _≤_, _<_}
-use mathlib.Core.Bool.{Bool, false, cond}
+use mathlib.Core.Bool.{Bool, cond}
 use mathlib.Core.List.{List}
 use mathlib.Core.Path.{_≡_, sym, ap, _∙_}
 use native.Mathlib.Omega.{arith}
@@ -9,16 +9,16 @@ use denote.Ref.{now}
 use lib.Dec.{eqb}
 use lib.ListN.{length, getD}
 use Rattle.text_byte.specs.Bytes.{lower}
-use Rattle.text_table.specs.Table.{rowSize}
-use Rattle.text_field.specs.Names.{letterAt, nameIn}
-use Rattle.text_field.specs.Inner.{Tells}
+use Rattle.text_table.specs.Inner.{rowSize}
+use Rattle.text_field.specs.Names.{letterAt}
+use Rattle.text_field.specs.Inner.{rowIn, Tells}
 use Rattle.text_field.proofs.Names.{name-other, name-more, name-stop, name-none}
 use Rattle.text_field.proofs.name_in.Statement.{statement}
 use Rattle.text_field.proofs.name_in.Tie as tie
 
 abbrev Inv-loop : tie.InvT-loop
 Inv-loop rows word exact count k last n₀ at₀ n at =
-    (n ≤ count) × (at ≡ rowSize * n + k) × (nameIn word exact rows 0 count ≡ nameIn word exact rows n (count - n))
+    (n ≤ count) × (at ≡ rowSize * n + k) × (rowIn word exact rows 0 count ≡ rowIn word exact rows n (count - n))
 
 abbrev μ-loop : tie.MeasureT-loop
 μ-loop rows word exact count k last n₀ at₀ n at = count - n
@@ -27,7 +27,7 @@ loop-holds : tie.Need-loop-holds Inv-loop μ-loop
 loop-holds c =
     let a = c .before .before .before .before .before .args in
     let e : a .count ≡ a .count - 0 = omega arith in
-    (omega arith, omega arith, ap (nameIn (now (a .word)) (a .exact) (now (a .rows)) 0) e)
+    (omega arith, omega arith, ap (rowIn (now (a .word)) (a .exact) (now (a .rows)) 0) e)
 
 -- the letter at `k` tells the rows apart
 tells : (word : List ℕ) (exact : Bool) (rows : List ℕ) (k last at i : ℕ) → (0 < length word → k < length word) → last ≡ letterAt word exact k

@@ -1,6 +1,6 @@
 -- `text_reader::read_with` meets its contract: what is left of the run answers, the kind of the open block has
 -- room, and the rows are those of the scope. The measure is what is left of the text. Assumes nothing.
-use Prim.Native.Nat.{ℕ, _*_}
+use Prim.Native.Nat.{ℕ}
 use mathlib.Core.List.{List}
 use mathlib.Core.Path.{_≡_, refl, sym, ap, _∙_, subst}
 use native.Mathlib.Omega.{arith}
@@ -8,7 +8,6 @@ use borrow.Author.Needs.{needs}
 use denote.Ref.{now}
 use lib.ListN.{length, take}
 use lib.Seq.{length-take-le}
-use Rattle.text_scope.specs.declared.Scope.{Scope}
 use Rattle.text_block.specs.Blocks.{isFull, noPlaces}
 use Rattle.text_block.specs.declared.Asked.{Asked}
 use Rattle.text_step.specs.declared.Parse.{Parse}

@@ -3,10 +3,10 @@
 use mathlib.Core.Path.{_≡_, refl, sym, ap, _∙_, subst}
 use borrow.Author.Needs.{needs}
 use denote.Ref.{now}
-use Rattle.text_table.specs.Table.{rowsOf}
+use Rattle.text_table.specs.Inner.{rowsOf}
 use Rattle.text_step.specs.declared.Parse.{Parse}
 use Rattle.text_step.specs.Steps.{onStatement}
-use Rattle.text_reader.specs.Texts.{isMore, keptAfter}
+use Rattle.text_reader.specs.Texts.{isMore}
 use Rattle.text_reader.specs.Inner.{last, Rests}
 use Rattle.text_reader.proofs.Leading.{end-rests, stepped, on-then}
 use Rattle.text_reader.proofs.statement.Statement.{statement}

@@ -4,10 +4,14 @@ use mir.Syntax.{w32}
 use mir.ValLaws.{toZ-ofZ}
 use borrow.Author.Needs.{needs}
 use Rattle.text_given.proofs.Whole.{whole-by}
+use Rattle.text_table.specs.Table.{linedefFields}
+use Rattle.text_table.specs.Inner.{defaultAt}
+use Rattle.text_field.specs.Names.{every, nameIn}
 use Rattle.text_record.proofs.linedef_of.Statement.{statement}
 use Rattle.text_record.proofs.linedef_of.Tie as tie
 
 returns : tie.Need-returns
+unfolding linedefFields nameIn every
 returns c =
     let c8 = c .before .before .before .before .before .before .before .before in
     let c16 = c8 .before .before .before .before .before .before .before .before in
@@ -16,12 +20,12 @@ returns c =
     let s = c32 .before .before .before .before in
     let text = now (s .args .text) in
     let places = now (s .args .places) in
-    let rows = now (s .args .rows) in
+    let defaults = defaultAt (now (s .args .rows)) in
     let id = toZ-ofZ w32 (s .args .id) (s .fits .id) in
     λ i. record {
-      id = whole-by text places rows 0 (c32 .before .whole-field .ok) (c32 .before .whole-field .ensures) id i;
-      v1 = whole-by text places rows 1 (c32 .whole-field2 .ok) (c32 .whole-field2 .ensures) id i;
-      v2 = whole-by text places rows 2 (c24 .before .before .before .before .before .before .before .whole-field3 .ok)
+      id = whole-by text places defaults 0 (c32 .before .whole-field .ok) (c32 .before .whole-field .ensures) id i;
+      v1 = whole-by text places defaults 1 (c32 .whole-field2 .ok) (c32 .whole-field2 .ensures) id i;
+      v2 = whole-by text places defaults 2 (c24 .before .before .before .before .before .before .before .whole-field3 .ok)
           (c24 .before .before .before .before .before .before .before .whole-field3 .ensures) id i;
       blocking = c16 .before .before .before .before .before .before .flag-field .ensures i;
       blockmonsters = c16 .before .before .before .before .before .flag-field2 .ensures i;
@@ -45,19 +49,19 @@ returns c =
       monsterpush = c .before .before .before .flag-field20 .ensures i;
       missilecross = c .before .before .flag-field21 .ensures i;
       repeatspecial = c .before .flag-field22 .ensures i;
-      special = whole-by text places rows 25 (c24 .before .before .before .before .before .before .whole-field4 .ok)
+      special = whole-by text places defaults 25 (c24 .before .before .before .before .before .before .whole-field4 .ok)
           (c24 .before .before .before .before .before .before .whole-field4 .ensures) id i;
-      arg0 = whole-by text places rows 26 (c24 .before .before .before .before .before .whole-field5 .ok)
+      arg0 = whole-by text places defaults 26 (c24 .before .before .before .before .before .whole-field5 .ok)
           (c24 .before .before .before .before .before .whole-field5 .ensures) id i;
-      arg1 = whole-by text places rows 27 (c24 .before .before .before .before .whole-field6 .ok)
+      arg1 = whole-by text places defaults 27 (c24 .before .before .before .before .whole-field6 .ok)
           (c24 .before .before .before .before .whole-field6 .ensures) id i;
-      arg2 = whole-by text places rows 28 (c24 .before .before .before .whole-field7 .ok)
+      arg2 = whole-by text places defaults 28 (c24 .before .before .before .whole-field7 .ok)
           (c24 .before .before .before .whole-field7 .ensures) id i;
-      arg3 = whole-by text places rows 29 (c24 .before .before .whole-field8 .ok)
+      arg3 = whole-by text places defaults 29 (c24 .before .before .whole-field8 .ok)
           (c24 .before .before .whole-field8 .ensures) id i;
-      arg4 = whole-by text places rows 30 (c24 .before .whole-field9 .ok) (c24 .before .whole-field9 .ensures) id i;
-      sidefront = whole-by text places rows 31 (c24 .whole-field10 .ok) (c24 .whole-field10 .ensures) id i;
-      sideback = whole-by text places rows 32 (c16 .before .before .before .before .before .before .before .whole-field11 .ok)
+      arg4 = whole-by text places defaults 30 (c24 .before .whole-field9 .ok) (c24 .before .whole-field9 .ensures) id i;
+      sidefront = whole-by text places defaults 31 (c24 .whole-field10 .ok) (c24 .whole-field10 .ensures) id i;
+      sideback = whole-by text places defaults 32 (c16 .before .before .before .before .before .before .before .whole-field11 .ok)
           (c16 .before .before .before .before .before .before .before .whole-field11 .ensures) id i;
       comment = c .string-field .ensures i;
     }

@@ -1,10 +1,13 @@
 -- `text_record::sector_of` meets its contract: field by field, each as what it holds. Assumes nothing.
 use borrow.Author.Needs.{needs}
 use Rattle.text_given.proofs.Whole.{whole}
+use Rattle.text_table.specs.Table.{sectorFields}
+use Rattle.text_field.specs.Names.{every, nameIn}
 use Rattle.text_record.proofs.sector_of.Statement.{statement}
 use Rattle.text_record.proofs.sector_of.Tie as tie
 
 returns : tie.Need-returns
+unfolding sectorFields nameIn every
 returns c =
     λ i. record {
       heightfloor = whole (c .before .before .before .before .before .before .before .whole-field .ok)

@@ -6,8 +6,9 @@ use native.Mathlib.Omega.{arith}
 use borrow.Author.Needs.{needs}
 use borrow.Author.Tests.{eq-eqb, ne-eqb}
 use lib.ListN.{List·getD-eq-default}
-use Rattle.text_table.proofs.Table.{rows-most}
-use Rattle.text_table.specs.Table.{rowsOf, holdsOf}
+use Rattle.text_table.specs.Table.{fieldsOf}
+use Rattle.text_table.specs.Inner.{rowsOf, heldAt}
+use Rattle.text_table.proofs.Table.{rows-most, held-at}
 use Rattle.text_step.proofs.held_by.Statement.{statement}
 use Rattle.text_step.proofs.held_by.Tie as tie
 
@@ -16,14 +17,17 @@ returns c = simp (eq-eqb _ _ (c .if1 .taken))
 
 returns-2 : tie.Need-returns-2
 returns-2 c =
-    let scope = c .before .before .before .args .scope in
-    let h = rows-most scope in
-    simp (ne-eqb _ _ (c .before .if1 .left)) (sym (List·getD-eq-default (rowsOf scope) 0 (omega (arith, h))))
+    let a = c .before .before .before .args in
+    let h = rows-most (a .scope) in
+    simp (ne-eqb _ _ (c .before .if1 .left))
+    (sym (List·getD-eq-default (rowsOf (a .scope)) 0 (omega (arith, h))) ∙ held-at (fieldsOf (a .scope)) (a .i - 1))
 
 returns-3 : tie.Need-returns-3
 returns-3 c =
     let b = c .before .before .before .before in
-    simp (ne-eqb _ _ (c .before .before .if1 .left)) (c .holds-of .ensures ∙ ap (λ (rows : List ℕ). holdsOf rows (b .args .i - 1)) (b .pre))
+    simp (ne-eqb _ _ (c .before .before .if1 .left))
+    (c .holds-of .ensures ∙ ap (λ (rows : List ℕ). heldAt rows (b .args .i - 1)) (b .pre)
+    ∙ held-at (fieldsOf (b .args .scope)) (b .args .i - 1))
 
 pub held-by-spec : {M : Type 1} → statement M
 held-by-spec = tie.close (tie.spec returns returns-2 (λ c. search needs) (λ c κs. search needs) returns-3)

@@ -1,12 +1,13 @@
 -- `text_table::put` meets its contract: the first `i` bytes are put. The measure is how many are left. Assumes nothing.
 use Prim.Native.Nat.{ℕ, _+_, _-_, _≤_, _<_}
+use mathlib.Core.List.{_++_}
 use mathlib.Core.Path.{_≡_, sym, ap, _∙_}
 use native.Mathlib.Numerals.{add-one}
 use native.Mathlib.Omega.{arith}
 use borrow.Author.Needs.{needs}
 use denote.Ref.{now}
-use lib.ListN.{length, getD, set, take}
-use lib.Seq.{paste, paste-zero, paste-suc, take-paste, take-length}
+use lib.ListN.{length, getD, set, drop}
+use lib.Seq.{paste, paste-zero, paste-suc, take-length}
 use Rattle.text_table.proofs.put.Statement.{statement}
 use Rattle.text_table.proofs.put.Tie as tie
 
@@ -46,7 +47,7 @@ returns c =
     let done : l .i ≡ n = omega arith in
     let z : n ≡ 0 + n = omega arith in
     let e = l .inv .3 ∙ ap (paste (now (a .rows)) 0 (now (a .from))) done in (
-      ap (take n) e ∙ ap (λ (k : ℕ). take k (paste (now (a .rows)) 0 (now (a .from)) n)) z ∙ take-paste (now (a .rows)) 0 (now (a .from)) n (omega arith) (omega arith) ∙ take-length (now (a .from)),
+      e ∙ (λ j. take-length (now (a .from)) j ++ drop (sym z j) (now (a .rows))),
       l .inv .2 ∙ b .pre .1,
     )
 

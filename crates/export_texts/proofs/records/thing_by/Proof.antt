@@ -1,7 +1,5 @@
 -- `export_texts::records::thing_by` meets its contract: the rows of the kind are lent. Assumes nothing.
-use mathlib.Core.List.{List}
-use mathlib.Core.Path.{_≡_, refl, sym, ap, _∙_}
-use Prim.Native.Nat.{ℕ, _≤_}
+use mathlib.Core.Path.{sym, ap, _∙_}
 use native.Mathlib.Omega.{arith}
 use borrow.Author.Needs.{needs}
 use denote.Ref.{now}
@@ -9,7 +7,6 @@ use lib.ListN.{length}
 use lib.Seq.{length-take-le}
 use Rattle.text_scope.specs.declared.Scope.the-variants.{Thing}
 use Rattle.text_table.proofs.Table.{length-rows}
-use Rattle.text_map.specs.Answers.{rowsBy}
 use Rattle.text_record.specs.Records.{thingOf}
 use Rattle.export_texts.proofs.Lent.{lent-rows}
 use Rattle.export_texts.proofs.records.thing_by.Statement.{statement}
