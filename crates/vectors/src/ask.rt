@@ -1,6 +1,6 @@
 // The questions: each is put to the library with what is lent, and the answer printed.
 
-// Which question a word names: its place among these. Those from MAPS on are lent words; those from RECORDS on read and write one.
+// Which question a word names: its place among these. Those from MAPS on are lent words; the 14 from RECORDS on read and write one record.
 const MAPS: usize = 11;
 
 const RECORDS: usize = 15;
@@ -10,7 +10,8 @@ pub(crate) fn number_of(word: &[u8]) -> usize {
         b"base title directory entry marker game descend find sidedefs picture encode \
         map order pair why \
         THINGS THINGS.DH THINGS.HD THINGS.H LINEDEFS LINEDEFS.DH LINEDEFS.HD LINEDEFS.H \
-        SIDEDEFS VERTEXES SEGS SSECTORS NODES SECTORS ",
+        SIDEDEFS VERTEXES SEGS SSECTORS NODES SECTORS \
+        index lookup differences ",
         word,
     )
 }
@@ -28,6 +29,8 @@ pub(crate) fn put(asked: usize, with: &[u8], file: &[u8], word: usize, words: us
         9 | 10 => ask_pictures::put(asked == 10, file, with),
         MAPS..=14 => ask_maps::put(asked - MAPS, file, with, word, words),
         RECORDS..=28 => ask_records::put(asked - RECORDS, file, with),
+        29 | 30 => ask_index::put(asked == 30, file, with),
+        31 => ask_differences::put(file, with, word, words),
         _ => print::ill_formed(),
     }
 }
