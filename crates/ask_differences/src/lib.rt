@@ -1,7 +1,8 @@
-// What changed between two maps: the question is put with what is lent, and the answer printed, then the list and the words.
+// What changed between two maps: the question is put with what is lent, and the answer printed, then the list and the
+// words.
 
-// The file is the old WAD and then the new one. Asked with the old one's length, both names of eight bytes, and how many words the list
-// has; it holds 9s.
+// The file is the old WAD and then the new one. Asked with the old one's length, both names of eight bytes, and how
+// many words the list has; it holds 9s.
 pub fn put(file: &[u8], with: &[u8], word: usize, count: usize) {
     if 64 < count {
         return print::ill_formed();

@@ -1,4 +1,5 @@
-// Questions on a name index: each is put with what is lent, and the answer printed. The file is the WAD and then its index.
+// Questions on a name index: each is put with what is lent, and the answer printed. The file is the WAD and then its
+// index.
 
 // Asked with the WAD's length; a lookup then with the name.
 pub fn put(lookup: bool, file: &[u8], with: &[u8]) {

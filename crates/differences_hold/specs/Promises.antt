@@ -1,5 +1,5 @@
--- What holds of the listed numbers (02, W-213): said once, over the size of a record, and then of the answer and the list that a caller is
--- handed for two maps. Assumes nothing.
+-- What holds of the listed numbers (02, W-213): said once, over the size of a record, and then of the answer and the
+-- list that a caller is handed for two maps. Assumes nothing.
 use Prim.Native.Nat.{ℕ, _-_, _≤_, _<_}
 use mathlib.Core.Bool.{true, cond}
 use mathlib.Core.List.{List, [], _∷_, _++_}
@@ -61,7 +61,8 @@ listStart counts place = sumOf (λ i. getD counts i 0) (place - 1)
 abbrev pub listedAt : List ℕ → List ℕ → ℕ → List ℕ
 listedAt counts list place = take (getD counts (place - 1) 0) (drop (listStart counts place) list)
 
--- the maps are accepted, one after the other over the same words, and of one game; each lump's words of the list are its numbers
+-- the maps are accepted, one after the other over the same words, and of one game; each lump's words of the list are
+-- its numbers
 pub record Handed (oldWad oldName newWad newName words counts list : List ℕ) : Type 0 where
   pub oldDepth : ℕ
   pub old : ℕ

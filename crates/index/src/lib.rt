@@ -1,4 +1,5 @@
-// The records of a name index (W-210): a name and an entry number, and which comes first. The definitions are in specs/.
+// The records of a name index (W-210): a name and an entry number, and which comes first. The definitions are in
+// specs/.
 pub mod keys;
 pub mod names;
 

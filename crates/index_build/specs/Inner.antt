@@ -1,4 +1,5 @@
--- What only contracts of inner functions cite: the records in the directory's order, and the bytes so far. Assumes nothing.
+-- What only contracts of inner functions cite: the records in the directory's order, and the bytes so far. Assumes
+-- nothing.
 use Prim.Native.Nat.{ℕ, zero, suc, _+_, _-_, _*_, _/_, _<_}
 use mathlib.Core.List.{List, [], _∷_, _++_}
 use mathlib.Core.Path.{_≡_}

@@ -1,5 +1,5 @@
--- The rule of halves as a loop turns: its fuel does not matter where it is enough, and one comparison leaves a smaller search.
--- Assumes nothing.
+-- The rule of halves as a loop turns: its fuel does not matter where it is enough, and one comparison leaves a
+-- smaller search. Assumes nothing.
 use Prim.Native.Nat.{ℕ, zero, suc, _+_, _-_, _/_, _≤_, _<_}
 use mathlib.Core.Bool.{Bool, true, false, cond}
 use mathlib.Core.List.{List}

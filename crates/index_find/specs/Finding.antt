@@ -1,5 +1,5 @@
--- The last entry of a name by an index, by halves (02, W-210). The index is not trusted: the entry that it leads to is looked up in the
--- directory. Assumes nothing.
+-- The last entry of a name by an index, by halves (02, W-210). The index is not trusted: the entry that it leads to
+-- is looked up in the directory. Assumes nothing.
 use Prim.Native.Nat.{ℕ, zero, suc, _+_, _-_, _/_}
 use mathlib.Core.Bool.{Bool, false, _&&_, not, cond}
 use mathlib.Core.List.{List}
@@ -34,8 +34,8 @@ notAbove index name i = not (belowFrom 8 0 (padded name) (nameIn index i) false)
 abbrev pub isEqual : List ℕ → List ℕ → ℕ → Bool
 isEqual index name i = sameBytes (nameIn index i) (padded name)
 
--- of the `left` records behind the `past` gone past, compare the one behind half of them, rounded down; if it is not above go on after it,
--- otherwise before it: how many are gone past in the end
+-- of the `left` records behind the `past` gone past, compare the one behind half of them, rounded down; if it is not
+-- above go on after it, otherwise before it: how many are gone past in the end
 unfoldable pub pastBy : (ℕ → Bool) → ℕ → ℕ → ℕ → ℕ
 pastBy low zero past left = past
 pastBy low (suc fuel) past left =

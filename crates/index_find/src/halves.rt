@@ -35,8 +35,8 @@ fn compare(index: &[u8], asked: [u8; 8], i: usize) -> Comparison
     }
 }
 
-// Compares the record behind half of those that are left. If it is not above the asked name the search goes on after it,
-// otherwise before it.
+// Compares the record behind half of those that are left. If it is not above the asked name the search goes on after
+// it, otherwise before it.
 pub fn gone_past(index: &[u8], count: usize, name: &[u8]) -> GonePast
     requires { ⌜ (count ≤ 4096) × (recordPlace count ≤ length (now index)) × (length (now name) ≡ 8) ⌝ }
     ensures { λ r. ⌜ (r ≡ goneBy (notAbove (now (index .entry)) (now (name .entry))) (isEqual (now (index .entry)) (now (name .entry))) count) × (r .past ≤ count) ⌝ }

@@ -67,7 +67,8 @@ fn nothing_compared(r: Refusal) -> MarkerSearch
     }
 }
 
-// The last entry of the name, and how many names were compared: 1 to 6 of the file, 82 (head), 83 (version) and 11 (no such entry).
+// The last entry of the name, and how many names were compared: 1 to 6 of the file, 82 (head), 83 (version) and 11
+// (no such entry).
 pub fn find(wad: &[u8], index: &[u8], name: &[u8]) -> MarkerSearch
     ensures { λ r. ⌜ r ≡ findAnswer (now (wad .entry)) (now (index .entry)) (now (name .entry)) ⌝ }
 {

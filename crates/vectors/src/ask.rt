@@ -1,6 +1,7 @@
 // The questions: each is put to the library with what is lent, and the answer printed.
 
-// Which question a word names: its place among these. Those from MAPS on are lent words; the 14 from RECORDS on read and write one record.
+// Which question a word names: its place among these. Those from MAPS on are lent words; the 14 from RECORDS on read
+// and write one record.
 const MAPS: usize = 11;
 
 const RECORDS: usize = 15;
@@ -75,8 +76,8 @@ fn find(file: &[u8], with: &[u8]) {
     print::number(a.size);
 }
 
-// Asked with the count of sectors, of 64 bits, then each scrap's length; a length that is cut is asked for too. Behind its end the lump
-// begins again.
+// Asked with the count of sectors, of 64 bits, then each scrap's length; a length that is cut is asked for too.
+// Behind its end the lump begins again.
 fn sidedefs(lump: &[u8], with: &[u8]) {
     let mut state = export_sidedefs::meshpigeon_sidedefs_start(script::long_argument(with));
     let mut at = 0;

@@ -1,4 +1,5 @@
--- `index_find::last_past` meets its contract: the search has told whether the last record gone past is equal. Assumes nothing.
+-- `index_find::last_past` meets its contract: the search has told whether the last record gone past is equal. Assumes
+-- nothing.
 use Prim.Native.Nat.{ℕ, _+_}
 use mathlib.Core.Path.{sym, ap, _∙_}
 use native.Mathlib.Omega.{arith}

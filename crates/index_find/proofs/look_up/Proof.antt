@@ -1,4 +1,5 @@
--- `index_find::look_up` meets its contract: the search by halves, then the entry of the last record gone past. Assumes nothing.
+-- `index_find::look_up` meets its contract: the search by halves, then the entry of the last record gone past.
+-- Assumes nothing.
 use mathlib.Core.Path.{sym, ap, _∙_}
 use native.Mathlib.Omega.{arith}
 use borrow.Author.Needs.{needs}

@@ -1,5 +1,5 @@
--- `index_find::halves::gone_past` meets its contract: the whole search comes down to a search of the records that are left, and `equal` tells
--- of the last record gone past. The measure is `left`. Assumes nothing.
+-- `index_find::halves::gone_past` meets its contract: the whole search comes down to a search of the records that are
+-- left, and `equal` tells of the last record gone past. The measure is `left`. Assumes nothing.
 use Prim.Native.Nat.{ℕ, _+_, _/_}
 use mathlib.Core.Bool.{not}
 use mathlib.Core.List.{List}
