@@ -1,25 +1,25 @@
--- The listed records are those that have to be copied, for every size of a record. Assumes nothing.
-use Prim.Native.Nat.{ℕ, zero, suc, _*_, _≤_, _<_}
-use mathlib.Core.Bool.{Bool, true, false, not, cond}
+-- The listed records are those that must be copied, for every size of a record. Assumes nothing.
+use Prim.Native.Nat.{ℕ, zero, suc, _+_, _*_, _≤_, _<_}
+use mathlib.Core.Bool.{Bool, true, false, not, cond, _||_}
 use mathlib.Core.List.{List, [], _∷_, _++_}
-use mathlib.Core.Logic.{inl, inr, ⊎-elim}
+use mathlib.Core.Logic.{_⊎_, inl, inr, ⊎-elim}
 use mathlib.Core.Path.{_≡_, refl, sym, ap, _∙_}
-use native.Mathlib.Nat.{le-of-suc-le-suc, eq-or-lt-of-le, mul-suc}
+use native.Mathlib.Nat.{le-trans, le-of-suc-le-suc, eq-or-lt-of-le, mul-suc}
 use native.Mathlib.Omega.{arith}
-use borrow.Author.Tests.{leb-true, eqb-true, eq-eqb, not-true, not-false}
+use borrow.Author.Tests.{leb-true, leb-false, eqb-false, ne-eqb, not-true, not-false}
 use lib.Dec.{leb, eqb}
-use lib.ListN.{length, getD, take, length-append, List·getD-append}
-use lib.Seq.{take-add, take-all, getD-append-add}
+use lib.ListN.{length, getD, take, drop, length-append, length-drop, List·getD-append}
+use lib.Seq.{take-add, take-all, length-take-le, take-append-le, drop-append-le, getD-append-add}
 use Rattle.layout.specs.Rows.{laidOut}
-use Rattle.layout.proofs.LaidOut.{laid-none, laid-suc, laid-same}
-use Rattle.refusal.proofs.Checks.{both}
+use Rattle.layout.proofs.LaidOut.{laid-none, laid-suc, laid-same, part-at}
 use Rattle.field.specs.Records.{recordBytes}
 use Rattle.route.specs.Heights.{member}
-use Rattle.route.proofs.Repeats.{or-either, or-neither, member-left, member-right, member-append, member-head, member-cons, at-member}
+use Rattle.route.proofs.Repeats.{or-neither, member-left, member-right, member-append, member-head, member-cons, at-member}
 use Rattle.name.specs.Names.{sameBytes}
 use Rattle.name.proofs.Bytes.{same-equal, equal-same}
 use Rattle.change.specs.Records.{countIn, changed, changes}
-use Rattle.differences_hold.specs.Promises.{Copies}
+use Rattle.change.proofs.Comparing.{record-inside}
+use Rattle.differences_hold.specs.Promises.{copied, without, Missing, Different, Copies}
 
 -- ---- the numbers below `n` that pass a test
 
@@ -97,39 +97,88 @@ records-laid lump size (suc n) =
     ∙ sym (take-add (size * n) size lump)
     ∙ ap (λ (k : ℕ). take k lump) (sym (mul-suc size n))
 
-module _ (size : ℕ) (old new : List ℕ) where
-  unchanged : (i : ℕ) → changed size old new i ≡ false → recordBytes old size i ≡ recordBytes new size i
-  unchanged i e =
-      let p = or-neither (leb (countIn size old) i) (not (sameBytes (recordBytes old size i) (recordBytes new size i))) e in
-      same-equal (recordBytes old size i) (recordBytes new size i) (not-false (sameBytes (recordBytes old size i) (recordBytes new size i)) (p .1))
+-- ---- a list without one of its numbers
 
-  copied-record : (i : ℕ) → i < countIn size new
-      → cond (member i (changes size old new)) (recordBytes new size i) (recordBytes old size i) ≡ recordBytes new size i
-  copied-record i h = by (member i (changes size old new)) (changed size old new i) refl refl
+member-without : (i : ℕ) (list : List ℕ) → member i (without i list) ≡ false
+member-without i [] = refl
+member-without i (x ∷ xs) = by (eqb x i) refl (member-without i xs)
+  where
+    by : (t : Bool) → eqb x i ≡ t → member i (without i xs) ≡ false → member i (cond t (without i xs) (x ∷ without i xs)) ≡ false
+    by true e rest = rest
+    by false e rest =
+        let other : i ≡ x → ⊥ = λ q. eqb-false x i e (sym q) in
+        rw (ne-eqb i x other) rest
+
+-- ---- what is copied
+
+module _ (size : ℕ) (new : List ℕ) (parts : size * countIn size new ≡ length new) where
+  module _ (buffer : List ℕ) (long : length new ≤ length buffer) where
+    in-buffer : (i : ℕ) → i < countIn size new → size * i + size ≤ length buffer
+    in-buffer i h = le-trans (record-inside size new i h) long
+
+    part-length : (lump : List ℕ) (i : ℕ) → size * i + size ≤ length lump → length (recordBytes lump size i) ≡ size
+    part-length lump i h = length-take-le size (drop (size * i) lump) (omega (arith, length-drop (size * i) lump, h))
+
+    -- each record of what is copied stands at its own place
+    copied-at : (list : List ℕ) (i : ℕ) → i < countIn size new
+        → recordBytes (copied size buffer new list) size i ≡ cond (member i list) (recordBytes new size i) (recordBytes buffer size i)
+    copied-at list i h =
+        part-at (λ i. cond (member i list) (recordBytes new size i) (recordBytes buffer size i)) size (countIn size new) (λ i h. by (member i list) i h) i h
+      where
+        by : (t : Bool) (i : ℕ) → i < countIn size new → length (cond t (recordBytes new size i) (recordBytes buffer size i)) ≡ size
+        by true i h = part-length new i (record-inside size new i h)
+        by false i h = part-length buffer i (in-buffer i h)
+
+module _ (size : ℕ) (old new : List ℕ) where
+  -- a record of the old lump, whatever stands behind the lump
+  old-record : (behind : List ℕ) (i : ℕ) → i < countIn size old → recordBytes (old ++ behind) size i ≡ recordBytes old size i
+  old-record behind i h =
+      let there = record-inside size old i h in
+      let rest = length-drop (size * i) old in
+      rw (drop-append-le (size * i) old behind (omega (arith, there)), take-append-le size (drop (size * i) old) behind (omega (arith, there, rest)))
+
+  unchanged : (behind : List ℕ) (i : ℕ) → changed size old new i ≡ false → recordBytes (old ++ behind) size i ≡ recordBytes new size i
+  unchanged behind i e =
+      let p = or-neither (leb (countIn size old) i) (not (sameBytes (recordBytes old size i) (recordBytes new size i))) e in
+      old-record behind i (leb-false (countIn size old) i (p .0))
+      ∙ same-equal (recordBytes old size i) (recordBytes new size i) (not-false (sameBytes (recordBytes old size i) (recordBytes new size i)) (p .1))
+
+  copied-record : (behind : List ℕ) (i : ℕ) → i < countIn size new
+      → cond (member i (changes size old new)) (recordBytes new size i) (recordBytes (old ++ behind) size i) ≡ recordBytes new size i
+  copied-record behind i h = by (member i (changes size old new)) (changed size old new i) refl refl
     where
-      by : (m t : Bool) → member i (changes size old new) ≡ m → changed size old new i ≡ t → cond m (recordBytes new size i) (recordBytes old size i) ≡ recordBytes new size i
+      by : (m t : Bool) → member i (changes size old new) ≡ m → changed size old new i ≡ t
+          → cond m (recordBytes new size i) (recordBytes (old ++ behind) size i) ≡ recordBytes new size i
       by true t e q = refl
       by false true e q =
           let in′ = in-numbers (changed size old new) i (countIn size new) h q in let z : _≡_ {A = ℕ} 0 1 = cc in absurd (omega arith)
-      by false false e q = unchanged i q
+      by false false e q = unchanged behind i q
 
-  pub copies : size * countIn size new ≡ length new → Copies size old new
-  copies whole =
+  pub copies : size * countIn size new ≡ length new → Copies size old new (changes size old new)
+  copies parts =
       record {
-        whole =
-            laid-same _ (recordBytes new size) (countIn size new) (λ i h. copied-record i h)
+        whole = λ behind long.
+            laid-same _ (recordBytes new size) (countIn size new) (λ i h. copied-record behind i h)
             ∙ records-laid new size (countIn size new) ∙ take-all (size * countIn size new) new (omega arith);
-        needed = λ i m.
-            let p = numbers-in (changed size old new) i (countIn size new) m in (
-              p .0,
-              ⊎-elim
-                  (λ (h : leb (countIn size old) i ≡ true). inl (leb-true (countIn size old) i h))
-                  (λ (h : not (sameBytes (recordBytes old size i) (recordBytes new size i)) ≡ true).
-                  inr (λ e.
-                  let no = not-true (sameBytes (recordBytes old size i) (recordBytes new size i)) h in
-                  let yes = ap (λ (xs : List ℕ). sameBytes xs (recordBytes new size i)) e ∙ equal-same (recordBytes new size i) in
-                  let z : _≡_ {A = ℕ} 0 1 = cc in omega arith))
-                  (or-either (leb (countIn size old) i) _ (p .1)),
-            );
+        inside = λ i m. numbers-in (changed size old new) i (countIn size new) m .0;
+        needed = λ i m behind long.
+            let p = numbers-in (changed size old new) i (countIn size new) m in
+            left-out i (p .0) (p .1) behind long (leb (countIn size old) i) refl;
         ascending = numbers-ascend (changed size old new) (countIn size new);
       }
+    where
+      left-out : (i : ℕ) → i < countIn size new → changed size old new i ≡ true → (behind : List ℕ) → length new ≤ length (old ++ behind)
+          → (t : Bool) → leb (countIn size old) i ≡ t
+          → Different size (copied size (old ++ behind) new (without i (changes size old new))) new i ⊎ Missing size old i
+      left-out i h q behind long true e = inr (leb-true (countIn size old) i e)
+      left-out i h q behind long false e =
+          inl (λ same.
+          let here =
+          copied-at size new parts (old ++ behind) long (without i (changes size old new)) i h
+          ∙ ap (λ (b : Bool). cond b (recordBytes new size i) (recordBytes (old ++ behind) size i)) (member-without i (changes size old new))
+          ∙ old-record behind i (leb-false (countIn size old) i e) in
+          let no : sameBytes (recordBytes old size i) (recordBytes new size i) ≡ false =
+          not-true (sameBytes (recordBytes old size i) (recordBytes new size i))
+          (sym (ap (λ (b : Bool). b || not (sameBytes (recordBytes old size i) (recordBytes new size i))) e) ∙ q) in
+          let yes = ap (λ (xs : List ℕ). sameBytes xs (recordBytes new size i)) (sym here ∙ same) ∙ equal-same (recordBytes new size i) in
+          let z : _≡_ {A = ℕ} 0 1 = cc in omega arith)

@@ -1,10 +1,10 @@
 -- The small lumps of specs/Examples are computed. Assumes nothing.
 use mathlib.Core.Path.{refl}
-use Rattle.layout.specs.Rows.{laidOut}
+use Rattle.layout.specs.Rows.{sumOf, laidOut}
 use Rattle.differences_hold.specs.Examples.{Examples}
 
 pub examples : Examples
-unfolding laidOut
+unfolding laidOut sumOf
 examples =
     record {
       same = refl;
@@ -19,6 +19,8 @@ examples =
       leftOut = refl;
       listOfMap = refl;
       countsOfMap = refl;
+      wordsOfVertexes = refl;
+      wordsOfSectors = refl;
       doomThings = refl;
       hexenThings = refl;
     }

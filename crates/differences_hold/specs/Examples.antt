@@ -6,7 +6,7 @@ use mathlib.Core.Path.{_≡_}
 use lib.ListN.{replicate}
 use Rattle.change.specs.Records.{changes}
 use Rattle.difference.specs.Differences.{changesIn, changeCounts}
-use Rattle.differences_hold.specs.Promises.{copied}
+use Rattle.differences_hold.specs.Promises.{copied, without, listedAt}
 
 -- two records of four bytes, as VERTEXES has them
 abbrev pub first : List ℕ
@@ -42,11 +42,14 @@ pub record Examples : Type 0 where
   pub none : changes 4 (first ++ second) [] ≡ []
   -- two that changed their places
   pub exchanged : changes 4 (first ++ second) (second ++ first) ≡ 0 ∷ 1 ∷ []
-  -- copying them gives the new lump; without the last one the old record stays
-  pub copies : copied 4 (first ++ second) (second ++ moved ++ first) (0 ∷ 1 ∷ 2 ∷ []) ≡ second ++ moved ++ first
-  pub leftOut : copied 4 (first ++ second) (second ++ moved) (0 ∷ []) ≡ second ++ second
+  -- copying them gives the new lump; with number 1 left out the old record stays
+  pub copies : copied 4 (first ++ second ++ replicate 4 9) (second ++ moved ++ first) (0 ∷ 1 ∷ 2 ∷ []) ≡ second ++ moved ++ first
+  pub leftOut : copied 4 (first ++ second) (second ++ moved) (without 1 (0 ∷ 1 ∷ [])) ≡ second ++ second
   -- the lumps one after the other, by the sizes of the game: two things of Doom are one of Hexen
   pub listOfMap : changesIn false old new ≡ 1 ∷ 1 ∷ []
   pub countsOfMap : changeCounts false old new ≡ 0 ∷ 0 ∷ 0 ∷ 1 ∷ 0 ∷ 0 ∷ 0 ∷ 1 ∷ []
+  -- one word of the list belongs to VERTEXES, and the two behind it to SECTORS
+  pub wordsOfVertexes : listedAt (0 ∷ 0 ∷ 0 ∷ 1 ∷ 0 ∷ 0 ∷ 0 ∷ 2 ∷ []) (1 ∷ 4 ∷ 5 ∷ 65535 ∷ []) 4 ≡ 1 ∷ []
+  pub wordsOfSectors : listedAt (0 ∷ 0 ∷ 0 ∷ 1 ∷ 0 ∷ 0 ∷ 0 ∷ 2 ∷ []) (1 ∷ 4 ∷ 5 ∷ 65535 ∷ []) 8 ≡ 4 ∷ 5 ∷ []
   pub doomThings : changeCounts false old (lumpsOf (replicate 20 2) [] []) ≡ 2 ∷ 0 ∷ 0 ∷ 0 ∷ 0 ∷ 0 ∷ 0 ∷ 0 ∷ []
   pub hexenThings : changeCounts true old (lumpsOf (replicate 20 2) [] []) ≡ 1 ∷ 0 ∷ 0 ∷ 0 ∷ 0 ∷ 0 ∷ 0 ∷ 0 ∷ []

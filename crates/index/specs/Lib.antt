@@ -2,4 +2,5 @@
 
 pub mod Records
 pub mod Index
+pub mod Inner
 pub mod Promises

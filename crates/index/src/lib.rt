@@ -1,4 +1,6 @@
-// The records of a name index (W-210): a name and an entry number, and which comes first. The definitions are in specs/.
+// The records of a name index (W-210): a name and an entry number, and which comes first. The definitions are in
+// specs/.
+pub mod keys;
 pub mod names;
 
 ghost use mathlib.Core.Path.{_≡_};
@@ -17,25 +19,11 @@ pub struct IndexRecord {
 pub fn precedes(a: IndexRecord, b: IndexRecord) -> bool
     ensures { λ r. ⌜ r ≡ precedes a b ⌝ }
 {
-    let x = a.name;
-    let y = b.name;
-    (x[0] < y[0])
-        | (x[0] == y[0])
-            & ((x[1] < y[1])
-                | (x[1] == y[1])
-                    & ((x[2] < y[2])
-                        | (x[2] == y[2])
-                            & ((x[3] < y[3])
-                                | (x[3] == y[3])
-                                    & ((x[4] < y[4])
-                                        | (x[4] == y[4])
-                                            & ((x[5] < y[5])
-                                                | (x[5] == y[5])
-                                                    & ((x[6] < y[6])
-                                                        | (x[6] == y[6])
-                                                            & ((x[7] < y[7])
-                                                                | (x[7] == y[7])
-                                                                    & (a.number < b.number))))))))
+    let first = a.name;
+    let second = b.name;
+    let x = keys::key_of(first);
+    let y = keys::key_of(second);
+    (x < y) | (x == y) & (a.number < b.number)
 }
 
 // The record of entry `i` of a directory.

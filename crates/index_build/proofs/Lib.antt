@@ -2,8 +2,9 @@
 
 pub mod Again
 pub mod Walk
+pub mod Moves
+pub mod Heaps
 pub mod SortedOver
 pub mod Bytes
-pub mod Numbers
 pub mod Rooms
 pub mod Whole

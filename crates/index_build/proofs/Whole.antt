@@ -1,73 +1,52 @@
 -- What is built as a whole: the entries that are put in have room, and the stores of the head and of the records are the index in front of the
 -- output. Assumes nothing.
 use Prim.Native.Nat.{ℕ, zero, suc, _+_, _-_, _*_, _/_, _≤_, _<_}
-use mathlib.Core.List.{List, [], _∷_, _++_}
+use mathlib.Core.List.{List, _++_, append-assoc, append-nil}
 use mathlib.Core.Path.{_≡_, refl, sym, ap, _∙_, subst}
-use native.Mathlib.Nat.{zero-add, le-of-suc-le-suc}
+use native.Mathlib.Nat.{zero-add}
 use native.Mathlib.Omega.{arith}
-use lib.ListN.{length, getD, set, drop, List·getD-append}
-use lib.Seq.{set-set, sets, length-sets, sets-eq}
+use lib.ListN.{length, getD, drop, length-append, List·getD-append}
+use lib.Seq.{sets, length-sets, sets-eq}
 use Rattle.refusal.specs.declared.Check.{Check}
 use Rattle.refusal.specs.declared.Check.the-variants.{Pass, Refused}
 use Rattle.layout.specs.Rows.{laidOut}
 use Rattle.layout.specs.Buffers.{bufferAfter}
 use Rattle.layout.proofs.LaidOut.{laid-none, laid-suc, length-parts, laid-same}
-use Rattle.layout.proofs.Stores.{sets-append, sets-comm}
+use Rattle.layout.proofs.Stores.{sets-append}
 use Rattle.directory.specs.Header.{headOf, entryCount}
 use Rattle.directory.specs.Entries.{directoryOf}
 use Rattle.index.specs.declared.IndexRecord.{IndexRecord}
-use Rattle.index.specs.Records.{noRecord, recordAt}
+use Rattle.index.specs.Records.{noRecord}
 use Rattle.index.specs.Index.{indexHeadSize, indexRecordSize, recordPlace, indexHead, indexRecordBytes, sortedRecords, indexBytes}
 use Rattle.index.proofs.Bytes.{row-length, index-size}
 use Rattle.index.proofs.Holds.{index-length}
-use Rattle.index_order.specs.Orders.{entryAt}
-use Rattle.index_order.proofs.Ordering.{entry-low, entry-record}
 use Rattle.index_build.specs.Building.{buildCheck, buildingOf, recordsAfter, Builds}
-use Rattle.index_build.specs.Inner.{entriesIn, orderBytes, EntriesThere, sortedOver, begun, written}
+use Rattle.index_build.specs.Inner.{entriesIn, EntriesThere, sortedOver, begun, written}
 use Rattle.index_build.proofs.Bytes.{written-none, written-suc}
-use Rattle.index_build.proofs.Numbers.{length-numbers, number-read}
 use Rattle.index_build.proofs.Rooms.{passed}
 use Rattle.index_build.proofs.SortedOver.{over-none}
 
--- ---- stores over stores
-
-sets-over : (l : List ℕ) (i : ℕ) (vs ws : List ℕ) → length vs ≤ length ws → sets (sets l i vs) i ws ≡ sets l i ws
-sets-over l i [] ws h = refl
-sets-over l i (v ∷ vs) [] h = absurd (omega (arith, h))
-sets-over l i (v ∷ vs) (w ∷ ws) h =
-    let after = sets-comm (set l i v) i (suc i) (w ∷ []) vs (omega arith) in
-    ap (λ (m : List ℕ). sets m (suc i) ws) (sym after ∙ ap (λ (m : List ℕ). sets m (suc i) vs) (set-set l i v w))
-    ∙ sets-over (set l i w) (suc i) vs ws (le-of-suc-le-suc h)
-
 -- ---- records stored behind a head are laid out behind it
 
-module _ (records : List IndexRecord) (out : List ℕ) where
+module _ (records : List IndexRecord) (head out : List ℕ) (eleven : length head ≡ indexHeadSize) where
   abbrev row : ℕ → List ℕ
   row i = indexRecordBytes (getD records i noRecord)
 
-  written-laid : (n : ℕ) → ((i : ℕ) → i < n → length (row i) ≡ indexRecordSize) → written records n out ≡ sets out indexHeadSize (laidOut row n)
-  written-laid zero tens = sym (written-none records out) ∙ ap (λ (l : List ℕ). sets out indexHeadSize l) (sym (laid-none row))
+  written-laid : (n : ℕ) → ((i : ℕ) → i < n → length (row i) ≡ indexRecordSize)
+      → written records n (sets out 0 head) ≡ sets out 0 (head ++ laidOut row n)
+  written-laid zero tens =
+      sym (written-none records (sets out 0 head))
+      ∙ ap (λ (l : List ℕ). sets out 0 l) (sym (append-nil head) ∙ ap (λ (l : List ℕ). head ++ l) (sym (laid-none row)))
   written-laid (suc n) tens =
       let before = written-laid n (λ i h. tens i (omega arith)) in
       let rows = length-parts row indexRecordSize n (λ i h. tens i (omega arith)) in
-      let place : recordPlace n ≡ indexHeadSize + length (laidOut row n) = omega (arith, rows) in
-      written-suc records n out
+      let both = length-append head (laidOut row n) in
+      let place : recordPlace n ≡ 0 + length (head ++ laidOut row n) = omega (arith, both, rows, eleven) in
+      written-suc records n (sets out 0 head)
       ∙ ap (λ (l : List ℕ). sets l (recordPlace n) (row n)) before
-      ∙ ap (λ (k : ℕ). sets (sets out indexHeadSize (laidOut row n)) k (row n)) place
-      ∙ sets-append out indexHeadSize (laidOut row n) (row n)
-      ∙ ap (λ (l : List ℕ). sets out indexHeadSize l) (sym (laid-suc row n))
-
-  -- and over what was behind it
-  written-over : (head over : List ℕ) (n : ℕ) → length head ≡ indexHeadSize → ((i : ℕ) → i < n → length (row i) ≡ indexRecordSize) → length over ≤ indexRecordSize * n
-      → sets (sets out 0 (head ++ over)) indexHeadSize (laidOut row n) ≡ sets out 0 (head ++ laidOut row n)
-  written-over head over n eleven tens less =
-      let rows = length-parts row indexRecordSize n tens in
-      let place : 0 + length head ≡ indexHeadSize = omega (arith, eleven) in
-      let behind : (vs : List ℕ) → sets out 0 (head ++ vs) ≡ sets (sets out 0 head) indexHeadSize vs =
-      λ vs. sym (sets-append out 0 head vs) ∙ ap (λ (k : ℕ). sets (sets out 0 head) k vs) place in
-      ap (λ (l : List ℕ). sets l indexHeadSize (laidOut row n)) (behind over)
-      ∙ sets-over (sets out 0 head) indexHeadSize over (laidOut row n) (omega (arith, rows, less))
-      ∙ sym (behind (laidOut row n))
+      ∙ ap (λ (k : ℕ). sets (sets out 0 (head ++ laidOut row n)) k (row n)) place
+      ∙ sets-append out 0 (head ++ laidOut row n) (row n)
+      ∙ ap (λ (l : List ℕ). sets out 0 l) (append-assoc head (laidOut row n) (row n) ∙ ap (λ (l : List ℕ). head ++ l) (sym (laid-suc row n)))
 
 -- ---- what is built
 
@@ -79,10 +58,10 @@ module _ (wad : List ℕ) (ys : List IndexRecord) (os : List ℕ) where
   check = buildCheck wad (length ys) (length os)
 
   -- how many entries are put in
-  pub record Fitting (k : Check) (n : ℕ) : Type 0 where
+  pub record Fitting (n : ℕ) : Type 0 where
     pub few : n ≤ 4096
     pub within : n ≤ length ys
-    pub there : EntriesThere wad (begun k wad os) n
+    pub there : EntriesThere wad n
     pub room : indexRecordSize * n ≤ length os - indexHeadSize
 
   abbrev pub entries-by : (k : Check) → ℕ
@@ -91,33 +70,19 @@ module _ (wad : List ℕ) (ys : List IndexRecord) (os : List ℕ) where
   entries-all : entries-by Pass ≡ count
   entries-all = let e : (11 + 10 * count - 11) / 10 ≡ count = omega arith in e
 
-  -- the entries of the order
-  abbrev entry : ℕ → ℕ
-  entry i = entryAt (directoryOf wad) count i
-
-  order-there : check ≡ Pass → EntriesThere wad (begun Pass wad os) count
-  order-there e i h =
-      let p = passed wad (length ys) (length os) e in
-      let read = number-read entry (indexHead wad) os count (omega (arith, p .fits)) i h in
-      let low = entry-low (directoryOf wad) count i h in
-      let long = length-sets os 0 (indexHead wad ++ orderBytes wad) in (
-        (p .header, subst (λ (x : ℕ). x < count) (sym read) low, omega (arith, long, p .fits, h)),
-        ap (recordAt (directoryOf wad)) read ∙ entry-record (directoryOf wad) count i h,
-      )
-
-  fitting-by : (k : Check) → check ≡ k → Fitting k (entries-by k)
+  fitting-by : (k : Check) → check ≡ k → Fitting (entries-by k)
   fitting-by Pass e =
       let p = passed wad (length ys) (length os) e in
-      subst (Fitting Pass) (sym entries-all)
-      (record { few = p .few; within = p .enough; there = order-there e; room = omega (arith, p .fits) })
+      subst Fitting (sym entries-all)
+      (record { few = p .few; within = p .enough; there = λ i h. (p .header, h); room = omega (arith, p .fits) })
   fitting-by (Refused r) e =
       record { few = omega arith; within = omega arith; there = λ i h. absurd (omega (arith, h)); room = omega arith }
 
-  pub fitting : Fitting check (entries-by check)
+  pub fitting : Fitting (entries-by check)
   fitting = fitting-by check refl
 
   long-by : (k : Check) → length (begun k wad os) ≡ length os
-  long-by Pass = length-sets os 0 (indexHead wad ++ orderBytes wad)
+  long-by Pass = length-sets os 0 (indexHead wad)
   long-by (Refused r) = refl
 
   pub begun-long : length (begun check wad os) ≡ length os
@@ -137,12 +102,9 @@ module _ (wad : List ℕ) (ys : List IndexRecord) (os : List ℕ) where
       let records = sortedOver (directoryOf wad) count ys in
       let sorted : (i : ℕ) → i < count → getD records i noRecord ≡ getD (sortedRecords wad) i noRecord =
       λ i h. List·getD-append (sortedRecords wad) (drop count ys) noRecord i (omega (arith, index-length (directoryOf wad) count, h)) in
-      let tens : (i : ℕ) → i < count → length (indexRecordBytes (getD records i noRecord)) ≡ indexRecordSize =
-      λ i h. ap (λ (r : IndexRecord). length (indexRecordBytes r)) (sorted i h) ∙ row-length wad i h in
-      let order = length-numbers entry count in
-      ap (λ (n : ℕ). written (sortedOver (directoryOf wad) n ys) n (begun Pass wad os)) entries-all
-      ∙ written-laid records (begun Pass wad os) count tens
-      ∙ written-over records os (indexHead wad) (orderBytes wad) count refl tens (omega (arith, order))
+      ap (λ (n : ℕ). written (sortedOver (directoryOf wad) n ys) n (sets os 0 (indexHead wad))) entries-all
+      ∙ written-laid records (indexHead wad) os refl count
+      (λ i h. ap (λ (r : IndexRecord). length (indexRecordBytes r)) (sorted i h) ∙ row-length wad i h)
       ∙ ap (λ (l : List ℕ). sets os 0 (indexHead wad ++ l))
       (laid-same (λ i. indexRecordBytes (getD records i noRecord)) (λ i. indexRecordBytes (getD (sortedRecords wad) i noRecord)) count
       (λ i h. ap indexRecordBytes (sorted i h)))

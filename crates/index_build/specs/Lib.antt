@@ -2,3 +2,5 @@
 
 pub mod Building
 pub mod Inner
+pub mod Heaps
+pub mod Arranging

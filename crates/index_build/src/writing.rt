@@ -1,22 +1,20 @@
-// The bytes of an index: what is judged before them, the head and the records.
+// Judges what is lent, and writes the index's head and records.
 ghost use mathlib.Core.Path.{_≡_};
 ghost use Prim.Native.Nat.{_+_, _-_, _*_, _/_, _≤_};
-ghost use lib.ListN.{length, getD};
+ghost use lib.ListN.{length};
 ghost use lib.Seq.{sets};
 ghost use Rattle.refusal.specs.declared.Check.the-variants.{Pass};
-ghost use Rattle.endian.specs.Unsigned.{u16Bytes};
-ghost use Rattle.layout.specs.Rows.{laidOut};
 ghost use Rattle.directory.specs.Header.{headOf, entryCount};
 ghost use Rattle.directory.specs.Entries.{fileCheck};
 ghost use Rattle.index.specs.Index.{indexHeadSize, indexRecordSize, recordPlace, indexHead};
 ghost use Rattle.index_build.specs.Building.{buildCheck, buildingOf};
-ghost use Rattle.index_build.specs.Inner.{orderBytes, begun, putRecord, written};
+ghost use Rattle.index_build.specs.Inner.{begun, putRecord, written};
 use crate::Building;
 use index::IndexRecord;
 use refusal::Check;
 use refusal::Refusal;
 
-// 1 to 6, then 86.
+// Refusals 1 to 6 of the file, then 86 (records or output too short).
 fn judge(wad: &[u8], records: usize, room: usize) -> Check
     ensures { λ r. ⌜ r ≡ buildCheck (now (wad .entry)) records room ⌝ }
 {
@@ -42,27 +40,7 @@ fn put_head(wad: &[u8], out: &mut [u8])
     endian::put_u32(out, 7, wad.len() as u32);
 }
 
-// The order of the entries, behind the head.
-fn put_order(wad: &[u8], out: &mut [u8])
-    requires { ⌜ (fileCheck (now wad) ≡ Pass) × (recordPlace (entryCount (headOf (now wad))) ≤ length (now out)) ⌝ }
-    ensures { λ _. ⌜ now (out .exit) ≡ sets (now (out .entry)) indexHeadSize (orderBytes (now (wad .entry))) ⌝ }
-{
-    let count = directory::entry_count(wad);
-    let mut order = [0u16; 4096];
-    index_order::order_of(directory::directory_of(wad), count, &mut order);
-    put_numbers(&order, count, out);
-}
-
-fn put_numbers(order: &[u16], n: usize, out: &mut [u8])
-    requires { ⌜ (n ≤ length (now order)) × (n ≤ 4096) × (indexHeadSize + 2 * n ≤ length (now out)) ⌝ }
-    ensures { λ _. ⌜ now (out .exit) ≡ sets (now (out .entry)) indexHeadSize (laidOut (λ i. u16Bytes (getD (now (order .entry)) i 0)) n) ⌝ }
-{
-    for i in 0..n {
-        endian::put_u16(out, 11 + 2 * i, order[i]);
-    }
-}
-
-// Judges what is given, and writes the head and the order where it passes: the answer is that of the whole.
+// Judges what is lent, and writes the head if it passes. The answer is that of the whole building.
 pub fn begin(wad: &[u8], records: usize, out: &mut [u8]) -> Building
     ensures { λ r. ⌜ (r ≡ buildingOf (buildCheck (now (wad .entry)) records (length (now (out .entry)))) (recordPlace (entryCount (headOf (now (wad .entry))))))
         × (now (out .exit) ≡ begun (buildCheck (now (wad .entry)) records (length (now (out .entry)))) (now (wad .entry)) (now (out .entry))) ⌝ }
@@ -71,7 +49,6 @@ pub fn begin(wad: &[u8], records: usize, out: &mut [u8]) -> Building
         Check::Refused(r) => Building::Refused(r),
         Check::Pass => {
             put_head(wad, out);
-            put_order(wad, out);
             Building::Written(11 + 10 * directory::entry_count(wad))
         }
     }

@@ -6,7 +6,6 @@ ghost use mathlib.Core.Path.{_≡_};
 ghost use Rattle.index_check.specs.Checking.{indexHeadCheck, indexCheck};
 use head::head_ok;
 pub use head::record_place;
-pub use head::same_bytes;
 use records::judge_records;
 pub use records::record_in;
 use refusal::Check;

@@ -1,4 +1,5 @@
--- The rule of halves: how many it compares, and where it ends over a row of records of which the first are not above. Assumes nothing.
+-- The rule of halves: how many it compares, and where it ends over a row of records of which the first are not above.
+-- Assumes nothing.
 use Prim.Native.Nat.{ℕ, zero, suc, _+_, _-_, _*_, _/_, _^_, _≤_, _<_, zero-le, suc-le-suc}
 use mathlib.Core.Bool.{Bool, true, false, cond}
 use mathlib.Core.Logic.{_⊎_, inl, inr, ⊎-elim}

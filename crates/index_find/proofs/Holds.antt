@@ -1,23 +1,21 @@
 -- A lookup over the right index is the search from the end, and no lookup compares more than 13 names. Assumes nothing.
 use Prim.Native.Nat.{ℕ, zero, suc, _+_, _*_, _≤_, _<_, zero-le}
-use mathlib.Core.Bool.{Bool, true, false, _&&_, not, cond}
-use mathlib.Core.List.{List, [], _∷_}
+use mathlib.Core.Bool.{Bool, true, false, not, cond}
+use mathlib.Core.List.{List}
 use mathlib.Core.Logic.{_⊎_, inl, inr, ⊎-elim}
 use mathlib.Core.Path.{_≡_, refl, sym, ap, _∙_, subst}
 use native.Mathlib.Nat.{le-of-suc-le-suc, eq-or-lt-of-le, min-le-left}
 use native.Mathlib.Omega.{arith}
 use borrow.Author.Tests.{ltb-true, ltb-false, lt-ltb, eq-eqb, not-true}
 use lib.Dec.{ltb, eqb}
-use lib.ListN.{length, getD, take, drop, length-take}
+use lib.ListN.{length, getD, drop, length-take}
 use lib.Seq.{ext-getD}
 use Rattle.refusal.specs.declared.Check.{Check}
 use Rattle.refusal.specs.declared.Check.the-variants.{Pass, Refused}
 use Rattle.refusal.specs.declared.Refusal.the-variants.{MapMissing}
-use Rattle.refusal.specs.Checks.{unless, _andThen_}
 use Rattle.refusal.proofs.Checks.{andThen-pass}
 use Rattle.name.specs.Names.{sameBytes, sameName}
 use Rattle.name.proofs.Bytes.{same-equal, equal-same}
-use Rattle.wad.specs.declared.map.Marker.{Marker}
 use Rattle.wad.specs.declared.map.Marker.the-variants.{Entry, Refused as NoMarker}
 use Rattle.wad.specs.declared.map.MarkerSearch.{MarkerSearch}
 use Rattle.directory.specs.Header.{headOf, entryCount}
@@ -34,7 +32,7 @@ use Rattle.index.proofs.Padded.{padded-length, padded-same, same-padded}
 use Rattle.index.proofs.Bytes.{name-at, number-at}
 use Rattle.index_check.specs.Checking.{indexHeadCheck}
 use Rattle.index_check.proofs.Accepts.{head-passes}
-use Rattle.index_find.specs.Finding.{nameIn, numberIn, notAbove, pastBy, comparedBy, believed, lastPast, lookup, findAnswer}
+use Rattle.index_find.specs.Finding.{notAbove, pastBy, lastPast, lookup, findAnswer}
 use Rattle.index_find.specs.Promises.{LookupHolds}
 use Rattle.index_find.proofs.Halving.{Ends, compared-few, past-ends}
 

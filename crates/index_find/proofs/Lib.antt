@@ -2,4 +2,5 @@
 
 pub mod Halving
 pub mod Turns
+pub mod Comparing
 pub mod Holds

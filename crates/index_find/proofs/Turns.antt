@@ -1,5 +1,5 @@
--- The rule of halves as a loop turns: its fuel does not matter where it is enough, and one comparison leaves a smaller search.
--- Assumes nothing.
+-- The rule of halves as a loop turns: its fuel does not matter where it is enough, and one comparison leaves a
+-- smaller search. Assumes nothing.
 use Prim.Native.Nat.{ℕ, zero, suc, _+_, _-_, _/_, _≤_, _<_}
 use mathlib.Core.Bool.{Bool, true, false, cond}
 use mathlib.Core.List.{List}
@@ -8,10 +8,9 @@ use native.Mathlib.Omega.{arith}
 use borrow.Author.Tests.{ne-eqb}
 use lib.Dec.{eqb}
 use Rattle.refusal.specs.declared.Refusal.the-variants.{MapMissing}
-use Rattle.name.specs.Names.{sameBytes}
 use Rattle.wad.specs.declared.map.Marker.the-variants.{Refused as NoMarker}
-use Rattle.index.specs.Records.{padded}
-use Rattle.index_find.specs.Finding.{pastBy, comparedBy, nameIn, numberIn, believed, lastPast}
+use Rattle.index_find.specs.Finding.{pastBy, comparedBy, isEqual, numberIn, believed, lastPast}
+use Rattle.index_find.specs.Inner.{ofLast}
 use Rattle.index_find.proofs.Halving.{past-none, past-step, compared-none, compared-step}
 
 module _ (low : ℕ → Bool) where
@@ -109,12 +108,19 @@ module _ (low : ℕ → Bool) where
 
 -- ---- the last record gone past
 
-module _ (dir : List ℕ) (count : ℕ) (index name : List ℕ) where
-  pub last-none : (past : ℕ) → past ≡ 0 → NoMarker MapMissing ≡ lastPast dir count index name past
-  last-none past e = rw e
+pub last-more : (test : ℕ → Bool) (i : ℕ) → test i ≡ ofLast test (i + 1)
+last-more test i = let e : suc i ≡ i + 1 = omega arith in ap (ofLast test) e
 
-  pub last-some : (past : ℕ) → 0 < past
-      → cond (sameBytes (nameIn index (past - 1)) (padded name)) (believed dir count name (numberIn index (past - 1))) (NoMarker MapMissing)
-      ≡ lastPast dir count index name past
-  last-some zero h = absurd (omega arith)
-  last-some (suc i) h = let e : suc i - 1 ≡ i = omega arith in rw e
+pub last-some : (test : ℕ → Bool) (past : ℕ) → ofLast test past ≡ true → 0 < past
+last-some test zero e = let z : _≡_ {A = ℕ} 0 1 = cc in absurd (omega arith)
+last-some test (suc i) e = omega arith
+
+module _ (dir : List ℕ) (count : ℕ) (index name : List ℕ) where
+  pub last-equal : (past : ℕ) → ofLast (isEqual index name) past ≡ true
+      → believed dir count name (numberIn index (past - 1)) ≡ lastPast dir count index name past
+  last-equal zero e = let z : _≡_ {A = ℕ} 0 1 = cc in absurd (omega arith)
+  last-equal (suc i) e = let one : suc i - 1 ≡ i = omega arith in rw (one, e)
+
+  pub last-other : (past : ℕ) → ofLast (isEqual index name) past ≡ false → NoMarker MapMissing ≡ lastPast dir count index name past
+  last-other zero e = refl
+  last-other (suc i) e = rw e

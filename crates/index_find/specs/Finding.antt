@@ -1,5 +1,5 @@
--- The last entry of a name by an index, by halves (02, W-210). Nothing is believed of the index: an entry that it leads to is looked up in the
--- directory. Assumes nothing.
+-- The last entry of a name by an index, by halves (02, W-210). The index is not trusted: the entry that it leads to
+-- is looked up in the directory. Assumes nothing.
 use Prim.Native.Nat.{ℕ, zero, suc, _+_, _-_, _/_}
 use mathlib.Core.Bool.{Bool, false, _&&_, not, cond}
 use mathlib.Core.List.{List}
@@ -26,15 +26,16 @@ nameIn index i = part index (recordPlace i) 8
 abbrev pub numberIn : List ℕ → ℕ → ℕ
 numberIn index i = u16At index (recordPlace i + 8)
 
--- the name of record `i` is not above these bytes, nor above an asked name's
-abbrev pub notAboveBytes : List ℕ → List ℕ → ℕ → Bool
-notAboveBytes index asked i = not (belowFrom 8 0 asked (nameIn index i) false)
-
+-- by bytes, the name of record `i` is not above the asked name
 abbrev pub notAbove : List ℕ → List ℕ → ℕ → Bool
-notAbove index name i = notAboveBytes index (padded name) i
+notAbove index name i = not (belowFrom 8 0 (padded name) (nameIn index i) false)
 
--- of `left` records behind the first `past` that were gone past: compare the one behind half of them, rounded down; if it is not above go on
--- after it, otherwise before it. How many are gone past in the end
+-- it is equal to the asked name
+abbrev pub isEqual : List ℕ → List ℕ → ℕ → Bool
+isEqual index name i = sameBytes (nameIn index i) (padded name)
+
+-- of the `left` records behind the `past` gone past, compare the one behind half of them, rounded down; if it is not
+-- above go on after it, otherwise before it: how many are gone past in the end
 unfoldable pub pastBy : (ℕ → Bool) → ℕ → ℕ → ℕ → ℕ
 pastBy low zero past left = past
 pastBy low (suc fuel) past left =
@@ -54,11 +55,11 @@ abbrev pub believed : List ℕ → ℕ → List ℕ → ℕ → Marker
 believed dir count name number =
     cond (ltb number count && sameName (entryName dir number) name) (Entry number) (NoMarker MapMissing)
 
--- the last record gone past, if its name is the asked one
+-- the entry of the last record gone past, if that record has the asked name
 abbrev pub lastPast : List ℕ → ℕ → List ℕ → List ℕ → ℕ → Marker
 lastPast dir count index name zero = NoMarker MapMissing
 lastPast dir count index name (suc i) =
-    cond (sameBytes (nameIn index i) (padded name)) (believed dir count name (numberIn index i)) (NoMarker MapMissing)
+    cond (isEqual index name i) (believed dir count name (numberIn index i)) (NoMarker MapMissing)
 
 -- what the index leads to; a name of another length than eight bytes is compared with nothing
 abbrev pub lookup : List ℕ → ℕ → List ℕ → List ℕ → MarkerSearch

@@ -6,7 +6,9 @@ ghost use Prim.Native.Nat.{_*_, _≤_};
 ghost use lib.ListN.{length};
 ghost use Rattle.wad.specs.declared.map.Marker.the-variants.{Refused as NoMarker};
 ghost use Rattle.index.specs.Index.{recordPlace};
-ghost use Rattle.index_find.specs.Finding.{believed, lastPast, lookup, findAnswer};
+ghost use Rattle.index_find.specs.Finding.{isEqual, believed, lastPast, lookup, findAnswer};
+ghost use Rattle.index_find.specs.Inner.{ofLast};
+use halves::GonePast;
 use halves::gone_past;
 use index_check::record_place;
 use refusal::Check;
@@ -14,7 +16,7 @@ use refusal::Refusal;
 use wad::Marker;
 use wad::MarkerSearch;
 
-// The entry of a number that the index told, if it is one and has the name.
+// The entry of a number from the index, if there is such an entry and it has the name.
 fn believed(dir: &[u8], count: usize, name: &[u8], number: usize) -> Marker
     requires { ⌜ (16 * count ≤ length (now dir)) × (length (now name) ≡ 8) ⌝ }
     ensures { λ r. ⌜ r ≡ believed (now (dir .entry)) count (now (name .entry)) number ⌝ }
@@ -28,18 +30,15 @@ fn believed(dir: &[u8], count: usize, name: &[u8], number: usize) -> Marker
     Marker::Refused(Refusal::MapMissing)
 }
 
-// The last of the records gone past, if its name is the asked one.
-fn last_past(dir: &[u8], count: usize, index: &[u8], name: &[u8], past: usize) -> Marker
+// The entry of the last record gone past, if that record has the asked name. Its name is not compared again.
+fn last_past(dir: &[u8], count: usize, index: &[u8], name: &[u8], gone: GonePast) -> Marker
     requires { ⌜ (16 * count ≤ length (now dir)) × (length (now name) ≡ 8) ⌝ }
-    requires { ⌜ (past ≤ 4096) × (recordPlace past ≤ length (now index)) ⌝ }
-    ensures { λ r. ⌜ r ≡ lastPast (now (dir .entry)) count (now (index .entry)) (now (name .entry)) past ⌝ }
+    requires { ⌜ (gone .past ≤ 4096) × (recordPlace (gone .past) ≤ length (now index)) ⌝ }
+    requires { ⌜ gone .equal ≡ ofLast (isEqual (now index) (now name)) (gone .past) ⌝ }
+    ensures { λ r. ⌜ r ≡ lastPast (now (dir .entry)) count (now (index .entry)) (now (name .entry)) (gone .past) ⌝ }
 {
-    if past == 0 {
-        return Marker::Refused(Refusal::MapMissing);
-    }
-    let at = record_place(past - 1);
-    let asked = index::names::padded(name);
-    if index_check::same_bytes(directory::part(index, at, 8), &asked) {
+    if gone.equal {
+        let at = record_place(gone.past - 1);
         return believed(dir, count, name, endian::u16_at(index, at + 8) as usize);
     }
     Marker::Refused(Refusal::MapMissing)
@@ -53,7 +52,7 @@ fn look_up(dir: &[u8], count: usize, index: &[u8], name: &[u8]) -> MarkerSearch
 {
     let gone = gone_past(index, count, name);
     MarkerSearch {
-        marker: last_past(dir, count, index, name, gone.past),
+        marker: last_past(dir, count, index, name, gone),
         compared: gone.compared,
     }
 }
@@ -68,7 +67,8 @@ fn nothing_compared(r: Refusal) -> MarkerSearch
     }
 }
 
-// The last entry of the name: 1 to 6, 82, 83 and 11; and how many names were compared. Nothing else of the index is believed.
+// The last entry of the name, and how many names were compared: 1 to 6 of the file, 82 (head), 83 (version) and 11
+// (no such entry).
 pub fn find(wad: &[u8], index: &[u8], name: &[u8]) -> MarkerSearch
     ensures { λ r. ⌜ r ≡ findAnswer (now (wad .entry)) (now (index .entry)) (now (name .entry)) ⌝ }
 {

@@ -1,7 +1,7 @@
 // The questions: each is put to the library with what is lent, and the answer printed.
 
 // Which question a word names: its place among these. Those from MAPS on are lent words, those from TEXTS on read a text map,
-// and those from RECORDS on read and write a record.
+// and the 14 from RECORDS on read and write a record.
 const MAPS: usize = 11;
 
 const TEXTS: usize = 16;
@@ -14,7 +14,8 @@ pub(crate) fn number_of(word: &[u8]) -> usize {
         map order pair why renumber \
         textmap vertex sector \
         THINGS THINGS.DH THINGS.HD THINGS.H LINEDEFS LINEDEFS.DH LINEDEFS.HD LINEDEFS.H \
-        SIDEDEFS VERTEXES SEGS SSECTORS NODES SECTORS ",
+        SIDEDEFS VERTEXES SEGS SSECTORS NODES SECTORS \
+        index lookup differences ",
         word,
     )
 }
@@ -33,6 +34,8 @@ pub(crate) fn put(asked: usize, with: &[u8], file: &[u8], word: usize, words: us
         MAPS..=15 => ask_maps::put(asked - MAPS, file, with, word, words),
         TEXTS..=18 => ask_texts::put(asked - TEXTS, file, with),
         RECORDS..=32 => ask_records::put(asked - RECORDS, file, with),
+        33 | 34 => ask_index::put(asked == 34, file, with),
+        35 => ask_differences::put(file, with, word, words),
         _ => print::ill_formed(),
     }
 }
@@ -77,8 +80,8 @@ fn find(file: &[u8], with: &[u8]) {
     print::number(a.size);
 }
 
-// Asked with the count of sectors, of 64 bits, then each scrap's length; a length that is cut is asked for too. Behind its end the lump
-// begins again.
+// Asked with the count of sectors, of 64 bits, then each scrap's length; a length that is cut is asked for too.
+// Behind its end the lump begins again.
 fn sidedefs(lump: &[u8], with: &[u8]) {
     let mut state = export_sidedefs::meshpigeon_sidedefs_start(script::long_argument(with));
     let mut at = 0;

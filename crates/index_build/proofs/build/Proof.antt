@@ -47,8 +47,10 @@ use Rattle.index.specs.Index.{recordPlace, indexRecordSize, indexHeadSize}
 use Rattle.refusal.specs.declared.Check.{Check}
 use Rattle.index_build.specs.declared.Building.{Building}
 use Rattle.index_build.specs.Building.{buildCheck, buildingOf}
-use Rattle.index_build.specs.Inner.{entriesIn, EntriesThere, sortedOver, begun, written}
+use Rattle.index_build.specs.Arranging.{Arranged}
+use Rattle.index_build.specs.Inner.{entriesIn, EntriesThere, filledOver, sortedOver, begun, written}
 use Rattle.index_build.proofs.Again.{LentAgain, lends-again, comes-back, LentShared, lends-shared, shared-back}
+use Rattle.index_build.proofs.SortedOver.{filled-long, arranged-sorted}
 use Rattle.index_build.proofs.Walk.{R, B, answer-typed, answer-makes}
 use Rattle.index_build.proofs.Whole.{fitting, begun-long, builds}
 use Rattle.index_build.proofs.writing.begin as begin
@@ -59,6 +61,10 @@ use Rattle.index_build.proofs.entries_in as entries-in
 use Rattle.index_build.proofs.entries_in.Symbol as entries-in-def
 use Rattle.index_build.proofs.entries_in.Symbol.{name as #entries-in}
 use Rattle.index_build.proofs.entries_in.Met as entries-in-thm
+use Rattle.index_build.proofs.sorting.fill as fill
+use Rattle.index_build.proofs.sorting.fill.Symbol as fill-def
+use Rattle.index_build.proofs.sorting.fill.Symbol.{name as #fill}
+use Rattle.index_build.proofs.sorting.fill.Met as fill-thm
 use Rattle.index_build.proofs.sorting.sort as sort
 use Rattle.index_build.proofs.sorting.sort.Symbol as sort-def
 use Rattle.index_build.proofs.sorting.sort.Symbol.{name as #sort}
@@ -88,6 +94,9 @@ module _ {M : Type 1} (𝓤 : URA M) (H : Heap 𝓤) (A : Atoms 𝓤) (W : Given
 
   abbrev EntriesIn : Contract 𝓤
   EntriesIn = tripleOf 𝓤 H A entries-in.signature (entries-in.spec 𝓤 H A mem run)
+
+  abbrev Fill : Contract 𝓤
+  Fill = tripleOf 𝓤 H A fill.signature (fill.spec 𝓤 H A mem run)
 
   abbrev Sort : Contract 𝓤
   Sort = tripleOf 𝓤 H A sort.signature (sort.spec 𝓤 H A mem run)
@@ -133,29 +142,50 @@ module _ {M : Type 1} (𝓤 : URA M) (H : Heap 𝓤) (A : Atoms 𝓤) (W : Given
       peeks ! usize (Is usize) (shows 𝓤 H A usize) k (w ∷ []) (λ is. at-once ! $ check ! (ap only (is .0) ∙ ap (vint w64) e) $ keep ! [] $ done !))))))
 
   -- the tokens are back, and the last records are said
-  abbrev SortedBack : Lft → Share → ℕ → ℕ → RefT (List IndexRecord) → List IndexRecord → Val → SProp 𝓤
-  SortedBack κ q ν ν′ x l w = sep 𝓤 (A .lft κ q) (sep 𝓤 (A .lft (ν ∷ []) fullShare) (sep 𝓤 (A .lft (ν′ ∷ []) fullShare) (sep 𝓤 (sem 𝓤 H A (finally R (x .name) l)) (fact 𝓤 ((w ≡ vunit) × (length l ≡ length (x .now)))))))
+  abbrev Filled : Lft → Share → ℕ → RefT (List IndexRecord) → List IndexRecord → Val → SProp 𝓤
+  Filled κ q ν x l w = sep 𝓤 (A .lft κ q) (sep 𝓤 (A .lft (ν ∷ []) fullShare) (sep 𝓤 (sem 𝓤 H A (finally R (x .name) l)) (fact 𝓤 ((w ≡ vunit) × (length l ≡ length (x .now))))))
 
-  sort-runs : (κ : Lft) (q : Share) (ν ν′ : ℕ) (d e : RefT (List ℕ)) (n : ℕ) (x : RefT (List IndexRecord)) (u s : Val) → n < 2 ^ 64 → (n ≤ length (x .now)) × EntriesThere (d .now) (e .now) n → Triple 𝓤 (𝓣 .C #sort) Sort
-      → ent 𝓤 (sep 𝓤 (A .lft κ q) (sep 𝓤 (sem 𝓤 H A (ShrSlice (named 0) κ u8 .own d (slice-vals d))) (sep 𝓤 (A .lft (ν ∷ []) fullShare) (sep 𝓤 (sem 𝓤 H A (ShrSlice (named 1) (ν ∷ []) u8 .own e (u ∷ []))) (sep 𝓤 (A .lft (ν′ ∷ []) fullShare) (sem 𝓤 H A (MutSlice (named 2) (ν′ ∷ []) R .own x (s ∷ []))))))))
-      (𝓣 .C #sort (sliceVal (d .ptr) (length (d .now)) ∷ u ∷ vint w64 n ∷ s ∷ []) (λ w. H .⇛ (SortedBack κ q ν ν′ x (sortedOver (directoryOf (d .now)) n (x .now)) w)))
-  sort-runs κ q ν ν′ d e n x u s n-fits pre known =
-      let y : Sort .Ghost = (((κ, (ν ∷ [], (ν′ ∷ [], tt))), (q, (fullShare, (fullShare, tt))), tt, (d, (e, (n, (x, tt)))), (slice-vals d, (u ∷ [], (vint w64 n ∷ [], (s ∷ [], tt))))), tt) in
-      let last : List IndexRecord = sortedOver (directoryOf (d .now)) n (x .now) in
-      let args : List Val = sliceVal (d .ptr) (length (d .now)) ∷ u ∷ vint w64 n ∷ s ∷ [] in
-      via 𝓤 (Sort .pre y) (qed W (‵ (flft κ q) ∷ ‵ (ShrSlice (named 0) κ u8 .own d (slice-vals d)) ∷ ‵ (flft (ν ∷ []) fullShare) ∷ ‵ (ShrSlice (named 1) (ν ∷ []) u8 .own e (u ∷ [])) ∷ ‵ (flft (ν′ ∷ []) fullShare) ∷ ‵ (MutSlice (named 2) (ν′ ∷ []) R .own x (s ∷ [])) ∷ []) ∵ says ! pre $
-      nothing ! $ move ! (5 ∷ 0 ∷ []) $ join ! $ move ! (3 ∷ 0 ∷ []) $ join ! $ move ! (1 ∷ 0 ∷ []) $ join ! $ frame ! $
-      nothing ! $ move ! (3 ∷ 0 ∷ []) $ fjoin ! $ owned ! usize (Is usize) (uint-makes 𝓤 H A W w64) n _ (refl, n-fits) $ fjoin ! $ move ! (2 ∷ 0 ∷ []) $ fjoin ! $ move ! (1 ∷ 0 ∷ []) $ fjoin ! $ done !)
-      (via 𝓤 (𝓣 .C #sort args (Sort .post y)) (known y) (𝓣 .mono #sort args (Sort .post y) _ (λ w.
-      qed W (raw (Sort .post y w) ∷ []) ∵ updating {P = SortedBack κ q ν ν′ x last w} ! $
-      use1 W (later (some (λ (r : Unit {0}). ((‵ (flft κ q) ⊛ ‵ (flft (ν ∷ []) fullShare) ⊛ ‵ (flft (ν′ ∷ []) fullShare) ⊛ ‵ ftrue) ⊛ ‵ (unit .own r (w ∷ []))) ⊛ raw (ensured 𝓤 H A sort.ended (sort.clauses 𝓤 H A mem run) (κ, (ν ∷ [], (ν′ ∷ [], tt))) (d, (e, (n, (x, tt)))) tt r)))) (id⊢ 𝓤 _) $ await ! tt $ pick ! (λ r.
-      split ! $ move ! (1 ∷ []) $ use1 W (some (λ (ws : Unit {0} × (Unit {0} × (Unit {0} × (List IndexRecord × Unit {0})))). ‵ (lasts sort.ended (κ, (ν ∷ [], (ν′ ∷ [], tt))) (d, (e, (n, (x, tt)))) ws) ⊛ raw (fact 𝓤 (ws .1 .1 .1 .0 ≡ last)))) (id⊢ 𝓤 _) $ pick ! (λ ws.
-      split ! $ move ! (1 ∷ []) $ heard ! (ws .1 .1 .1 .0 ≡ last) (λ e.
-      fsplit ! $ drop ! $ fsplit ! $ drop ! $ fsplit ! $ drop ! $ fsplit ! $ fsplit ! $ move ! (1 ∷ []) $ feqL ! (λ l.
-      move ! (2 ∷ []) $ split ! $ move ! (1 ∷ []) $ peeks ! unit (Is unit) (shows 𝓤 H A unit) r (w ∷ []) (λ is. drop ! $ split ! $ move ! (1 ∷ []) $ split ! $ move ! (1 ∷ []) $ split ! $
-      -- [ν′'s token; true; ν's token; κ's token; the last records; true]
-      rewrite ! 4 (λ (l : List IndexRecord). ‵ (finally R (x .name) l)) e refl $
-      at-once ! $ move ! (3 ∷ 2 ∷ []) $ frame ! $ frame ! $ frame ! $ says ! (ap only is, subst (λ (l : List IndexRecord). length l ≡ length (x .now)) e l) $ keep ! (1 ∷ []) $ done !))))))))
+  fill-runs : (κ : Lft) (q : Share) (ν : ℕ) (d : RefT (List ℕ)) (n : ℕ) (x : RefT (List IndexRecord)) (s : Val) → n < 2 ^ 64 → (n ≤ length (x .now)) × EntriesThere (d .now) n → Triple 𝓤 (𝓣 .C #fill) Fill
+      → ent 𝓤 (sep 𝓤 (A .lft κ q) (sep 𝓤 (sem 𝓤 H A (ShrSlice (named 0) κ u8 .own d (slice-vals d))) (sep 𝓤 (A .lft (ν ∷ []) fullShare) (sem 𝓤 H A (MutSlice (named 1) (ν ∷ []) R .own x (s ∷ []))))))
+      (𝓣 .C #fill (sliceVal (d .ptr) (length (d .now)) ∷ vint w64 n ∷ s ∷ []) (λ w. H .⇛ (Filled κ q ν x (filledOver (directoryOf (d .now)) n (x .now)) w)))
+  fill-runs κ q ν d n x s n-fits pre known =
+      let y : Fill .Ghost = (((κ, (ν ∷ [], tt)), (q, (fullShare, tt)), tt, (d, (n, (x, tt))), (slice-vals d, (vint w64 n ∷ [], (s ∷ [], tt)))), tt) in
+      let last : List IndexRecord = filledOver (directoryOf (d .now)) n (x .now) in
+      let args : List Val = sliceVal (d .ptr) (length (d .now)) ∷ vint w64 n ∷ s ∷ [] in
+      via 𝓤 (Fill .pre y) (qed W (‵ (flft κ q) ∷ ‵ (ShrSlice (named 0) κ u8 .own d (slice-vals d)) ∷ ‵ (flft (ν ∷ []) fullShare) ∷ ‵ (MutSlice (named 1) (ν ∷ []) R .own x (s ∷ [])) ∷ []) ∵ says ! pre $
+      nothing ! $ move ! (3 ∷ 0 ∷ []) $ join ! $ move ! (1 ∷ 0 ∷ []) $ join ! $ frame ! $
+      nothing ! $ move ! (2 ∷ 0 ∷ []) $ fjoin ! $ owned ! usize (Is usize) (uint-makes 𝓤 H A W w64) n _ (refl, n-fits) $ fjoin ! $ move ! (1 ∷ 0 ∷ []) $ fjoin ! $ done !)
+      (via 𝓤 (𝓣 .C #fill args (Fill .post y)) (known y) (𝓣 .mono #fill args (Fill .post y) _ (λ w.
+      qed W (raw (Fill .post y w) ∷ []) ∵ updating {P = Filled κ q ν x last w} ! $
+      use1 W (later (some (λ (r : Unit {0}). ((‵ (flft κ q) ⊛ ‵ (flft (ν ∷ []) fullShare) ⊛ ‵ ftrue) ⊛ ‵ (unit .own r (w ∷ []))) ⊛ raw (ensured 𝓤 H A fill.ended (fill.clauses 𝓤 H A mem run) (κ, (ν ∷ [], tt)) (d, (n, (x, tt))) tt r)))) (id⊢ 𝓤 _) $ await ! tt $ pick ! (λ r.
+      split ! $ move ! (1 ∷ []) $ use1 W (some (λ (ws : Unit {0} × (Unit {0} × (List IndexRecord × Unit {0}))). ‵ (lasts fill.ended (κ, (ν ∷ [], tt)) (d, (n, (x, tt))) ws) ⊛ raw (fact 𝓤 (ws .1 .1 .0 ≡ last)))) (id⊢ 𝓤 _) $ pick ! (λ ws.
+      split ! $ move ! (1 ∷ []) $ heard ! (ws .1 .1 .0 ≡ last) (λ e.
+      fsplit ! $ drop ! $ fsplit ! $ drop ! $ fsplit ! $ fsplit ! $ move ! (1 ∷ []) $ feqL ! (λ l.
+      move ! (2 ∷ []) $ split ! $ move ! (1 ∷ []) $ peeks ! unit (Is unit) (shows 𝓤 H A unit) r (w ∷ []) (λ is. drop ! $ split ! $ move ! (1 ∷ []) $ split ! $
+      -- [ν's token; true; κ's token; the last records; true]
+      rewrite ! 3 (λ (l : List IndexRecord). ‵ (finally R (x .name) l)) e refl $
+      at-once ! $ move ! (2 ∷ []) $ frame ! $ frame ! $ says ! (ap only is, subst (λ (l : List IndexRecord). length l ≡ length (x .now)) e l) $ keep ! (1 ∷ []) $ done !))))))))
+
+  -- the only list that they can be arranged to is said
+  abbrev SortedBack : ℕ → RefT (List IndexRecord) → List IndexRecord → Val → SProp 𝓤
+  SortedBack ν x l w = sep 𝓤 (A .lft (ν ∷ []) fullShare) (sep 𝓤 (sem 𝓤 H A (finally R (x .name) l)) (fact 𝓤 ((w ≡ vunit) × (length l ≡ length (x .now)))))
+
+  sort-runs : (ν : ℕ) (x : RefT (List IndexRecord)) (n : ℕ) (s : Val) (last : List IndexRecord) → ((l : List IndexRecord) → Arranged n (x .now) l → l ≡ last) → n < 2 ^ 64 → (n ≤ length (x .now)) × (n ≤ 65536) → Triple 𝓤 (𝓣 .C #sort) Sort
+      → ent 𝓤 (sep 𝓤 (A .lft (ν ∷ []) fullShare) (sem 𝓤 H A (MutSlice (named 0) (ν ∷ []) R .own x (s ∷ [])))) (𝓣 .C #sort (s ∷ vint w64 n ∷ []) (λ w. H .⇛ (SortedBack ν x last w)))
+  sort-runs ν x n s last only-last n-fits pre known =
+      let y : Sort .Ghost = (((ν ∷ [], tt), (fullShare, tt), tt, (x, (n, tt)), (s ∷ [], (vint w64 n ∷ [], tt))), tt) in
+      via 𝓤 (Sort .pre y) (qed W (‵ (flft (ν ∷ []) fullShare) ∷ ‵ (MutSlice (named 0) (ν ∷ []) R .own x (s ∷ [])) ∷ []) ∵ says ! pre $ nothing ! $ move ! (1 ∷ 0 ∷ []) $ join ! $ frame ! $
+      nothing ! $ owned ! usize (Is usize) (uint-makes 𝓤 H A W w64) n _ (refl, n-fits) $ fjoin ! $ move ! (1 ∷ 0 ∷ []) $ fjoin ! $ done !)
+      (via 𝓤 (𝓣 .C #sort (s ∷ vint w64 n ∷ []) (Sort .post y)) (known y) (𝓣 .mono #sort (s ∷ vint w64 n ∷ []) (Sort .post y) _ (λ w.
+      qed W (raw (Sort .post y w) ∷ []) ∵ updating {P = SortedBack ν x last w} ! $
+      use1 W (later (some (λ (r : Unit {0}). ((‵ (flft (ν ∷ []) fullShare) ⊛ ‵ ftrue) ⊛ ‵ (unit .own r (w ∷ []))) ⊛ raw (ensured 𝓤 H A sort.ended (sort.clauses 𝓤 H A mem run) (ν ∷ [], tt) (x, (n, tt)) tt r)))) (id⊢ 𝓤 _) $ await ! tt $ pick ! (λ r.
+      split ! $ move ! (1 ∷ []) $ use1 W (some (λ (ws : List IndexRecord × (Unit {0} × Unit {0})). ‵ (lasts sort.ended (ν ∷ [], tt) (x, (n, tt)) ws) ⊛ raw (fact 𝓤 (Arranged n (x .now) (ws .0))))) (id⊢ 𝓤 _) $ pick ! (λ ws.
+      split ! $ move ! (1 ∷ []) $ heard ! (Arranged n (x .now) (ws .0)) (λ arranged. let e : ws .0 ≡ last = only-last (ws .0) arranged in
+      fsplit ! $ fsplit ! $ move ! (1 ∷ []) $ feqL ! (λ l.
+      move ! (2 ∷ []) $ split ! $ move ! (1 ∷ []) $ peeks ! unit (Is unit) (shows 𝓤 H A unit) r (w ∷ []) (λ is. drop ! $ split ! $
+      -- [ν's token; true; the last records; the number]
+      rewrite ! 2 (λ (l : List IndexRecord). ‵ (finally R (x .name) l)) e refl $
+      at-once ! $ frame ! $ says ! (ap only is, subst (λ (l : List IndexRecord). length l ≡ length (x .now)) e l) $ keep ! (1 ∷ []) $ done !))))))))
 
   abbrev Wrote : ℕ → ℕ → RefT (List ℕ) → List ℕ → Val → SProp 𝓤
   Wrote ν ν′ x l w = sep 𝓤 (A .lft (ν ∷ []) fullShare) (sep 𝓤 (A .lft (ν′ ∷ []) fullShare) (sep 𝓤 (sem 𝓤 H A (finally u8 (x .name) l)) (fact 𝓤 ((w ≡ vunit) × (length l ≡ length (x .now))))))
@@ -213,9 +243,12 @@ module _ {M : Type 1} (𝓤 : URA M) (H : Heap 𝓤) (A : Atoms 𝓤) (W : Given
   abbrev n : ℕ
   n = entriesIn answer
 
-  -- the output with its head, the sorted records, and the output with their bytes
+  -- the output with its head, the records as they come and sorted, and the output with their bytes
   abbrev hs : List ℕ
   hs = begun (checkOf (d .now) (length ys) os) (d .now) os
+
+  abbrev fs : List IndexRecord
+  fs = filledOver (directoryOf (d .now)) n ys
 
   abbrev zs : List IndexRecord
   zs = sortedOver (directoryOf (d .now)) n ys
@@ -253,7 +286,7 @@ module _ {M : Type 1} (𝓤 : URA M) (H : Heap 𝓤) (A : Atoms 𝓤) (W : Given
       nothing ! $ move ! (2 ∷ 0 ∷ []) $ fjoin ! $ move ! (1 ∷ 0 ∷ []) $ fjoin ! $ move ! (1 ∷ 0 ∷ []) $ fjoin ! $ frame ! $
       owned ! B (Is B) (answer-makes 𝓤 H A) answer (v ∷ []) v-is $ done !
 
-  module _ (𝓣 : Tables 𝓤 H) (known-begin : Triple 𝓤 (𝓣 .C #begin) (Begin 𝓤 H A W mem run 𝓣)) (known-entries : Triple 𝓤 (𝓣 .C #entries-in) (EntriesIn 𝓤 H A W mem run 𝓣)) (known-sort : Triple 𝓤 (𝓣 .C #sort) (Sort 𝓤 H A W mem run 𝓣)) (known-write : Triple 𝓤 (𝓣 .C #write) (Write 𝓤 H A W mem run 𝓣)) where
+  module _ (𝓣 : Tables 𝓤 H) (known-begin : Triple 𝓤 (𝓣 .C #begin) (Begin 𝓤 H A W mem run 𝓣)) (known-entries : Triple 𝓤 (𝓣 .C #entries-in) (EntriesIn 𝓤 H A W mem run 𝓣)) (known-fill : Triple 𝓤 (𝓣 .C #fill) (Fill 𝓤 H A W mem run 𝓣)) (known-sort : Triple 𝓤 (𝓣 .C #sort) (Sort 𝓤 H A W mem run 𝓣)) (known-write : Triple 𝓤 (𝓣 .C #write) (Write 𝓤 H A W mem run 𝓣)) where
     abbrev C : Calls 𝓤 H
     C = 𝓣 .C
 
@@ -265,6 +298,7 @@ module _ {M : Type 1} (𝓤 : URA M) (H : Heap 𝓤) (A : Atoms 𝓤) (W : Given
         let fit = fitting (d .now) ys os in
         let n-fits : n < 2 ^ 64 = omega (arith, fit .few) in
         let hlong : length hs ≡ length os = begun-long (d .now) ys os in
+        let flong : length fs ≡ length ys = filled-long (directoryOf (d .now)) ys n (fit .within) in
         qed W ((‵ (flft κ₀ q₀) ⊛ ‵ (flft κ₁ q₁) ⊛ ‵ (flft κ₂ q₂) ⊛ ‵ ftrue) ∷ ‵ (owns (ShrSlice (named 0) κ₀ u8 ∷ MutSlice (named 1) κ₁ R ∷ MutSlice (named 2) κ₂ u8 ∷ []) a vals) ∷ []) ∵ enter ! C Λ code.function (dv ∷ sv (length ys) ∷ ov ∷ []) _ $
         alloc1 ! (λ l₀. alloc1 ! (λ l₁. alloc1 ! (λ l₂. alloc1 ! (λ l₃. alloc1 ! (λ l₄. alloc1 ! (λ l₅. alloc1 ! (λ l₆. alloc1 ! (λ l₇. alloc1 ! (λ l₈. alloc1 ! (λ l₉. alloc1 ! (λ l₁₀. alloc1 ! (λ l₁₁. alloc1 ! (λ l₁₂. alloc1 ! (λ l₁₃. alloc1 ! (λ l₁₄. alloc1 ! (λ l₁₅. alloc1 ! (λ l₁₆. alloc1 ! (λ l₁₇. alloc0 ! $ params1 ! $
         pass1 ! (init ! 32 refl (tt, (tt, (record { fits = d-room .0 }, tt)))) $ pass1 ! (init ! 30 refl (tt, (tt, (record { fits = room .0 }, tt)))) $ pass1 ! (init ! 28 refl (tt, (tt, (record { fits = o-room .0 }, tt)))) $ pass0 ! $
@@ -292,43 +326,50 @@ module _ {M : Type 1} (𝓤 : URA M) (H : Heap 𝓤) (A : Atoms 𝓤) (W : Given
         (and-then ! (load ! (from ! (stop !)) (look ! 33 refl)) (no-more !)) (λ w₁.
         use1 W (later (raw (fact 𝓤 (w₁ ≡ vint w64 n)))) (id⊢ 𝓤 _) $ await ! tt $ heard ! (w₁ ≡ vint w64 n) (λ e₁.
         land ! (from ! (stop !)) (init ! 30 refl (subst (λ (u : Val). Holds (hasTy (tyInt w64) u) × WT u) (sym e₁) (tt, record { fits = n-fits }))) $ rewrite ! 30 (λ (u : Val). ‵ (fat fullShare (tyInt w64) l₅ 0 u)) e₁ refl $
-        -- `sort`: the bytes are lent as they are, and the records to be written
-        assigns ! (addr ! (from ! (fld ! refl (hop ! (look-in ! 34 (sub ! 0 refl (whole !))) (stop !))))) (from ! (stop !)) (init ! 20 refl (tt, tt)) $
-        assigns ! (agg ! (and-then ! (load ! (from ! (stop !)) (look ! 20 refl)) (and-then ! (load ! (from ! (fld ! refl (stop !))) (look-in ! 34 (sub ! 1 refl (whole !)))) (no-more !)))) (from ! (stop !)) (init ! 18 refl (tt, (tt, (record { fits = o-room .0 }, tt)))) $
+        -- `fill`: the records are lent to be written
+        assigns ! (addr ! (from ! (fld ! refl (hop ! (look-in ! 36 (sub ! 0 refl (whole !))) (stop !))))) (from ! (stop !)) (init ! 20 refl (tt, tt)) $
+        assigns ! (agg ! (and-then ! (load ! (from ! (stop !)) (look ! 20 refl)) (and-then ! (load ! (from ! (fld ! refl (stop !))) (look-in ! 36 (sub ! 1 refl (whole !)))) (no-more !)))) (from ! (stop !)) (init ! 18 refl (tt, (tt, (record { fits = room .0 }, tt)))) $
+        move ! (3 ∷ []) $ use1 W (‵ Dir ⊛ ‵ Dir) (shr-slice-copy 𝓤 H A W (named 0) κ₀ u8 .twice d (dv ∷ [])) $ split ! $
+        lft-new ! tt (λ ν₀. move ! (6 ∷ 7 ∷ []) $
+        use2 W (later (some (λ (δ₀ : GName). ‵ (MutSlice (named 1) (ν₀ ∷ []) R .own (x δ₀ ys) (sv (length ys) ∷ [])) ⊛ ‵ (LentAgain R κ₁ (ν₀ ∷ []) q₁ γ b o δ₀ ys)))) (lends-again R κ₁ (ν₀ ∷ []) q₁ γ b o 𝓤 H A W (named 1) (named 1) ys) $ await ! tt $ pick ! (λ δ₀. split ! $
+        move ! (7 ∷ 3 ∷ 2 ∷ 0 ∷ []) $ group ! 4 $
+        calls-from ! (fmOf 𝓤 H (W .laws) 𝓣) _ (dv ∷ vint w64 n ∷ sv (length ys) ∷ []) _ (fill-runs 𝓤 H A W mem run 𝓣 κ₀ q₀ ν₀ d n (x δ₀ ys) (sv (length ys)) n-fits (fit .within, fit .there) known-fill)
+        (and-then ! (load ! (from ! (stop !)) (look ! 37 refl)) (and-then ! (load ! (from ! (stop !)) (look ! 29 refl)) (and-then ! (load ! (from ! (stop !)) (look ! 17 refl)) (no-more !)))) (λ w₂.
+        use1 W (later (‵ (flft κ₀ q₀) ⊛ ‵ (flft (ν₀ ∷ []) fullShare) ⊛ ‵ (finally R δ₀ fs) ⊛ raw (fact 𝓤 ((w₂ ≡ vunit) × (length fs ≡ length ys))))) (id⊢ 𝓤 _) $ await ! tt $ split ! $ move ! (1 ∷ []) $ split ! $ move ! (1 ∷ []) $ split ! $ move ! (1 ∷ []) $
+        heard ! ((w₂ ≡ vunit) × (length fs ≡ length ys)) (λ f.
+        -- [the last records; ν₀'s token; κ₀'s token; what the lender keeps; the file; the bytes; κ₂'s token; the locals]
+        land ! (from ! (stop !)) (init ! 23 refl (subst (λ (u : Val). Holds (hasTy tyUnit u) × WT u) (sym (f .0)) (tt, tt))) $
+        move ! (1 ∷ []) $ lft-end ! tt $ move ! (0 ∷ 3 ∷ 1 ∷ []) $
+        use3 W (later (‵ (Recs fs (length ys)) ⊛ ‵ (flft κ₁ q₁))) (comes-back R κ₁ (ν₀ ∷ []) q₁ γ b o 𝓤 H A W (named 1) (named 1) ys δ₀ fs room (f .1)) $ await ! tt $ split ! $
+        -- [the records; κ₁'s token; κ₀'s token; the file; the bytes; κ₂'s token; the locals]: `sort`
         assigns ! (addr ! (from ! (fld ! refl (hop ! (look-in ! 36 (sub ! 0 refl (whole !))) (stop !))))) (from ! (stop !)) (init ! 16 refl (tt, tt)) $
         assigns ! (agg ! (and-then ! (load ! (from ! (stop !)) (look ! 16 refl)) (and-then ! (load ! (from ! (fld ! refl (stop !))) (look-in ! 36 (sub ! 1 refl (whole !)))) (no-more !)))) (from ! (stop !)) (init ! 14 refl (tt, (tt, (record { fits = room .0 }, tt)))) $
-        move ! (3 ∷ []) $ use1 W (‵ Dir ⊛ ‵ Dir) (shr-slice-copy 𝓤 H A W (named 0) κ₀ u8 .twice d (dv ∷ [])) $ split ! $
-        lft-new ! tt (λ ν₃. move ! (3 ∷ 4 ∷ []) $ rewrite ! 0 (λ (m : ℕ). ‵ (Bytes hs m)) (sym hlong) refl $
-        use2 W (later (some (λ (δ₃ : GName). ‵ (ShrSlice (named 1) (ν₃ ∷ []) u8 .own (x′ δ₃ hs) (ow (length hs) ∷ [])) ⊛ ‵ (LentShared u8 κ₂ (ν₃ ∷ []) q₂ γ′ b′ o′ hs)))) (lends-shared u8 κ₂ (ν₃ ∷ []) q₂ γ′ b′ o′ 𝓤 H A W (named 2) (named 1) hs) $ await ! tt $ pick ! (λ δ₃. split ! $
-        rewrite ! 0 (λ (m : ℕ). ‵ (ShrSlice (named 1) (ν₃ ∷ []) u8 .own (x′ δ₃ hs) (ow m ∷ []))) hlong refl $
-        -- [the bytes, lent; what their lender keeps; ν₃'s token; the file, twice; κ₀'s token; the records; κ₁'s token; the locals]
-        lft-new ! tt (λ ν₀. move ! (7 ∷ 8 ∷ []) $
-        use2 W (later (some (λ (δ₀ : GName). ‵ (MutSlice (named 2) (ν₀ ∷ []) R .own (x δ₀ ys) (sv (length ys) ∷ [])) ⊛ ‵ (LentAgain R κ₁ (ν₀ ∷ []) q₁ γ b o δ₀ ys)))) (lends-again R κ₁ (ν₀ ∷ []) q₁ γ b o 𝓤 H A W (named 1) (named 2) ys) $ await ! tt $ pick ! (λ δ₀. split ! $
-        move ! (8 ∷ 6 ∷ 5 ∷ 3 ∷ 2 ∷ 0 ∷ []) $ group ! 6 $
-        calls-from ! (fmOf 𝓤 H (W .laws) 𝓣) _ (dv ∷ ov ∷ vint w64 n ∷ sv (length ys) ∷ []) _ (sort-runs 𝓤 H A W mem run 𝓣 κ₀ q₀ ν₃ ν₀ d (x′ δ₃ hs) n (x δ₀ ys) ov (sv (length ys)) n-fits (fit .within, fit .there) known-sort)
-        (and-then ! (load ! (from ! (stop !)) (look ! 36 refl)) (and-then ! (load ! (from ! (stop !)) (look ! 16 refl)) (and-then ! (load ! (from ! (stop !)) (look ! 28 refl)) (and-then ! (load ! (from ! (stop !)) (look ! 12 refl)) (no-more !))))) (λ w₂.
-        use1 W (later (‵ (flft κ₀ q₀) ⊛ ‵ (flft (ν₃ ∷ []) fullShare) ⊛ ‵ (flft (ν₀ ∷ []) fullShare) ⊛ ‵ (finally R δ₀ zs) ⊛ raw (fact 𝓤 ((w₂ ≡ vunit) × (length zs ≡ length ys))))) (id⊢ 𝓤 _) $ await ! tt $ split ! $ move ! (1 ∷ []) $ split ! $ move ! (1 ∷ []) $ split ! $ move ! (1 ∷ []) $ split ! $ move ! (1 ∷ []) $
-        heard ! ((w₂ ≡ vunit) × (length zs ≡ length ys)) (λ f.
-        -- [the last records; ν₀'s token; ν₃'s token; κ₀'s token; what the records' lender keeps; and the bytes'; the file; the locals]
-        land ! (from ! (stop !)) (init ! 23 refl (subst (λ (u : Val). Holds (hasTy tyUnit u) × WT u) (sym (f .0)) (tt, tt))) $
-        move ! (1 ∷ []) $ lft-end ! tt $ move ! (0 ∷ 4 ∷ 1 ∷ []) $
-        use3 W (later (‵ (Recs zs (length ys)) ⊛ ‵ (flft κ₁ q₁))) (comes-back R κ₁ (ν₀ ∷ []) q₁ γ b o 𝓤 H A W (named 1) (named 2) ys δ₀ zs room (f .1)) $ await ! tt $ split ! $
-        move ! (2 ∷ []) $ lft-end ! tt $ move ! (0 ∷ 4 ∷ []) $
-        use2 W (later (‵ (Bytes hs (length hs)) ⊛ ‵ (flft κ₂ q₂))) (shared-back u8 κ₂ (ν₃ ∷ []) q₂ γ′ b′ o′ 𝓤 H A W (named 2) (named 1) hs (subst (Room u8) (sym hlong) o-room)) $ await ! tt $ split ! $
-        rewrite ! 0 (λ (m : ℕ). ‵ (Bytes hs m)) hlong refl $ move ! (2 ∷ 3 ∷ 4 ∷ 5 ∷ 0 ∷ 1 ∷ []) $
+        lft-new ! tt (λ ν₃. move ! (1 ∷ 2 ∷ []) $ rewrite ! 0 (λ (m : ℕ). ‵ (Recs fs m)) (sym flong) refl $
+        use2 W (later (some (λ (δ₃ : GName). ‵ (MutSlice (named 0) (ν₃ ∷ []) R .own (x δ₃ fs) (sv (length fs) ∷ [])) ⊛ ‵ (LentAgain R κ₁ (ν₃ ∷ []) q₁ γ b o δ₃ fs)))) (lends-again R κ₁ (ν₃ ∷ []) q₁ γ b o 𝓤 H A W (named 1) (named 0) fs) $ await ! tt $ pick ! (λ δ₃. split ! $
+        rewrite ! 0 (λ (m : ℕ). ‵ (MutSlice (named 0) (ν₃ ∷ []) R .own (x δ₃ fs) (sv m ∷ []))) flong refl $
+        move ! (2 ∷ 0 ∷ []) $ group ! 2 $
+        calls-from ! (fmOf 𝓤 H (W .laws) 𝓣) _ (sv (length ys) ∷ vint w64 n ∷ []) _ (sort-runs 𝓤 H A W mem run 𝓣 ν₃ (x δ₃ fs) n (sv (length ys)) zs (λ l arranged. arranged-sorted (directoryOf (d .now)) ys n l (fit .within) arranged) n-fits (omega (arith, fit .within, flong), omega (arith, fit .few)) known-sort)
+        (and-then ! (load ! (from ! (stop !)) (look ! 14 refl)) (and-then ! (load ! (from ! (stop !)) (look ! 30 refl)) (no-more !))) (λ w₄.
+        use1 W (later (‵ (flft (ν₃ ∷ []) fullShare) ⊛ ‵ (finally R δ₃ zs) ⊛ raw (fact 𝓤 ((w₄ ≡ vunit) × (length zs ≡ length fs))))) (id⊢ 𝓤 _) $ await ! tt $ split ! $ move ! (1 ∷ []) $ split ! $ move ! (1 ∷ []) $
+        heard ! ((w₄ ≡ vunit) × (length zs ≡ length fs)) (λ h₄. let zlong : length zs ≡ length ys = h₄ .1 ∙ flong in
+        -- [the last records; ν₃'s token; what the lender keeps; κ₀'s token; the file; the bytes; κ₂'s token; the locals]
+        land ! (from ! (stop !)) (store ! 23 refl (subst (λ (u : Val). Holds (hasTy tyUnit u) × WT u) (sym (h₄ .0)) (tt, tt))) $
+        move ! (1 ∷ []) $ lft-end ! tt $ move ! (0 ∷ 2 ∷ 1 ∷ []) $
+        use3 W (later (‵ (Recs zs (length fs)) ⊛ ‵ (flft κ₁ q₁))) (comes-back R κ₁ (ν₃ ∷ []) q₁ γ b o 𝓤 H A W (named 1) (named 0) fs δ₃ zs (subst (Room R) (sym flong) room) (h₄ .1)) $ await ! tt $ split ! $
+        rewrite ! 0 (λ (m : ℕ). ‵ (Recs zs m)) flong refl $
         -- [the records; κ₁'s token; κ₀'s token; the file; the bytes; κ₂'s token; the locals]: `write`
         assigns ! (addr ! (from ! (fld ! refl (hop ! (look-in ! 36 (sub ! 0 refl (whole !))) (stop !))))) (from ! (stop !)) (init ! 12 refl (tt, tt)) $
         assigns ! (agg ! (and-then ! (load ! (from ! (stop !)) (look ! 12 refl)) (and-then ! (load ! (from ! (fld ! refl (stop !))) (look-in ! 36 (sub ! 1 refl (whole !)))) (no-more !)))) (from ! (stop !)) (init ! 10 refl (tt, (tt, (record { fits = room .0 }, tt)))) $
         assigns ! (addr ! (from ! (fld ! refl (hop ! (look-in ! 34 (sub ! 0 refl (whole !))) (stop !))))) (from ! (stop !)) (init ! 8 refl (tt, tt)) $
         assigns ! (agg ! (and-then ! (load ! (from ! (stop !)) (look ! 8 refl)) (and-then ! (load ! (from ! (fld ! refl (stop !))) (look-in ! 34 (sub ! 1 refl (whole !)))) (no-more !)))) (from ! (stop !)) (init ! 6 refl (tt, (tt, (record { fits = o-room .0 }, tt)))) $
-        lft-new ! tt (λ ν₁. move ! (1 ∷ 2 ∷ []) $ rewrite ! 0 (λ (m : ℕ). ‵ (Recs zs m)) (sym (f .1)) refl $
+        lft-new ! tt (λ ν₁. move ! (1 ∷ 2 ∷ []) $ rewrite ! 0 (λ (m : ℕ). ‵ (Recs zs m)) (sym zlong) refl $
         use2 W (later (some (λ (δ₁ : GName). ‵ (ShrSlice (named 0) (ν₁ ∷ []) R .own (x δ₁ zs) (sv (length zs) ∷ [])) ⊛ ‵ (LentShared R κ₁ (ν₁ ∷ []) q₁ γ b o zs)))) (lends-shared R κ₁ (ν₁ ∷ []) q₁ γ b o 𝓤 H A W (named 1) (named 0) zs) $ await ! tt $ pick ! (λ δ₁. split ! $
-        rewrite ! 0 (λ (m : ℕ). ‵ (ShrSlice (named 0) (ν₁ ∷ []) R .own (x δ₁ zs) (sv m ∷ []))) (f .1) refl $
+        rewrite ! 0 (λ (m : ℕ). ‵ (ShrSlice (named 0) (ν₁ ∷ []) R .own (x δ₁ zs) (sv m ∷ []))) zlong refl $
         lft-new ! tt (λ ν₂. move ! (6 ∷ 7 ∷ []) $ rewrite ! 0 (λ (m : ℕ). ‵ (Bytes hs m)) (sym hlong) refl $
         use2 W (later (some (λ (δ₂ : GName). ‵ (MutSlice (named 1) (ν₂ ∷ []) u8 .own (x′ δ₂ hs) (ow (length hs) ∷ [])) ⊛ ‵ (LentAgain u8 κ₂ (ν₂ ∷ []) q₂ γ′ b′ o′ δ₂ hs)))) (lends-again u8 κ₂ (ν₂ ∷ []) q₂ γ′ b′ o′ 𝓤 H A W (named 2) (named 1) hs) $ await ! tt $ pick ! (λ δ₂. split ! $
         rewrite ! 0 (λ (m : ℕ). ‵ (MutSlice (named 1) (ν₂ ∷ []) u8 .own (x′ δ₂ hs) (ow m ∷ []))) hlong refl $
         move ! (5 ∷ 3 ∷ 2 ∷ 0 ∷ []) $ group ! 4 $
-        calls-from ! (fmOf 𝓤 H (W .laws) 𝓣) _ (sv (length ys) ∷ vint w64 n ∷ ov ∷ []) _ (write-runs 𝓤 H A W mem run 𝓣 ν₁ ν₂ (x δ₁ zs) n (x′ δ₂ hs) (sv (length ys)) ov n-fits (omega (arith, fit .within, f .1), omega (arith, fit .room, hlong)) known-write)
+        calls-from ! (fmOf 𝓤 H (W .laws) 𝓣) _ (sv (length ys) ∷ vint w64 n ∷ ov ∷ []) _ (write-runs 𝓤 H A W mem run 𝓣 ν₁ ν₂ (x δ₁ zs) n (x′ δ₂ hs) (sv (length ys)) ov n-fits (omega (arith, fit .within, zlong), omega (arith, fit .room, hlong)) known-write)
         (and-then ! (load ! (from ! (stop !)) (look ! 9 refl)) (and-then ! (load ! (from ! (stop !)) (look ! 29 refl)) (and-then ! (load ! (from ! (stop !)) (look ! 5 refl)) (no-more !)))) (λ w₃.
         use1 W (later (‵ (flft (ν₁ ∷ []) fullShare) ⊛ ‵ (flft (ν₂ ∷ []) fullShare) ⊛ ‵ (finally u8 δ₂ bs) ⊛ raw (fact 𝓤 ((w₃ ≡ vunit) × (length bs ≡ length hs))))) (id⊢ 𝓤 _) $ await ! tt $ split ! $ move ! (1 ∷ []) $ split ! $ move ! (1 ∷ []) $ split ! $ move ! (1 ∷ []) $
         heard ! ((w₃ ≡ vunit) × (length bs ≡ length hs)) (λ g.
@@ -338,21 +379,21 @@ module _ {M : Type 1} (𝓤 : URA M) (H : Heap 𝓤) (A : Atoms 𝓤) (W : Given
         use3 W (later (‵ (Bytes bs (length hs)) ⊛ ‵ (flft κ₂ q₂))) (comes-back u8 κ₂ (ν₂ ∷ []) q₂ γ′ b′ o′ 𝓤 H A W (named 2) (named 1) hs δ₂ bs (subst (Room u8) (sym hlong) o-room) (g .1)) $ await ! tt $ split ! $
         rewrite ! 0 (λ (m : ℕ). ‵ (Bytes bs m)) hlong refl $
         move ! (2 ∷ []) $ lft-end ! tt $ move ! (0 ∷ 3 ∷ []) $
-        use2 W (later (‵ (Recs zs (length zs)) ⊛ ‵ (flft κ₁ q₁))) (shared-back R κ₁ (ν₁ ∷ []) q₁ γ b o 𝓤 H A W (named 1) (named 0) zs (subst (Room R) (sym (f .1)) room)) $ await ! tt $ split ! $
-        rewrite ! 0 (λ (m : ℕ). ‵ (Recs zs m)) (f .1) refl $
+        use2 W (later (‵ (Recs zs (length zs)) ⊛ ‵ (flft κ₁ q₁))) (shared-back R κ₁ (ν₁ ∷ []) q₁ γ b o 𝓤 H A W (named 1) (named 0) zs (subst (Room R) (sym zlong) room)) $ await ! tt $ split ! $
+        rewrite ! 0 (λ (m : ℕ). ‵ (Recs zs m)) zlong refl $
         -- [the records; κ₁'s token; the bytes; κ₂'s token; κ₀'s token; the file; the locals]
         assigns ! (of-opd ! (load ! (from ! (stop !)) (look ! 32 refl))) (from ! (stop !)) (init ! 40 refl (answer-typed W answer v (h .0))) $
         returns ! (look ! 40 refl) $ forget ! 40 refl $ forget ! 38 refl $ forget ! 36 refl $ forget ! 34 refl $ forget ! 32 refl $ forget ! 30 refl $ forget ! 28 refl $ forget ! 26 refl $ forget ! 24 refl $ forget ! 22 refl $ forget ! 20 refl $ forget ! 18 refl $ forget ! 16 refl $ forget ! 14 refl $ forget ! 12 refl $ forget ! 10 refl $ forget ! 8 refl $ forget ! 6 refl $
         move ! (40 ∷ 41 ∷ []) $ free1 ! $ move ! (38 ∷ 39 ∷ []) $ free1 ! $ move ! (36 ∷ 37 ∷ []) $ free1 ! $ move ! (34 ∷ 35 ∷ []) $ free1 ! $ move ! (32 ∷ 33 ∷ []) $ free1 ! $ move ! (30 ∷ 31 ∷ []) $ free1 ! $ move ! (28 ∷ 29 ∷ []) $ free1 ! $ move ! (26 ∷ 27 ∷ []) $ free1 ! $ move ! (24 ∷ 25 ∷ []) $ free1 ! $ move ! (22 ∷ 23 ∷ []) $ free1 ! $ move ! (20 ∷ 21 ∷ []) $ free1 ! $ move ! (18 ∷ 19 ∷ []) $ free1 ! $ move ! (16 ∷ 17 ∷ []) $ free1 ! $ move ! (14 ∷ 15 ∷ []) $ free1 ! $ move ! (12 ∷ 13 ∷ []) $ free1 ! $ move ! (10 ∷ 11 ∷ []) $ free1 ! $ move ! (8 ∷ 9 ∷ []) $ free1 ! $ move ! (6 ∷ 7 ∷ []) $ free1 ! $ free0 ! $
-        by ! (exits v (h .0) (f .1) (g .1 ∙ hlong))))))))))))))))))))))))))))))))))))))
+        by ! (exits v (h .0) zlong (g .1 ∙ hlong))))))))))))))))))))))))))))))))))))))))
 
-module _ {M : Type 1} (𝓤 : URA M) (H : Heap 𝓤) (A : Atoms 𝓤) (W : Given 𝓤 H A) (mem : Memory → SProp 𝓤) (run : Routine → Fun 𝓤) (𝓣 : Tables 𝓤 H) (known-begin : Triple 𝓤 (𝓣 .C #begin) (Begin 𝓤 H A W mem run 𝓣)) (known-entries : Triple 𝓤 (𝓣 .C #entries-in) (EntriesIn 𝓤 H A W mem run 𝓣)) (known-sort : Triple 𝓤 (𝓣 .C #sort) (Sort 𝓤 H A W mem run 𝓣)) (known-write : Triple 𝓤 (𝓣 .C #write) (Write 𝓤 H A W mem run 𝓣)) where
+module _ {M : Type 1} (𝓤 : URA M) (H : Heap 𝓤) (A : Atoms 𝓤) (W : Given 𝓤 H A) (mem : Memory → SProp 𝓤) (run : Routine → Fun 𝓤) (𝓣 : Tables 𝓤 H) (known-begin : Triple 𝓤 (𝓣 .C #begin) (Begin 𝓤 H A W mem run 𝓣)) (known-entries : Triple 𝓤 (𝓣 .C #entries-in) (EntriesIn 𝓤 H A W mem run 𝓣)) (known-fill : Triple 𝓤 (𝓣 .C #fill) (Fill 𝓤 H A W mem run 𝓣)) (known-sort : Triple 𝓤 (𝓣 .C #sort) (Sort 𝓤 H A W mem run 𝓣)) (known-write : Triple 𝓤 (𝓣 .C #write) (Write 𝓤 H A W mem run 𝓣)) where
   build-walks : Walks 𝓤 H A build.ended stayed (WpFn 𝓤 H (𝓣 .C) (𝓣 .Λ) code.function) (build.clauses 𝓤 H A mem run)
   build-walks = walked 𝓤 H A build.ended stayed (build.clauses 𝓤 H A mem run) (WpFn 𝓤 H (𝓣 .C) (𝓣 .Λ) code.function)
       (λ κs. (slice-vals, (slice-vals, (slice-vals, tt)))) (λ κs. (shr-slice-tells (named 0) (κs .0) u8, (mut-slice-tells (named 1) (κs .1 .0) R, (mut-slice-tells (named 2) (κs .1 .1 .0) u8, tt))))
       (λ κs qs bounds a g are. via 𝓤 _ (fst∗ 𝓤 _ ((build.clauses 𝓤 H A mem run κs a) .requires g)) (
       walk 𝓤 H A W mem run (κs .0) (κs .1 .0) (κs .1 .1 .0) (qs .0) (qs .1 .0) (qs .1 .1 .0) (a .0) (a .1 .0 .ptr .0) (a .1 .0 .ptr .1) (a .1 .0 .name) (a .1 .0 .now) (a .1 .1 .0 .ptr .0) (a .1 .1 .0 .ptr .1) (a .1 .1 .0 .name) (a .1 .1 .0 .now)
-      (are .0 .0 .1) (are .1 .0 .0 .1) (are .1 .1 .0 .0 .1) 𝓣 known-begin known-entries known-sort known-write))
+      (are .0 .0 .1) (are .1 .0 .0 .1) (are .1 .1 .0 .0 .1) 𝓣 known-begin known-entries known-fill known-sort known-write))
 
   build-meets : Meets 𝓤 H A build.signature (WpFn 𝓤 H (𝓣 .C) (𝓣 .Λ) code.function) (build.spec 𝓤 H A mem run)
   build-meets =
@@ -367,5 +408,6 @@ build-spec 𝓤 H 𝓜 𝓖 𝓡 =
     (build-meets 𝓤 H (𝓖 .A) (givenOf 𝓤 H 𝓜 𝓖) (𝓜 .mem) (𝓡 .run) (tablesOf 𝓤 H 𝓜 (tables 𝓤 H 𝓜 𝓡 code.env))
     (cited 𝓤 H (tripleOf 𝓤 H (𝓖 .A) begin.signature (begin.spec 𝓤 H (𝓖 .A) (𝓜 .mem) (𝓡 .run))) 𝓜 𝓡 code.env #begin begin-def.routine code.calls-index-build·writing·begin (begin-thm.met 𝓤 H 𝓜 𝓖 𝓡))
     (cited 𝓤 H (tripleOf 𝓤 H (𝓖 .A) entries-in.signature (entries-in.spec 𝓤 H (𝓖 .A) (𝓜 .mem) (𝓡 .run))) 𝓜 𝓡 code.env #entries-in entries-in-def.routine code.calls-index-build·entries-in (entries-in-thm.met 𝓤 H 𝓜 𝓖 𝓡))
+    (cited 𝓤 H (tripleOf 𝓤 H (𝓖 .A) fill.signature (fill.spec 𝓤 H (𝓖 .A) (𝓜 .mem) (𝓡 .run))) 𝓜 𝓡 code.env #fill fill-def.routine code.calls-index-build·sorting·fill (fill-thm.met 𝓤 H 𝓜 𝓖 𝓡))
     (cited 𝓤 H (tripleOf 𝓤 H (𝓖 .A) sort.signature (sort.spec 𝓤 H (𝓖 .A) (𝓜 .mem) (𝓡 .run))) 𝓜 𝓡 code.env #sort sort-def.routine code.calls-index-build·sorting·sort (sort-thm.met 𝓤 H 𝓜 𝓖 𝓡))
     (cited 𝓤 H (tripleOf 𝓤 H (𝓖 .A) write.signature (write.spec 𝓤 H (𝓖 .A) (𝓜 .mem) (𝓡 .run))) 𝓜 𝓡 code.env #write write-def.routine code.calls-index-build·writing·write (write-thm.met 𝓤 H 𝓜 𝓖 𝓡)))

@@ -1,4 +1,5 @@
--- `index_find::believed` meets its contract: the number is one of an entry, and the entry has the name. Assumes nothing.
+-- `index_find::believed` meets its contract: the number is one of an entry, and the entry has the name. Assumes
+-- nothing.
 use mathlib.Core.List.{List}
 use mathlib.Core.Path.{_≡_, sym, ap, _∙_}
 use Prim.Native.Nat.{ℕ}

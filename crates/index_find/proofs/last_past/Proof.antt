@@ -1,57 +1,45 @@
--- `index_find::last_past` meets its contract: the record before the end of those gone past. Assumes nothing.
-use Prim.Native.Nat.{ℕ, _+_, _-_}
-use mathlib.Core.Bool.{Bool, cond}
-use mathlib.Core.Path.{_≡_, sym, ap, _∙_}
+-- `index_find::last_past` meets its contract: the search has told whether the last record gone past is equal. Assumes
+-- nothing.
+use Prim.Native.Nat.{ℕ, _+_}
+use mathlib.Core.Path.{sym, ap, _∙_}
+use native.Mathlib.Omega.{arith}
 use borrow.Author.Needs.{needs}
 use denote.Ref.{now}
 use Rattle.endian.specs.Unsigned.{u16At}
-use Rattle.refusal.specs.declared.Refusal.the-variants.{MapMissing}
-use Rattle.name.specs.Names.{sameBytes}
-use Rattle.wad.specs.declared.map.Marker.the-variants.{Refused as NoMarker}
-use Rattle.index.specs.Records.{padded}
-use Rattle.index_find.specs.Finding.{nameIn, numberIn, believed}
-use Rattle.index_find.proofs.Turns.{last-none, last-some}
+use Rattle.index_find.specs.Finding.{isEqual, believed}
+use Rattle.index_find.proofs.Turns.{last-some, last-equal, last-other}
 use Rattle.index_find.proofs.last_past.Statement.{statement}
 use Rattle.index_find.proofs.last_past.Tie as tie
 
-same : (c : tie.After-same-bytes)
-    → c .same-bytes .result
-    ≡ sameBytes (nameIn (now (c .before .before .before .before .before .before .before .before .before .args .index))
-    (c .before .before .before .before .before .before .before .before .before .args .past - 1))
-    (padded (now (c .before .before .before .before .before .before .before .before .before .args .name)))
-same c =
-    rw (
-      c .same-bytes .ensures,
-      c .before .before .part .ensures .0,
-      c .before .before .before .padded .ensures,
-      c .before .before .before .before .record-place .ensures,
-    )
+sub-record-place : tie.Need-sub-record-place
+sub-record-place c =
+    let s = c .before .before .before .before .before in
+    let a = s .args in
+    last-some (isEqual (now (a .index)) (now (a .name))) (a .gone .past) (sym (s .pre .1 .1) ∙ c .before .if1 .taken)
+
+u16-at-requires : tie.Need-u16-at-requires
+u16-at-requires c κs =
+    let s = c .before .before .before .before .before .before in
+    let a = s .args in
+    let some = last-some (isEqual (now (a .index)) (now (a .name))) (a .gone .past) (sym (s .pre .1 .1) ∙ c .before .before .if1 .taken) in
+    omega (arith, some, c .record-place .ensures, s .pre .1 .0 .1)
 
 returns : tie.Need-returns
 returns c =
-    let a = c .before .before .before .before .args in
-    last-none (now (a .dir)) (a .count) (now (a .index)) (now (a .name)) (a .past) (c .if1 .taken)
+    let s = c .before .before .before .before .before .before .before .before in
+    let a = s .args in
+    let number = c .before .u16-at .ensures ∙ ap (λ (at : ℕ). u16At (now (a .index)) (at + 8)) (c .before .before .record-place .ensures) in
+    c .believed .ensures ∙ ap (believed (now (a .dir)) (a .count) (now (a .name))) number
+    ∙ last-equal (now (a .dir)) (a .count) (now (a .index)) (now (a .name)) (a .gone .past) (sym (s .pre .1 .1) ∙ c .before .before .before .before .if1 .taken)
 
 returns-2 : tie.Need-returns-2
 returns-2 c =
-    let t = c .before .before .before in
-    let a = t .before .before .before .before .before .before .before .before .before .args in
-    let number = c .before .u16-at .ensures ∙ ap (λ (at : ℕ). u16At (now (a .index)) (at + 8)) (t .before .before .before .before .record-place .ensures) in
-    let told = believed (now (a .dir)) (a .count) (now (a .name)) (numberIn (now (a .index)) (a .past - 1)) in
-    c .believed .ensures ∙ ap (believed (now (a .dir)) (a .count) (now (a .name))) number
-    ∙ ap (λ (b : Bool). cond b told (NoMarker MapMissing)) (sym (c .before .before .if2 .taken) ∙ same t)
-    ∙ last-some (now (a .dir)) (a .count) (now (a .index)) (now (a .name)) (a .past) (search needs)
-
-returns-3 : tie.Need-returns-3
-returns-3 c =
-    let t = c .before in
-    let a = t .before .before .before .before .before .before .before .before .before .args in
-    let told = believed (now (a .dir)) (a .count) (now (a .name)) (numberIn (now (a .index)) (a .past - 1)) in
-    ap (λ (b : Bool). cond b told (NoMarker MapMissing)) (sym (c .if2 .left) ∙ same t)
-    ∙ last-some (now (a .dir)) (a .count) (now (a .index)) (now (a .name)) (a .past) (search needs)
+    let s = c .before .before .before .before in
+    let a = s .args in
+    last-other (now (a .dir)) (a .count) (now (a .index)) (now (a .name)) (a .gone .past) (sym (s .pre .1 .1) ∙ c .if1 .left)
 
 pub last-past-spec : {M : Type 1} → statement M
 last-past-spec =
     tie.close
-    (tie.spec returns (λ c. search needs) (λ c κs. search needs) (λ c κs. search needs) (λ c κs. search needs) (λ c. search needs)
-    (λ c κs. search needs) (λ c. search needs) (λ c κs. search needs) (λ c. search needs) (λ c κs. search needs) returns-2 returns-3)
+    (tie.spec sub-record-place (λ c κs. search needs) (λ c. search needs) u16-at-requires (λ c. search needs) (λ c κs. search needs) returns
+    returns-2)
