@@ -6,20 +6,20 @@ use native.Mathlib.Nat.{le-trans}
 use native.Mathlib.Omega.{arith}
 use lib.ListN.{length}
 use Rattle.refusal.proofs.Checks.{andThen-pass}
-use Rattle.directory.specs.Header.{headOf, entryCount}
-use Rattle.directory.specs.Entries.{directoryOf}
-use Rattle.table.specs.Lumps.{mostCount}
-use Rattle.lump.proofs.Places.{each-place}
-use Rattle.run.specs.Run.{runCheck}
-use Rattle.level.specs.declared.Verdict.the-variants.{Accepted}
-use Rattle.lumps_check.specs.Lumps.{lumpsCheck}
-use Rattle.level.specs.Verdict.{verdict}
-use Rattle.level.proofs.Passing.{run-long, counts}
-use Rattle.lumps_check.proofs.Passing.{count-most}
-use Rattle.level.proofs.Answers.{marker-known}
-use Rattle.demands.proofs.Demands.{known}
+use Rattle.wad.specs.Header.{headOf, entryCount}
+use Rattle.wad.specs.Entries.{directoryOf}
+use Rattle.record_table.specs.Lumps.{mostCount}
+use Rattle.map_lumps.proofs.Places.{each-place}
+use Rattle.map_lumps.specs.Run.{runCheck}
+use Rattle.map_check.specs.declared.Verdict.the-variants.{Accepted}
+use Rattle.map_check.specs.Lumps.{lumpsCheck}
+use Rattle.map_check.specs.Verdict.{verdict}
+use Rattle.map_check.proofs.Passing.{run-long, counts}
+use Rattle.map_check.proofs.CountsPassing.{count-most}
+use Rattle.map_check.proofs.Answers.{marker-known}
+use Rattle.theorem_map.proofs.Demands.{known}
 use Rattle.difference.specs.Differences.{gameIn, lumpsIn}
-use Rattle.difference.specs.Inner.{MapIn, Numbered}
+use Rattle.difference.specs.Inner.Lumps.{MapIn, Numbered}
 
 -- no lump has more records than 16 bits can number
 most-few : (place : ℕ) → 1 ≤ place → place ≤ 10 → mostCount place ≤ 65535

@@ -15,12 +15,12 @@ use Rattle.refusal.specs.declared.Refusal.the-variants.{DifferenceRoom, Differe
 use Rattle.refusal.specs.Checks.{unless, _andThen_}
 use Rattle.layout.specs.Rows.{sumOf}
 use Rattle.layout.specs.Buffers.{bufferAfter}
-use Rattle.level.specs.declared.Verdict.{Verdict}
-use Rattle.level.specs.declared.Verdict.the-variants.{Accepted, Refused as NotAccepted}
-use Rattle.level.specs.Verdict.{verdict, wordsAfter}
+use Rattle.map_check.specs.declared.Verdict.{Verdict}
+use Rattle.map_check.specs.declared.Verdict.the-variants.{Accepted, Refused as NotAccepted}
+use Rattle.map_check.specs.Verdict.{verdict, wordsAfter}
 use Rattle.difference.specs.declared.Differences.{Differences}
 use Rattle.difference.specs.Differences.{changesAt, changesIn, changeCounts, gameIn, lumpsIn, sameGame, changeList, pairCheck, neither, oldFile, newFile, refusedIn, pairAnswer, differencesBy, listBy, wordsThenBy, Differ}
-use Rattle.difference.specs.Inner.{Compared, Then}
+use Rattle.difference.specs.Inner.Lumps.{Compared, Then}
 use Rattle.difference.proofs.Lumps.{sum-eight, length-eight}
 
 pub same-game : (a b : Bool) → sameGame a b ≡ true → a ≡ b

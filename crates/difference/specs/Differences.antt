@@ -11,16 +11,16 @@ use Rattle.refusal.specs.declared.Refusal.the-variants.{DifferenceRoom, Differe
 use Rattle.refusal.specs.Checks.{unless, _andThen_}
 use Rattle.layout.specs.Rows.{laidOut}
 use Rattle.layout.specs.Buffers.{bufferAfter}
-use Rattle.directory.specs.Header.{headOf, entryCount}
-use Rattle.directory.specs.Entries.{directoryOf}
-use Rattle.table.specs.Lumps.{recordSize}
-use Rattle.lump.specs.Lumps.{mapLumps, mapLump}
-use Rattle.run.specs.Games.{gameAt}
-use Rattle.level.specs.declared.Verdict.{Verdict}
-use Rattle.level.specs.declared.Verdict.the-variants.{Accepted, Refused as NotAccepted}
-use Rattle.level.specs.Verdict.{verdict, wordsAfter}
+use Rattle.wad.specs.Header.{headOf, entryCount}
+use Rattle.wad.specs.Entries.{directoryOf}
+use Rattle.record_table.specs.Lumps.{recordSize}
+use Rattle.map_lumps.specs.Lumps.{mapLumps, mapLump}
+use Rattle.map_lumps.specs.Games.{gameAt}
+use Rattle.map_check.specs.declared.Verdict.{Verdict}
+use Rattle.map_check.specs.declared.Verdict.the-variants.{Accepted, Refused as NotAccepted}
+use Rattle.map_check.specs.Verdict.{verdict, wordsAfter}
 use Rattle.difference.specs.declared.Differences.{Differences}
-use Rattle.change.specs.Records.{changes}
+use Rattle.difference.specs.Records.{changes}
 
 -- ---- two maps' lumps
 

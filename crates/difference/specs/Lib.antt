@@ -1,4 +1,5 @@
--- What changed between two maps. Assumes nothing.
+-- Which records of a lump changed. What changed between two maps. Assumes nothing.
 
-pub mod Differences
+pub mod Records
 pub mod Inner
+pub mod Differences

@@ -1,12 +1,14 @@
 // What changed between two maps (W-213): the numbers of the records that the new one has otherwise, lump by lump. The definitions are in
 // specs/.
+mod change;
 mod places;
+mod records;
 
 ghost use mathlib.Core.Path.{_≡_};
 ghost use Rattle.refusal.specs.declared.Check.the-variants.{Refused};
 ghost use Rattle.difference.specs.Differences.{gameIn, lumpsIn, sameGame, refusedIn, Differ};
-ghost use Rattle.difference.specs.Inner.{MapIn, Numbered, Compared, Then};
-use level::Verdict;
+ghost use Rattle.difference.specs.Inner.Lumps.{MapIn, Numbered, Compared, Then};
+use map_check::Verdict;
 use refusal::Check;
 use refusal::Refusal;
 
@@ -36,7 +38,7 @@ pub fn compare_maps(
 ) -> Differences
     ensures { λ r. ⌜ Differ (now («old_wad» .entry)) (now («old_name» .entry)) (now («new_wad» .entry)) (now («new_name» .entry)) (now (words .entry)) (now (list .entry)) r (now (words .exit)) (now (list .exit)) ⌝ }
 {
-    match level::judge_map(old_wad, old_name, words) {
+    match map_check::judge_map(old_wad, old_name, words) {
         Verdict::Accepted { depth, marker } => then_new(
             old_wad,
             depth,
@@ -73,7 +75,7 @@ fn then_new(
     requires { ⌜ MapIn (now «old_wad») old ⌝ }
     ensures { λ r. ⌜ Then (now («old_wad» .entry)) depth old (now («new_wad» .entry)) (now («new_name» .entry)) (now (words .entry)) (now (list .entry)) r (now (words .exit)) (now (list .exit)) ⌝ }
 {
-    match level::judge_map(new_wad, new_name, words) {
+    match map_check::judge_map(new_wad, new_name, words) {
         Verdict::Accepted { depth: _, marker } => compare_accepted(
             old_wad,
             old,
@@ -117,11 +119,7 @@ fn game_in(wad: &[u8], marker: usize) -> bool
     requires { ⌜ MapIn (now wad) marker ⌝ }
     ensures { λ r. ⌜ r ≡ gameIn (now (wad .entry)) marker ⌝ }
 {
-    run::game_at(
-        directory::directory_of(wad),
-        directory::entry_count(wad),
-        marker,
-    )
+    map_lumps::game_at(wad::directory_of(wad), wad::entry_count(wad), marker)
 }
 
 fn same_game(a: bool, b: bool) -> bool

@@ -5,18 +5,18 @@ ghost use lib.Dec.{leb};
 ghost use lib.ListN.{length, getD};
 ghost use lib.Seq.{sets};
 ghost use Rattle.layout.specs.Rows.{sumOf};
-ghost use Rattle.lump.specs.Lumps.{mapLump};
+ghost use Rattle.map_lumps.specs.Lumps.{mapLump};
 ghost use Rattle.difference.specs.Differences.{lumpsIn, changesAt, changesIn, changeCounts};
-ghost use Rattle.difference.specs.Inner.{MapIn, Numbered};
-use change::count_changes;
-use change::write_changes;
+ghost use Rattle.difference.specs.Inner.Lumps.{MapIn, Numbered};
+use crate::change::count_changes;
+use crate::change::write_changes;
 
 // The lump at a place of the map at a marker.
 fn lump_in(wad: &[u8], marker: usize, place: usize) -> &[u8]
     requires { ⌜ MapIn (now wad) marker × (1 ≤ place) × (place ≤ 10) ⌝ }
     ensures { λ r. ⌜ now r ≡ mapLump (lumpsIn (now (wad .entry)) marker) place ⌝ }
 {
-    lump::map_lump(wad, directory::directory_of(wad), marker, place)
+    map_lumps::map_lump(wad, wad::directory_of(wad), marker, place)
 }
 
 fn count_place(
@@ -30,7 +30,7 @@ fn count_place(
     requires { ⌜ MapIn (now «old_wad») old × MapIn (now «new_wad») new × (1 ≤ place) × (place ≤ 8) ⌝ }
     ensures { λ r. ⌜ r ≡ length (changesAt hexen (lumpsIn (now («old_wad» .entry)) old) (lumpsIn (now («new_wad» .entry)) new) place) ⌝ }
 {
-    let size = table::record_size(hexen, place);
+    let size = record_table::record_size(hexen, place);
     count_changes(
         lump_in(old_wad, old, place),
         lump_in(new_wad, new, place),
@@ -79,7 +79,7 @@ fn write_place(
     ensures { λ r. ⌜ r ≡ at + length (changesAt hexen (lumpsIn (now («old_wad» .entry)) old) (lumpsIn (now («new_wad» .entry)) new) place) ⌝ }
     ensures { λ _. ⌜ now (list .exit) ≡ sets (now (list .entry)) at (changesAt hexen (lumpsIn (now («old_wad» .entry)) old) (lumpsIn (now («new_wad» .entry)) new) place) ⌝ }
 {
-    let size = table::record_size(hexen, place);
+    let size = record_table::record_size(hexen, place);
     write_changes(
         lump_in(old_wad, old, place),
         lump_in(new_wad, new, place),

@@ -4,11 +4,11 @@ use Prim.Native.Nat.{ℕ}
 use mathlib.Core.List.{List}
 use mathlib.Core.Path.{_≡_}
 use lib.ListN.{length}
-use Rattle.level.specs.Verdict.{verdict, wordsAfter}
+use Rattle.map_check.specs.Verdict.{verdict, wordsAfter}
 use Rattle.difference.specs.declared.Differences.{Differences}
 use Rattle.difference.specs.Differences.{differencesBy, wordsThenBy, listBy}
 use Rattle.export_differences.specs.declared.DifferencesAnswer.{DifferencesAnswer}
-use Rattle.status.specs.Status.{statusOf}
+use Rattle.refusal.specs.Status.{statusOf}
 
 -- the check, the file that it refused, and how many records of each lump are listed
 abbrev pub differencesOut : Differences → DifferencesAnswer

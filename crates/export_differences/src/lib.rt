@@ -1,8 +1,8 @@
 // What changed between two maps, as C and Rust ask for it.
 ghost use mathlib.Core.Path.{_≡_};
 ghost use Rattle.export_differences.specs.Differences.{DifferencesGiven};
-use status::Status;
-use status::status_of;
+use refusal::Status;
+use refusal::status_of;
 
 // The file is noted with a refusal of a map: 1 the old one, 2 the new one. The counts are those of the eight lumps of records, 0 with a
 // refusal.

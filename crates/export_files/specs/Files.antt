@@ -1,7 +1,7 @@
 -- Answers on a file's directory. Assumes nothing.
 use Prim.Native.Nat.{ℕ}
-use Rattle.directory.specs.declared.entries.Directory.{Directory}
-use Rattle.directory.specs.declared.entries.Directory.the-variants.{Listed, Refused as NotListed}
+use Rattle.wad.specs.declared.entries.Directory.{Directory}
+use Rattle.wad.specs.declared.entries.Directory.the-variants.{Listed, Refused as NotListed}
 use Rattle.wad.specs.declared.lumps.Entry.{Entry}
 use Rattle.wad.specs.declared.lumps.Entry.the-variants.{At, Refused as NotThere}
 use Rattle.wad.specs.declared.map.Marker.{Marker}
@@ -10,7 +10,7 @@ use Rattle.wad.specs.declared.map.MarkerSearch.{MarkerSearch}
 use Rattle.export_files.specs.declared.DirectoryAnswer.{DirectoryAnswer}
 use Rattle.export_files.specs.declared.EntryAnswer.{EntryAnswer}
 use Rattle.export_files.specs.declared.MarkerAnswer.{MarkerAnswer}
-use Rattle.status.specs.Status.{accepted, refused}
+use Rattle.refusal.specs.Status.{accepted, refused}
 
 -- count of lumps and start of the directory
 abbrev pub directoryOut : Directory → DirectoryAnswer

@@ -1,13 +1,13 @@
 // A file's directory.
 ghost use mathlib.Core.Path.{_≡_};
-ghost use Rattle.directory.specs.Entries.{directoryAnswer};
+ghost use Rattle.wad.specs.Entries.{directoryAnswer};
 ghost use Rattle.wad.specs.Lump.{entryAnswer};
 ghost use Rattle.wad.specs.Map.{searchAnswer};
 ghost use Rattle.export_files.specs.Files.{directoryOut, entryOut, markerOut};
-use directory::Directory;
-use status::Status;
-use status::nothing_refused;
-use status::refused;
+use refusal::Status;
+use refusal::nothing_refused;
+use refusal::refused;
+use wad::Directory;
 use wad::Entry;
 use wad::Marker;
 
@@ -38,7 +38,7 @@ pub struct MarkerAnswer {
 pub extern "C" fn meshpigeon_directory(wad: &[u8]) -> DirectoryAnswer
     ensures { λ r. ⌜ r ≡ directoryOut (directoryAnswer (now (wad .entry))) ⌝ }
 {
-    match directory::judge_directory(wad) {
+    match wad::judge_directory(wad) {
         Directory::Listed { count, start } => DirectoryAnswer {
             status: nothing_refused(),
             count,

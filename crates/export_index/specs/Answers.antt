@@ -5,8 +5,8 @@ use mathlib.Core.Path.{_≡_}
 use Rattle.wad.specs.declared.map.Marker.{Marker}
 use Rattle.wad.specs.declared.map.Marker.the-variants.{Entry, Refused as NoEntry}
 use Rattle.wad.specs.declared.map.MarkerSearch.{MarkerSearch}
-use Rattle.status.specs.declared.Status.{Status}
-use Rattle.status.specs.Status.{accepted, refused, statusOf}
+use Rattle.refusal.specs.declared.status.Status.{Status}
+use Rattle.refusal.specs.Status.{accepted, refused, statusOf}
 use Rattle.index_check.specs.Checking.{indexCheck}
 use Rattle.index_find.specs.Finding.{findAnswer}
 use Rattle.export_index.specs.declared.IndexAnswer.{IndexAnswer}
@@ -20,9 +20,9 @@ abbrev pub entryWith : ℕ → Marker → IndexAnswer
 entryWith compared (Entry entry) = record { status = accepted; entry = entry; compared = compared }
 entryWith compared (NoEntry r) = record { status = refused r; entry = 0; compared = compared }
 
-abbrev pub entryOut : MarkerSearch → IndexAnswer
-entryOut search = entryWith (search .compared) (search .marker)
+abbrev pub indexEntryOut : MarkerSearch → IndexAnswer
+indexEntryOut search = entryWith (search .compared) (search .marker)
 
 -- the lookup's answer
 abbrev pub IndexFound : List ℕ → List ℕ → List ℕ → IndexAnswer → Type 0
-IndexFound wad index name answer = answer ≡ entryOut (findAnswer wad index name)
+IndexFound wad index name answer = answer ≡ indexEntryOut (findAnswer wad index name)

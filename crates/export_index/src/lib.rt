@@ -1,10 +1,12 @@
 // A name index beside a file: its full check, and the lookup by it.
+mod build;
+
 ghost use mathlib.Core.Path.{_≡_};
 ghost use Rattle.export_index.specs.Answers.{IndexJudged, IndexFound};
-use status::Status;
-use status::nothing_refused;
-use status::refused;
-use status::status_of;
+use refusal::Status;
+use refusal::nothing_refused;
+use refusal::refused;
+use refusal::status_of;
 use wad::Marker;
 
 #[repr(C)]

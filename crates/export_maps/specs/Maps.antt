@@ -5,22 +5,22 @@ use mathlib.Core.Path.{_≡_}
 use Prim.Native.Nat.{ℕ}
 use lib.IntN.{ℤ}
 use lib.ListN.{length}
-use Rattle.level.specs.declared.Verdict.{Verdict}
-use Rattle.level.specs.declared.Verdict.the-variants.{Accepted, Refused as NotAccepted}
-use Rattle.run.specs.declared.Game.{Game}
-use Rattle.run.specs.declared.Game.the-variants.{Doom, Hexen, Refused as NoGame}
-use Rattle.level.specs.Verdict.{verdict, wordsAfter}
-use Rattle.bsp.specs.declared.Descent.{Descent}
-use Rattle.bsp.specs.declared.Descent.the-variants.{Found, Refused as NotFound}
-use Rattle.draw.specs.declared.Order.{Order}
-use Rattle.draw.specs.declared.Order.the-variants.{Listed, Refused as NotListed}
-use Rattle.draw.specs.Lists.{drawOrder}
-use Rattle.draw.specs.Promises.{answerOf, wordsDrawn}
+use Rattle.map_check.specs.declared.Verdict.{Verdict}
+use Rattle.map_check.specs.declared.Verdict.the-variants.{Accepted, Refused as NotAccepted}
+use Rattle.map_lumps.specs.declared.run.Game.{Game}
+use Rattle.map_lumps.specs.declared.run.Game.the-variants.{Doom, Hexen, Refused as NoGame}
+use Rattle.map_check.specs.Verdict.{verdict, wordsAfter}
+use Rattle.node_descent.specs.declared.Descent.{Descent}
+use Rattle.node_descent.specs.declared.Descent.the-variants.{Found, Refused as NotFound}
+use Rattle.draw_order.specs.declared.Order.{Order}
+use Rattle.draw_order.specs.declared.Order.the-variants.{Listed, Refused as NotListed}
+use Rattle.draw_order.specs.Lists.{drawOrder}
+use Rattle.draw_order.specs.Promises.{orderAnswer, wordsDrawn}
 use Rattle.export_maps.specs.declared.MapAnswer.{MapAnswer}
 use Rattle.export_maps.specs.declared.GameAnswer.{GameAnswer}
 use Rattle.export_maps.specs.declared.DescentAnswer.{DescentAnswer}
 use Rattle.export_maps.specs.declared.OrderAnswer.{OrderAnswer}
-use Rattle.status.specs.Status.{accepted, refused}
+use Rattle.refusal.specs.Status.{accepted, refused}
 
 -- depth and marker of an accepted map
 abbrev pub mapOut : Verdict → MapAnswer
@@ -50,5 +50,5 @@ orderOut (NotListed r) = record { status = refused r; count = 0 }
 
 -- the draw order's answer, and the words afterwards
 pub record OrderDrawn (nodes : List ℕ) (subsectors : ℕ) (x y : ℤ) (words : List ℕ) (answer : OrderAnswer) (after : List ℕ) : Type 0 where
-  pub answers : answer ≡ orderOut (answerOf (drawOrder nodes subsectors x y (length words)))
+  pub answers : answer ≡ orderOut (orderAnswer (drawOrder nodes subsectors x y (length words)))
   pub leaves : after ≡ wordsDrawn nodes subsectors x y words

@@ -1,15 +1,15 @@
 // A map, its game, a point's descent, and its draw order.
 ghost use mathlib.Core.Path.{_≡_};
-ghost use Rattle.bsp.specs.Walks.{descent};
-ghost use Rattle.run.specs.Games.{gameAnswer};
+ghost use Rattle.node_descent.specs.Walks.{descent};
+ghost use Rattle.map_lumps.specs.Games.{gameAnswer};
 ghost use Rattle.export_maps.specs.Maps.{MapJudged, gameOut, descentOut, OrderDrawn};
-use bsp::Descent;
-use draw::Order;
-use level::Verdict;
-use run::Game;
-use status::Status;
-use status::nothing_refused;
-use status::refused;
+use draw_order::Order;
+use map_check::Verdict;
+use map_lumps::Game;
+use node_descent::Descent;
+use refusal::Status;
+use refusal::nothing_refused;
+use refusal::refused;
 
 #[repr(C)]
 pub struct MapAnswer {
@@ -42,7 +42,7 @@ pub struct OrderAnswer {
 pub extern "C" fn meshpigeon_judge_map(wad: &[u8], name: &[u8], words: &mut [u16]) -> MapAnswer
     ensures { λ r. ⌜ MapJudged (now (wad .entry)) (now (name .entry)) (now (words .entry)) r (now (words .exit)) ⌝ }
 {
-    match level::judge_map(wad, name, words) {
+    match map_check::judge_map(wad, name, words) {
         Verdict::Accepted { depth, marker } => MapAnswer {
             status: nothing_refused(),
             depth,
@@ -61,7 +61,7 @@ pub extern "C" fn meshpigeon_judge_map(wad: &[u8], name: &[u8], words: &mut [u16
 pub extern "C" fn meshpigeon_map_game(wad: &[u8], marker: usize) -> GameAnswer
     ensures { λ r. ⌜ r ≡ gameOut (gameAnswer (now (wad .entry)) marker) ⌝ }
 {
-    match run::map_game(wad, marker) {
+    match map_lumps::map_game(wad, marker) {
         Game::Doom => GameAnswer {
             status: nothing_refused(),
             hexen: false,
@@ -87,7 +87,7 @@ pub extern "C" fn meshpigeon_descend(
 ) -> DescentAnswer
     ensures { λ r. ⌜ r ≡ descentOut (descent (now (nodes .entry)) subsectors x y) ⌝ }
 {
-    match bsp::descend(nodes, subsectors, x, y) {
+    match node_descent::descend(nodes, subsectors, x, y) {
         Descent::Found { subsector, count } => DescentAnswer {
             status: nothing_refused(),
             subsector,
@@ -113,7 +113,7 @@ pub extern "C" fn meshpigeon_draw_order(
 ) -> OrderAnswer
     ensures { λ r. ⌜ OrderDrawn (now (nodes .entry)) subsectors x y (now (words .entry)) r (now (words .exit)) ⌝ }
 {
-    match draw::draw_order(nodes, subsectors, x, y, words) {
+    match draw_order::draw_order(nodes, subsectors, x, y, words) {
         Order::Listed(count) => OrderAnswer {
             status: nothing_refused(),
             count,

@@ -5,14 +5,14 @@ use mathlib.Core.List.{List}
 use mathlib.Core.Path.{_≡_}
 use Rattle.wad.specs.declared.lumps.Entry.{Entry}
 use Rattle.wad.specs.declared.lumps.Entry.the-variants.{At, Refused as NotThere}
-use Rattle.level.specs.declared.Verdict.{Verdict}
-use Rattle.level.specs.declared.Verdict.the-variants.{Accepted, Refused as NotAccepted}
+use Rattle.map_check.specs.declared.Verdict.{Verdict}
+use Rattle.map_check.specs.declared.Verdict.the-variants.{Accepted, Refused as NotAccepted}
 use Rattle.pair.specs.declared.PairEntry.{PairEntry}
 use Rattle.pair.specs.declared.PairVerdict.{PairVerdict}
 use Rattle.pair.specs.Answers.{pairVerdict, pairWords}
 use Rattle.export_pairs.specs.declared.PairEntryAnswer.{PairEntryAnswer}
 use Rattle.export_pairs.specs.declared.PairMapAnswer.{PairMapAnswer}
-use Rattle.status.specs.Status.{accepted, refused}
+use Rattle.refusal.specs.Status.{accepted, refused}
 
 -- where a lump's part of its file lies, and its size
 abbrev pub pairEntryWith : ℕ → Entry → PairEntryAnswer

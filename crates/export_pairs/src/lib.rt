@@ -2,10 +2,10 @@
 ghost use mathlib.Core.Path.{_≡_};
 ghost use Rattle.pair.specs.Answers.{pairEntry};
 ghost use Rattle.export_pairs.specs.Pairs.{pairEntryOut, PairMapJudged};
-use level::Verdict;
-use status::Status;
-use status::nothing_refused;
-use status::refused;
+use map_check::Verdict;
+use refusal::Status;
+use refusal::nothing_refused;
+use refusal::refused;
 use wad::Entry;
 
 // The file is noted with 1 to 6, 12 and above, and acceptance: 1 the base, 2 the patch; 0 with 10 and 11.

@@ -7,17 +7,17 @@ use lib.ListN.{length}
 use Rattle.picture_header.specs.declared.Picture.{Picture}
 use Rattle.picture.specs.declared.PictureVerdict.{PictureVerdict}
 use Rattle.picture.specs.declared.PictureVerdict.the-variants.{Accepted, Refused as NotAccepted}
-use Rattle.picture.specs.Judging.{pictureCheck, answerOf}
-use Rattle.canvas.specs.Buffers.{paintCheck}
+use Rattle.picture.specs.Judging.{pictureCheck, pictureAnswer}
+use Rattle.picture_paint.specs.Buffers.{paintCheck}
 use Rattle.layout.specs.Buffers.{bufferAfter}
-use Rattle.canvas.specs.Pixels.{planeOf, byColour, byCover}
-use Rattle.encode.specs.declared.Encoding.{Encoding}
-use Rattle.encode.specs.declared.Encoding.the-variants.{Written, Refused as NotWritten}
-use Rattle.encode.specs.Lump.{writtenLength, writtenOf}
-use Rattle.encode.specs.Encoding.{encodeCheck, encodingOf}
+use Rattle.picture_paint.specs.Pixels.{planeOf, byColour, byCover}
+use Rattle.picture_write.specs.declared.Encoding.{Encoding}
+use Rattle.picture_write.specs.declared.Encoding.the-variants.{Written, Refused as NotWritten}
+use Rattle.picture_write.specs.Lump.{writtenLength, writtenOf}
+use Rattle.picture_write.specs.Encoding.{encodeCheck, encodingOf}
 use Rattle.export_pictures.specs.declared.PictureAnswer.{PictureAnswer}
-use Rattle.status.specs.declared.LengthAnswer.{LengthAnswer}
-use Rattle.status.specs.Status.{accepted, refused, lengthGiven, lengthRefused}
+use Rattle.refusal.specs.declared.status.LengthAnswer.{LengthAnswer}
+use Rattle.refusal.specs.Status.{accepted, refused, lengthGiven, lengthRefused}
 
 -- a header of zeros
 abbrev pub noPicture : Picture
@@ -30,11 +30,11 @@ pictureOut (NotAccepted r) = record { status = refused r; picture = noPicture }
 
 -- the judging entry's answer
 abbrev pub pictureJudged : List ℕ → PictureAnswer
-pictureJudged lump = pictureOut (answerOf (pictureCheck lump) lump)
+pictureJudged lump = pictureOut (pictureAnswer (pictureCheck lump) lump)
 
 -- the painting entry's answer, and both buffers afterwards
 pub record PicturePainted (lump colour cover : List ℕ) (answer : PictureAnswer) (colour′ cover′ : List ℕ) : Type 0 where
-  pub answers : answer ≡ pictureOut (answerOf (paintCheck lump (length colour) (length cover)) lump)
+  pub answers : answer ≡ pictureOut (pictureAnswer (paintCheck lump (length colour) (length cover)) lump)
   pub colours : colour′ ≡ bufferAfter (paintCheck lump (length colour) (length cover)) (planeOf byColour lump) colour
   pub covered : cover′ ≡ bufferAfter (paintCheck lump (length colour) (length cover)) (planeOf byCover lump) cover
 

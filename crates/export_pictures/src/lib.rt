@@ -1,15 +1,15 @@
 // Pictures.
 ghost use mathlib.Core.Path.{_≡_};
 ghost use Rattle.export_pictures.specs.Pictures.{pictureOut, pictureJudged, PicturePainted, PictureWritten};
-use encode::Encoding;
 use picture::PictureVerdict;
 use picture_header::Picture;
-use status::LengthAnswer;
-use status::Status;
-use status::length_given;
-use status::length_refused;
-use status::nothing_refused;
-use status::refused;
+use picture_write::Encoding;
+use refusal::LengthAnswer;
+use refusal::Status;
+use refusal::length_given;
+use refusal::length_refused;
+use refusal::nothing_refused;
+use refusal::refused;
 
 #[repr(C)]
 pub struct PictureAnswer {
@@ -54,7 +54,7 @@ pub extern "C" fn meshpigeon_paint_picture(
 ) -> PictureAnswer
     ensures { λ r. ⌜ PicturePainted (now (lump .entry)) (now (colour .entry)) (now (cover .entry)) r (now (colour .exit)) (now (cover .exit)) ⌝ }
 {
-    answer(canvas::paint(lump, colour, cover))
+    answer(picture_paint::paint(lump, colour, cover))
 }
 
 // A picture written from its pixels into the front of a lent buffer, 55 to 58.
@@ -67,7 +67,7 @@ pub extern "C" fn meshpigeon_write_picture(
 ) -> LengthAnswer
     ensures { λ r. ⌜ PictureWritten picture (now (colour .entry)) (now (cover .entry)) (now (out .entry)) r (now (out .exit)) ⌝ }
 {
-    match encode::encode(picture, colour, cover, out) {
+    match picture_write::encode(picture, colour, cover, out) {
         Encoding::Written(length) => length_given(length),
         Encoding::Refused(r) => length_refused(r),
     }

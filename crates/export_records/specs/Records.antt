@@ -3,41 +3,41 @@ use Prim.Native.Nat.{ℕ}
 use mathlib.Core.Bool.{Bool, cond}
 use mathlib.Core.List.{List}
 use mathlib.Core.Path.{_≡_}
-use Rattle.field.specs.Records.{insideCheck, replaced, goodCheck}
-use Rattle.thing.specs.declared.ThingRead.{ThingRead}
+use Rattle.record_field.specs.Records.{insideCheck, replaced, goodCheck}
+use Rattle.record_thing.specs.declared.ThingRead.{ThingRead}
 use Rattle.export_records.specs.declared.ThingAnswer.{ThingAnswer}
-use Rattle.linedef.specs.declared.LinedefRead.{LinedefRead}
+use Rattle.record_linedef.specs.declared.LinedefRead.{LinedefRead}
 use Rattle.export_records.specs.declared.LinedefAnswer.{LinedefAnswer}
 use Rattle.record.specs.declared.sidedef.SidedefRead.{SidedefRead}
 use Rattle.export_records.specs.declared.SidedefAnswer.{SidedefAnswer}
 use Rattle.record.specs.declared.vertex.VertexRead.{VertexRead}
 use Rattle.export_records.specs.declared.VertexAnswer.{VertexAnswer}
-use Rattle.built.specs.declared.seg.SegRead.{SegRead}
+use Rattle.record.specs.declared.seg.SegRead.{SegRead}
 use Rattle.export_records.specs.declared.SegAnswer.{SegAnswer}
-use Rattle.built.specs.declared.subsector.SubsectorRead.{SubsectorRead}
+use Rattle.record.specs.declared.subsector.SubsectorRead.{SubsectorRead}
 use Rattle.export_records.specs.declared.SubsectorAnswer.{SubsectorAnswer}
-use Rattle.built.specs.declared.node.NodeRead.{NodeRead}
+use Rattle.record.specs.declared.node.NodeRead.{NodeRead}
 use Rattle.export_records.specs.declared.NodeAnswer.{NodeAnswer}
 use Rattle.record.specs.declared.sector.SectorRead.{SectorRead}
 use Rattle.export_records.specs.declared.SectorAnswer.{SectorAnswer}
-use Rattle.thing.specs.declared.Thing.{Thing}
-use Rattle.thing.specs.Things.{thingSize, thingFieldsOk, thingBytes}
-use Rattle.linedef.specs.declared.Linedef.{Linedef}
-use Rattle.linedef.specs.Linedefs.{linedefSize, linedefFieldsOk, linedefBytes}
+use Rattle.record_thing.specs.declared.Thing.{Thing}
+use Rattle.record_thing.specs.Things.{thingSize, thingFieldsOk, thingBytes}
+use Rattle.record_linedef.specs.declared.Linedef.{Linedef}
+use Rattle.record_linedef.specs.Linedefs.{linedefSize, linedefFieldsOk, linedefBytes}
 use Rattle.record.specs.declared.sidedef.Sidedef.{Sidedef}
 use Rattle.record.specs.Sidedefs.{sidedefSize, sidedefBytes}
 use Rattle.record.specs.declared.vertex.Vertex.{Vertex}
 use Rattle.record.specs.Vertexes.{vertexSize, vertexBytes}
-use Rattle.built.specs.declared.seg.Seg.{Seg}
-use Rattle.built.specs.Segs.{segSize, segBytes}
-use Rattle.built.specs.declared.subsector.Subsector.{Subsector}
-use Rattle.built.specs.Subsectors.{subsectorSize, subsectorBytes}
-use Rattle.built.specs.declared.node.Node.{Node}
-use Rattle.built.specs.Nodes.{nodeSize, nodeBytes}
+use Rattle.record.specs.declared.seg.Seg.{Seg}
+use Rattle.record.specs.Segs.{segSize, segBytes}
+use Rattle.record.specs.declared.subsector.Subsector.{Subsector}
+use Rattle.record.specs.Subsectors.{subsectorSize, subsectorBytes}
+use Rattle.record.specs.declared.node.Node.{Node}
+use Rattle.record.specs.Nodes.{nodeSize, nodeBytes}
 use Rattle.record.specs.declared.sector.Sector.{Sector}
 use Rattle.record.specs.Sectors.{sectorSize, sectorBytes}
-use Rattle.status.specs.declared.Status.{Status}
-use Rattle.status.specs.Status.{statusOf}
+use Rattle.refusal.specs.declared.status.Status.{Status}
+use Rattle.refusal.specs.Status.{statusOf}
 
 -- what a write of `bytes` as record `index` answers, and what it leaves of the lump
 pub record RecordWritten (lump : List ℕ) (size index : ℕ) (bytes : List ℕ) (answer : Status) (left : List ℕ) : Type 0 where

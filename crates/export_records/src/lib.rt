@@ -1,29 +1,29 @@
 // The eight kinds of map record, read and written by number: 60. Things and linedefs are read by their game, and say which
 // they are of; a write of one may be refused 61.
 ghost use mathlib.Core.Path.{_≡_};
-ghost use Rattle.thing.specs.Things.{thingAt};
-ghost use Rattle.linedef.specs.Linedefs.{linedefAt};
+ghost use Rattle.record_thing.specs.Things.{thingAt};
+ghost use Rattle.record_linedef.specs.Linedefs.{linedefAt};
 ghost use Rattle.record.specs.Sidedefs.{sidedefAt};
 ghost use Rattle.record.specs.Vertexes.{vertexAt};
-ghost use Rattle.built.specs.Segs.{segAt};
-ghost use Rattle.built.specs.Subsectors.{subsectorAt};
-ghost use Rattle.built.specs.Nodes.{nodeAt};
+ghost use Rattle.record.specs.Segs.{segAt};
+ghost use Rattle.record.specs.Subsectors.{subsectorAt};
+ghost use Rattle.record.specs.Nodes.{nodeAt};
 ghost use Rattle.record.specs.Sectors.{sectorAt};
 ghost use Rattle.export_records.specs.Records.{thingOut, linedefOut, sidedefOut, vertexOut, segOut, subsectorOut, nodeOut, sectorOut};
 ghost use Rattle.export_records.specs.Records.{ThingWritten, LinedefWritten, SidedefWritten, VertexWritten, SegWritten, SubsectorWritten, NodeWritten, SectorWritten};
-use built::Node;
-use built::Seg;
-use built::Subsector;
-use linedef::Linedef;
+use record::Node;
 use record::Sector;
+use record::Seg;
 use record::Sidedef;
+use record::Subsector;
 use record::Vertex;
+use record_linedef::Linedef;
+use record_thing::Thing;
 use refusal::Check;
-use status::Status;
-use status::nothing_refused;
-use status::refused;
-use status::status_of;
-use thing::Thing;
+use refusal::Status;
+use refusal::nothing_refused;
+use refusal::refused;
+use refusal::status_of;
 
 #[repr(C)]
 pub struct ThingAnswer {

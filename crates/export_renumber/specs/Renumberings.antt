@@ -4,13 +4,13 @@ use mathlib.Core.List.{List}
 use mathlib.Core.Path.{_≡_}
 use lib.ListN.{length}
 use Rattle.layout.specs.Buffers.{bufferAfter}
-use Rattle.built.specs.Nodes.{nodeSize}
-use Rattle.level.specs.Verdict.{verdict, wordsAfter}
+use Rattle.record.specs.Nodes.{nodeSize}
+use Rattle.map_check.specs.Verdict.{verdict, wordsAfter}
 use Rattle.renumber.specs.declared.Renumbering.{Renumbering}
 use Rattle.renumber.specs.declared.Renumbering.the-variants.{Written, Refused as NotWritten}
 use Rattle.renumber.specs.Renumbering.{checkBy, lumpBy, renumberingOf}
-use Rattle.status.specs.declared.LengthAnswer.{LengthAnswer}
-use Rattle.status.specs.Status.{lengthGiven, lengthRefused}
+use Rattle.refusal.specs.declared.status.LengthAnswer.{LengthAnswer}
+use Rattle.refusal.specs.Status.{lengthGiven, lengthRefused}
 
 -- how many bytes were written
 abbrev pub lengthOut : Renumbering → LengthAnswer

@@ -1,10 +1,10 @@
 // NODES of a map renumbered, as C and Rust ask for it.
 ghost use mathlib.Core.Path.{_≡_};
 ghost use Rattle.export_renumber.specs.Renumberings.{lengthOut, RenumberingGiven};
+use refusal::LengthAnswer;
+use refusal::length_given;
+use refusal::length_refused;
 use renumber::Renumbering;
-use status::LengthAnswer;
-use status::length_given;
-use status::length_refused;
 
 // The map of a name of eight bytes, judged over lent words, four for each node; then the list of old numbers, and where it is good the
 // renumbered NODES in the front of the output. 1 to 32 and 70 to 74.

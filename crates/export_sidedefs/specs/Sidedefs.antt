@@ -1,8 +1,8 @@
 -- Answers on SIDEDEFS as they arrive. Assumes nothing.
-use Rattle.status.specs.declared.Status.{Status}
-use Rattle.status.specs.Status.{statusOf}
-use Rattle.stream.specs.declared.Stream.{Stream}
-use Rattle.stream.specs.Scraps.{streamVerdict}
+use Rattle.refusal.specs.declared.status.Status.{Status}
+use Rattle.refusal.specs.Status.{statusOf}
+use Rattle.sidedefs_stream.specs.declared.Stream.{Stream}
+use Rattle.sidedefs_stream.specs.Scraps.{streamVerdict}
 
 -- the verdict's number, place and record
 abbrev pub sidedefsJudged : Stream → Status

@@ -6,9 +6,9 @@ use lib.ListN.{length, take}
 use lib.Seq.{take-all}
 use Rattle.refusal.specs.declared.Check.{Check}
 use Rattle.refusal.specs.declared.Check.the-variants.{Pass, Refused}
-use Rattle.text_scope.specs.declared.Scope.{Scope}
+use Rattle.text_table.specs.declared.scope.Scope.{Scope}
 use Rattle.text_table.specs.Table.{defaultOf}
-use Rattle.text_table.specs.Inner.{padded, rowsOf, defaultAt}
+use Rattle.text_table.specs.Rows.{padded, rowsOf, defaultAt}
 use Rattle.text_table.proofs.Table.{default-at}
 use Rattle.text_map.specs.Answers.{rowsBy}
 use Rattle.export_texts.specs.Inner.{sizeBy}

@@ -5,11 +5,11 @@ use mathlib.Core.List.{List}
 use mathlib.Core.Path.{_≡_}
 use lib.IntN.{ℤ}
 use Rattle.text_token.specs.Tokens.{bytesOf}
-use Rattle.text_scope.specs.declared.Scope.{Scope}
-use Rattle.text_scope.specs.declared.Scope.the-variants.{Vertex, Linedef, Sidedef, Sector, Thing}
+use Rattle.text_table.specs.declared.scope.Scope.{Scope}
+use Rattle.text_table.specs.declared.scope.Scope.the-variants.{Vertex, Linedef, Sidedef, Sector, Thing}
 use Rattle.text_table.specs.Table.{defaultOf}
 use Rattle.text_block.specs.declared.Counts.{Counts}
-use Rattle.text_record.specs.Records.{vertexOf, linedefOf, sidedefOf, sectorOf, thingOf}
+use Rattle.text_record.specs.Records.{textVertexOf, textLinedefOf, textSidedefOf, textSectorOf, textThingOf}
 use Rattle.text_map.specs.declared.TextSummary.{TextSummary}
 use Rattle.text_map.specs.declared.TextAnswer.{TextAnswer}
 use Rattle.text_map.specs.declared.TextAnswer.the-variants.{Summary, Refused as NoSummary}
@@ -18,8 +18,8 @@ use Rattle.text_map.specs.declared.BlockAnswer.{BlockAnswer}
 use Rattle.text_map.specs.declared.BlockAnswer.the-variants.{Block, Refused as NoBlock}
 use Rattle.text_map.specs.declared.BlockFields.{BlockFields}
 use Rattle.text_map.specs.Answers.{textAnswer, blockAnswer, nextFrom, blockFields, blockPlaces, rowsBy, numbered, firstFrom, idBy, idOf}
-use Rattle.status.specs.declared.Status.{Status}
-use Rattle.status.specs.Status.{accepted, refused, statusOf}
+use Rattle.refusal.specs.declared.status.Status.{Status}
+use Rattle.refusal.specs.Status.{accepted, refused, statusOf}
 use Rattle.export_texts.specs.declared.TextMapAnswer.{TextMapAnswer}
 use Rattle.export_texts.specs.declared.TextBlockAnswer.{TextBlockAnswer}
 use Rattle.export_texts.specs.declared.records.TextVertexAnswer.{TextVertexAnswer}
@@ -65,28 +65,28 @@ BlockFound text place answer = answer ≡ blockOut (blockAnswer (nextFrom text p
 
 -- the record of a block, and the place behind it
 abbrev pub vertexOut : List ℕ → BlockFields → List ℕ → TextVertexAnswer
-vertexOut text f places = record { status = statusOf (f .check); vertex = vertexOf text places; next = f .next }
+vertexOut text f places = record { status = statusOf (f .check); vertex = textVertexOf text places; next = f .next }
 
 -- of a linedef with its id's default
 abbrev pub linedefOut : List ℕ → ℤ → BlockFields → List ℕ → TextLinedefAnswer
 linedefOut text id f places =
     let defaults = defaultOf (rowsBy Linedef (f .check)) in
-    record { status = statusOf (f .check); linedef = linedefOf text places defaults id; next = f .next }
+    record { status = statusOf (f .check); linedef = textLinedefOf text places defaults id; next = f .next }
 
 abbrev pub sidedefOut : List ℕ → BlockFields → List ℕ → TextSidedefAnswer
 sidedefOut text f places =
     let defaults = defaultOf (rowsBy Sidedef (f .check)) in
-    record { status = statusOf (f .check); sidedef = sidedefOf text places defaults; next = f .next }
+    record { status = statusOf (f .check); sidedef = textSidedefOf text places defaults; next = f .next }
 
 abbrev pub sectorOut : List ℕ → BlockFields → List ℕ → TextSectorAnswer
 sectorOut text f places =
     let defaults = defaultOf (rowsBy Sector (f .check)) in
-    record { status = statusOf (f .check); sector = sectorOf text places defaults; next = f .next }
+    record { status = statusOf (f .check); sector = textSectorOf text places defaults; next = f .next }
 
 abbrev pub thingOut : List ℕ → BlockFields → List ℕ → TextThingAnswer
 thingOut text f places =
     let defaults = defaultOf (rowsBy Thing (f .check)) in
-    record { status = statusOf (f .check); thing = thingOf text places defaults; next = f .next }
+    record { status = statusOf (f .check); thing = textThingOf text places defaults; next = f .next }
 
 -- block `number` of each kind, after the whole text was judged; a linedef's id is by the text's namespace
 abbrev pub VertexNumbered : List ℕ → ℕ → TextVertexAnswer → Type 0

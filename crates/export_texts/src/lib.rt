@@ -10,12 +10,12 @@ use records::TextSectorAnswer;
 use records::TextSidedefAnswer;
 use records::TextThingAnswer;
 use records::TextVertexAnswer;
-use status::Status;
-use status::nothing_refused;
-use status::refused;
+use refusal::Status;
+use refusal::nothing_refused;
+use refusal::refused;
 use text_map::BlockAnswer;
 use text_map::TextAnswer;
-use text_scope::Scope;
+use text_table::Scope;
 
 #[repr(C)]
 pub struct TextMapAnswer {

@@ -4,13 +4,13 @@ use mathlib.Core.Path.{_≡_}
 use Prim.Native.Nat.{ℕ}
 use lib.ListN.{length}
 use Rattle.wad.specs.Map.{markerAnswer}
-use Rattle.level.specs.declared.Verdict.{Verdict}
-use Rattle.level.specs.declared.Verdict.the-variants.{Accepted, Refused as NotAccepted}
-use Rattle.level.specs.Verdict.{verdict, wordsAfter}
-use Rattle.why.specs.declared.Reason.{Reason}
-use Rattle.why.specs.Printing.{printedLength, printedOut, answerBy}
+use Rattle.map_check.specs.declared.Verdict.{Verdict}
+use Rattle.map_check.specs.declared.Verdict.the-variants.{Accepted, Refused as NotAccepted}
+use Rattle.map_check.specs.Verdict.{verdict, wordsAfter}
+use Rattle.reason.specs.declared.Reason.{Reason}
+use Rattle.reason.specs.Printing.{printedLength, printedOut, answerBy}
 use Rattle.export_why.specs.declared.ReasonAnswer.{ReasonAnswer}
-use Rattle.status.specs.Status.{accepted, refused}
+use Rattle.refusal.specs.Status.{accepted, refused}
 
 -- depth and marker of an accepted map, and the length of what is printed
 abbrev pub reasonOut : Verdict → ℕ → ReasonAnswer

@@ -1,10 +1,10 @@
 // A map with the reason of its verdict, as C and Rust ask for it.
 ghost use mathlib.Core.Path.{_≡_};
 ghost use Rattle.export_why.specs.Reasons.{reasonOut, ReasonGiven};
-use level::Verdict;
-use status::Status;
-use status::nothing_refused;
-use status::refused;
+use map_check::Verdict;
+use refusal::Status;
+use refusal::nothing_refused;
+use refusal::refused;
 
 #[repr(C)]
 pub struct ReasonAnswer {
@@ -24,7 +24,7 @@ pub extern "C" fn meshpigeon_why(
 ) -> ReasonAnswer
     ensures { λ r. ⌜ ReasonGiven (now (wad .entry)) (now (name .entry)) (now (words .entry)) (now (out .entry)) r (now (words .exit)) (now (out .exit)) ⌝ }
 {
-    let told = why::judge_map(wad, name, words, out);
+    let told = reason::judge_map(wad, name, words, out);
     let verdict = told.verdict;
     reason_out(verdict, told.length)
 }

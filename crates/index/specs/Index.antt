@@ -5,8 +5,8 @@ use mathlib.Core.List.{List, [], _∷_, _++_}
 use lib.ListN.{length, getD}
 use Rattle.endian.specs.Unsigned.{u16Bytes, u32Bytes}
 use Rattle.layout.specs.Rows.{laidOut}
-use Rattle.directory.specs.Header.{headOf, entryCount}
-use Rattle.directory.specs.Entries.{directoryOf}
+use Rattle.wad.specs.Header.{headOf, entryCount}
+use Rattle.wad.specs.Entries.{directoryOf}
 use Rattle.index.specs.declared.IndexRecord.{IndexRecord}
 use Rattle.index.specs.Records.{noRecord, indexOf}
 
@@ -35,8 +35,8 @@ abbrev pub indexRecordSize : ℕ
 indexRecordSize = 10
 
 -- where record `i` begins; for the count of records, how long the index is
-abbrev pub recordPlace : ℕ → ℕ
-recordPlace i = indexHeadSize + indexRecordSize * i
+abbrev pub recordOffset : ℕ → ℕ
+recordOffset i = indexHeadSize + indexRecordSize * i
 
 abbrev pub indexHead : List ℕ → List ℕ
 indexHead wad = indexMark ++ u16Bytes indexVersion ++ u16Bytes (entryCount (headOf wad)) ++ u32Bytes (length wad)

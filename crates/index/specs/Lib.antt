@@ -2,5 +2,5 @@
 
 pub mod Records
 pub mod Index
-pub mod Inner
+pub mod Keys
 pub mod Promises

@@ -2,7 +2,7 @@
 ghost use mathlib.Core.Path.{_≡_};
 ghost use Prim.Native.Nat.{_+_, _*_, _<_};
 ghost use Rattle.endian.specs.Unsigned.{Bytes};
-ghost use Rattle.index.specs.Inner.{keyOf};
+ghost use Rattle.index.specs.Keys.{keyOf};
 
 // Eight bytes, the first one highest.
 pub fn key_of(name: [u8; 8]) -> u64

@@ -32,7 +32,7 @@ pub fn record_at(dir: &[u8], i: usize) -> IndexRecord
     ensures { λ r. ⌜ r ≡ recordAt (now (dir .entry)) i ⌝ }
 {
     IndexRecord {
-        name: names::padded(directory::part(dir, 16 * i + 8, 8)),
+        name: names::padded(wad::part(dir, 16 * i + 8, 8)),
         number: i as u16,
     }
 }

@@ -13,11 +13,11 @@ use Rattle.layout.specs.Rows.{laidOut}
 use Rattle.layout.specs.Buffers.{bufferAfter}
 use Rattle.layout.proofs.LaidOut.{laid-none, laid-suc, length-parts, laid-same}
 use Rattle.layout.proofs.Stores.{sets-append}
-use Rattle.directory.specs.Header.{headOf, entryCount}
-use Rattle.directory.specs.Entries.{directoryOf}
+use Rattle.wad.specs.Header.{headOf, entryCount}
+use Rattle.wad.specs.Entries.{directoryOf}
 use Rattle.index.specs.declared.IndexRecord.{IndexRecord}
 use Rattle.index.specs.Records.{noRecord}
-use Rattle.index.specs.Index.{indexHeadSize, indexRecordSize, recordPlace, indexHead, indexRecordBytes, sortedRecords, indexBytes}
+use Rattle.index.specs.Index.{indexHeadSize, indexRecordSize, recordOffset, indexHead, indexRecordBytes, sortedRecords, indexBytes}
 use Rattle.index.proofs.Bytes.{row-length, index-size}
 use Rattle.index.proofs.Holds.{index-length}
 use Rattle.index_build.specs.Building.{buildCheck, buildingOf, recordsAfter, Builds}
@@ -41,9 +41,9 @@ module _ (records : List IndexRecord) (head out : List ℕ) (eleven : length hea
       let before = written-laid n (λ i h. tens i (omega arith)) in
       let rows = length-parts row indexRecordSize n (λ i h. tens i (omega arith)) in
       let both = length-append head (laidOut row n) in
-      let place : recordPlace n ≡ 0 + length (head ++ laidOut row n) = omega (arith, both, rows, eleven) in
+      let place : recordOffset n ≡ 0 + length (head ++ laidOut row n) = omega (arith, both, rows, eleven) in
       written-suc records n (sets out 0 head)
-      ∙ ap (λ (l : List ℕ). sets l (recordPlace n) (row n)) before
+      ∙ ap (λ (l : List ℕ). sets l (recordOffset n) (row n)) before
       ∙ ap (λ (k : ℕ). sets (sets out 0 (head ++ laidOut row n)) k (row n)) place
       ∙ sets-append out 0 (head ++ laidOut row n) (row n)
       ∙ ap (λ (l : List ℕ). sets out 0 l) (append-assoc head (laidOut row n) (row n) ∙ ap (λ (l : List ℕ). head ++ l) (sym (laid-suc row n)))
@@ -65,7 +65,7 @@ module _ (wad : List ℕ) (ys : List IndexRecord) (os : List ℕ) where
     pub room : indexRecordSize * n ≤ length os - indexHeadSize
 
   abbrev pub entries-by : (k : Check) → ℕ
-  entries-by k = entriesIn (buildingOf k (recordPlace count))
+  entries-by k = entriesIn (buildingOf k (recordOffset count))
 
   entries-all : entries-by Pass ≡ count
   entries-all = let e : (11 + 10 * count - 11) / 10 ≡ count = omega arith in e
@@ -112,6 +112,6 @@ module _ (wad : List ℕ) (ys : List IndexRecord) (os : List ℕ) where
       ∙ ap (λ (n : ℕ). indexBytes wad ++ drop n os) (zero-add (length (indexBytes wad)))
   written-by (Refused r) e = sym (written-none (sortedOver (directoryOf wad) 0 ys) os)
 
-  pub builds : Builds wad ys os (buildingOf check (recordPlace count)) (sortedOver (directoryOf wad) (entries-by check) ys)
+  pub builds : Builds wad ys os (buildingOf check (recordOffset count)) (sortedOver (directoryOf wad) (entries-by check) ys)
       (written (sortedOver (directoryOf wad) (entries-by check) ys) (entries-by check) (begun check wad os))
   builds = record { answers = refl; sorts = sorted-by check; writes = written-by check refl }

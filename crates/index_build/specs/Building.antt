@@ -10,10 +10,10 @@ use Rattle.refusal.specs.declared.Check.the-variants.{Pass, Refused}
 use Rattle.refusal.specs.declared.Refusal.the-variants.{IndexRoom}
 use Rattle.refusal.specs.Checks.{unless, _andThen_}
 use Rattle.layout.specs.Buffers.{bufferAfter}
-use Rattle.directory.specs.Header.{headOf, entryCount}
-use Rattle.directory.specs.Entries.{fileCheck}
+use Rattle.wad.specs.Header.{headOf, entryCount}
+use Rattle.wad.specs.Entries.{fileCheck}
 use Rattle.index.specs.declared.IndexRecord.{IndexRecord}
-use Rattle.index.specs.Index.{recordPlace, sortedRecords, indexBytes}
+use Rattle.index.specs.Index.{recordOffset, sortedRecords, indexBytes}
 use Rattle.index_build.specs.declared.Building.{Building}
 use Rattle.index_build.specs.declared.Building.the-variants.{Written, Refused as NotWritten}
 
@@ -21,7 +21,7 @@ use Rattle.index_build.specs.declared.Building.the-variants.{Written, Re
 abbrev pub buildCheck : List ℕ → ℕ → ℕ → Check
 buildCheck wad records room =
     fileCheck wad
-    andThen unless (leb (entryCount (headOf wad)) records && leb (recordPlace (entryCount (headOf wad))) room) IndexRoom
+    andThen unless (leb (entryCount (headOf wad)) records && leb (recordOffset (entryCount (headOf wad))) room) IndexRoom
 
 abbrev pub buildingOf : Check → ℕ → Building
 buildingOf Pass length = Written length
@@ -35,6 +35,6 @@ recordsAfter (Refused r) sorted records = records
 -- what is promised: the answer, the records and the output
 pub record Builds (wad : List ℕ) (records : List IndexRecord) (out : List ℕ) (answer : Building) (recordsThen : List IndexRecord) (outThen : List ℕ)
     : Type 0 where
-  pub answers : answer ≡ buildingOf (buildCheck wad (length records) (length out)) (recordPlace (entryCount (headOf wad)))
+  pub answers : answer ≡ buildingOf (buildCheck wad (length records) (length out)) (recordOffset (entryCount (headOf wad)))
   pub sorts : recordsThen ≡ recordsAfter (buildCheck wad (length records) (length out)) (sortedRecords wad) records
   pub writes : outThen ≡ bufferAfter (buildCheck wad (length records) (length out)) (indexBytes wad) out

@@ -7,10 +7,10 @@ use lib.ListN.{length, getD, drop}
 use lib.Seq.{sets}
 use Rattle.refusal.specs.declared.Check.{Check}
 use Rattle.refusal.specs.declared.Check.the-variants.{Pass, Refused}
-use Rattle.directory.specs.Header.{headOf, entryCount, fileHeaderCheck}
+use Rattle.wad.specs.Header.{headOf, entryCount, fileHeaderCheck}
 use Rattle.index.specs.declared.IndexRecord.{IndexRecord}
 use Rattle.index.specs.Records.{noRecord, recordAt, indexOf}
-use Rattle.index.specs.Index.{indexHeadSize, indexRecordSize, recordPlace, indexHead, indexRecordBytes}
+use Rattle.index.specs.Index.{indexHeadSize, indexRecordSize, recordOffset, indexHead, indexRecordBytes}
 use Rattle.index_build.specs.declared.Building.{Building}
 use Rattle.index_build.specs.declared.Building.the-variants.{Written, Refused as NotWritten}
 
@@ -43,7 +43,7 @@ begun (Refused r) wad out = out
 
 -- the bytes of a record at the place of record `i`
 abbrev pub putRecord : List ℕ → ℕ → IndexRecord → List ℕ
-putRecord out i r = sets out (recordPlace i) (indexRecordBytes r)
+putRecord out i r = sets out (recordOffset i) (indexRecordBytes r)
 
 -- the first `n` records, each at its place
 unfoldable pub written : List IndexRecord → ℕ → List ℕ → List ℕ

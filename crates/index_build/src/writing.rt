@@ -4,9 +4,9 @@ ghost use Prim.Native.Nat.{_+_, _-_, _*_, _/_, _≤_};
 ghost use lib.ListN.{length};
 ghost use lib.Seq.{sets};
 ghost use Rattle.refusal.specs.declared.Check.the-variants.{Pass};
-ghost use Rattle.directory.specs.Header.{headOf, entryCount};
-ghost use Rattle.directory.specs.Entries.{fileCheck};
-ghost use Rattle.index.specs.Index.{indexHeadSize, indexRecordSize, recordPlace, indexHead};
+ghost use Rattle.wad.specs.Header.{headOf, entryCount};
+ghost use Rattle.wad.specs.Entries.{fileCheck};
+ghost use Rattle.index.specs.Index.{indexHeadSize, indexRecordSize, recordOffset, indexHead};
 ghost use Rattle.index_build.specs.Building.{buildCheck, buildingOf};
 ghost use Rattle.index_build.specs.Inner.{begun, putRecord, written};
 use crate::Building;
@@ -18,10 +18,10 @@ use refusal::Refusal;
 fn judge(wad: &[u8], records: usize, room: usize) -> Check
     ensures { λ r. ⌜ r ≡ buildCheck (now (wad .entry)) records room ⌝ }
 {
-    if let Check::Refused(r) = directory::judge_file(wad) {
+    if let Check::Refused(r) = wad::judge_file(wad) {
         return Check::Refused(r);
     }
-    let count = directory::entry_count(wad);
+    let count = wad::entry_count(wad);
     refusal::pass_if(
         (count <= records) & (11 + 10 * count <= room),
         Refusal::IndexRoom,
@@ -36,20 +36,20 @@ fn put_head(wad: &[u8], out: &mut [u8])
     out[1] = 73;
     out[2] = 88;
     endian::put_u16(out, 3, 1);
-    endian::put_u16(out, 5, directory::entry_count(wad) as u16);
+    endian::put_u16(out, 5, wad::entry_count(wad) as u16);
     endian::put_u32(out, 7, wad.len() as u32);
 }
 
 // Judges what is lent, and writes the head if it passes. The answer is that of the whole building.
 pub fn begin(wad: &[u8], records: usize, out: &mut [u8]) -> Building
-    ensures { λ r. ⌜ (r ≡ buildingOf (buildCheck (now (wad .entry)) records (length (now (out .entry)))) (recordPlace (entryCount (headOf (now (wad .entry))))))
+    ensures { λ r. ⌜ (r ≡ buildingOf (buildCheck (now (wad .entry)) records (length (now (out .entry)))) (recordOffset (entryCount (headOf (now (wad .entry))))))
         × (now (out .exit) ≡ begun (buildCheck (now (wad .entry)) records (length (now (out .entry)))) (now (wad .entry)) (now (out .entry))) ⌝ }
 {
     match judge(wad, records, out.len()) {
         Check::Refused(r) => Building::Refused(r),
         Check::Pass => {
             put_head(wad, out);
-            Building::Written(11 + 10 * directory::entry_count(wad))
+            Building::Written(11 + 10 * wad::entry_count(wad))
         }
     }
 }
@@ -75,7 +75,7 @@ pub fn write(records: &[IndexRecord], n: usize, out: &mut [u8])
 
 // The name, and the number, low byte first.
 fn put_record(out: &mut [u8], i: usize, r: IndexRecord)
-    requires { ⌜ recordPlace i + indexRecordSize ≤ length (now out) ⌝ }
+    requires { ⌜ recordOffset i + indexRecordSize ≤ length (now out) ⌝ }
     ensures { λ _. ⌜ now (out .exit) ≡ putRecord (now (out .entry)) i r ⌝ }
 {
     let name = r.name;

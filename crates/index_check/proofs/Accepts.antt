@@ -11,9 +11,9 @@ use Rattle.refusal.specs.Checks.{unless}
 use Rattle.refusal.proofs.Checks.{andThen-pass, unless-pass}
 use Rattle.name.specs.Names.{sameBytes}
 use Rattle.name.proofs.Bytes.{same-equal, equal-same}
-use Rattle.directory.specs.Header.{headOf, entryCount}
-use Rattle.directory.specs.Entries.{fileCheck}
-use Rattle.index.specs.Index.{recordPlace, indexBytes}
+use Rattle.wad.specs.Header.{headOf, entryCount}
+use Rattle.wad.specs.Entries.{fileCheck}
+use Rattle.index.specs.Index.{recordOffset, indexBytes}
 use Rattle.index.proofs.Bytes.{index-size, index-count, index-of}
 use Rattle.index_check.specs.Checking.{indexHeadCheck, indexCheck}
 use Rattle.index_check.specs.Promises.{AcceptsTheIndex}
@@ -25,7 +25,7 @@ module _ (wad : List ℕ) where
       let n = index-count wad in
       let of = index-of wad in
       rw
-      (e, le-leb (recordPlace (entryCount (headOf wad))) (length (indexBytes wad)) (omega arith), eq-eqb _ _ n, eq-eqb _ _ of)
+      (e, le-leb (recordOffset (entryCount (headOf wad))) (length (indexBytes wad)) (omega arith), eq-eqb _ _ n, eq-eqb _ _ of)
 
 pub accepts-the-index : AcceptsTheIndex
 accepts-the-index wad index e = (

@@ -22,12 +22,12 @@ use Rattle.layout.specs.Rows.{laidOut}
 use Rattle.layout.proofs.LaidOut.{laid-none, laid-suc, laid-same}
 use Rattle.name.specs.Names.{sameBytes}
 use Rattle.name.proofs.Bytes.{same-equal, equal-same}
-use Rattle.directory.specs.Slices.{part}
-use Rattle.directory.specs.Header.{headOf, entryCount}
-use Rattle.directory.specs.Entries.{directoryOf, entryName}
+use Rattle.wad.specs.Slices.{part}
+use Rattle.wad.specs.Header.{headOf, entryCount}
+use Rattle.wad.specs.Entries.{directoryOf, entryName}
 use Rattle.index.specs.declared.IndexRecord.{IndexRecord}
 use Rattle.index.specs.Records.{noRecord, padded, precedes, indexOf}
-use Rattle.index.specs.Index.{versionPlace, recordPlace, indexHead, indexRecordBytes, sortedRecords, indexBytes}
+use Rattle.index.specs.Index.{versionPlace, recordOffset, indexHead, indexRecordBytes, sortedRecords, indexBytes}
 use Rattle.index.specs.Promises.{Ascending, OfEntries}
 use Rattle.index.proofs.Orders.{not-both, precedes-asym, precedes-between}
 use Rattle.index.proofs.Holds.{index-holds}
@@ -143,13 +143,13 @@ module _ (wad index : List ℕ) (bytes : Bytes index) (head : Headed (entryCount
       ∙ ap (λ (xs : List ℕ). xs ++ part index 5 2 ++ part index 7 4) (take-add 3 2 index)
       ∙ rw (mark, versions, counts, length-bytes)
 
-  row-bytes : (i : ℕ) → recordPlace i + 10 ≤ length index → part index (recordPlace i) 10 ≡ indexRecordBytes (recordIn index i)
+  row-bytes : (i : ℕ) → recordOffset i + 10 ≤ length index → part index (recordOffset i) 10 ≡ indexRecordBytes (recordIn index i)
   row-bytes i h =
-      take-add 8 2 (drop (recordPlace i) index)
-      ∙ ap (λ (xs : List ℕ). part index (recordPlace i) 8 ++ take 2 xs) (drop-drop 8 (recordPlace i) index)
-      ∙ ap (λ (xs : List ℕ). part index (recordPlace i) 8 ++ xs) (number-part index (recordPlace i + 8) bytes (omega arith))
+      take-add 8 2 (drop (recordOffset i) index)
+      ∙ ap (λ (xs : List ℕ). part index (recordOffset i) 8 ++ take 2 xs) (drop-drop 8 (recordOffset i) index)
+      ∙ ap (λ (xs : List ℕ). part index (recordOffset i) 8 ++ xs) (number-part index (recordOffset i + 8) bytes (omega arith))
 
-  rows-bytes : length index ≡ recordPlace count
+  rows-bytes : length index ≡ recordOffset count
       → drop 11 index ≡ laidOut (λ i. indexRecordBytes (recordIn index i)) count
   rows-bytes size =
       let rest = length-drop 11 index in
@@ -157,7 +157,7 @@ module _ (wad index : List ℕ) (bytes : Bytes index) (head : Headed (entryCount
       ∙ laid-take (λ i. indexRecordBytes (recordIn index i)) 10 count (drop 11 index)
       (λ i h. ap (take 10) (drop-drop (10 * i) 11 index) ∙ row-bytes i (omega arith))
 
-  good-equal : length index ≡ recordPlace count → ((i : ℕ) → i < count → recordOk dir count index i ≡ true) → index ≡ indexBytes wad
+  good-equal : length index ≡ recordOffset count → ((i : ℕ) → i < count → recordOk dir count index i ≡ true) → index ≡ indexBytes wad
   good-equal size good =
       let rows = rows-bytes size
       ∙ laid-same (λ i. indexRecordBytes (recordIn index i)) (λ i. indexRecordBytes (getD (sortedRecords wad) i noRecord)) count
@@ -166,8 +166,8 @@ module _ (wad index : List ℕ) (bytes : Bytes index) (head : Headed (entryCount
 
   passes-equal : recordsCheck dir count index ≡ Pass → index ≡ indexBytes wad
   passes-equal e =
-      let two = andThen-pass (unless (eqb (length index) (recordPlace count)) IndexEntries) (eachRecord dir count index) e in
-      let size = eqb-true (length index) (recordPlace count) (unless-pass (eqb (length index) (recordPlace count)) IndexEntries (two .0)) in
+      let two = andThen-pass (unless (eqb (length index) (recordOffset count)) IndexEntries) (eachRecord dir count index) e in
+      let size = eqb-true (length index) (recordOffset count) (unless-pass (eqb (length index) (recordOffset count)) IndexEntries (two .0)) in
       good-equal size
       (λ i h.
       unless-pass (recordOk dir count index i) IndexEntries
@@ -204,7 +204,7 @@ module _ (wad : List ℕ) where
 
   index-passes : recordsCheck entries many (indexBytes wad) ≡ Pass
   index-passes =
-      rw (eq-eqb (length (indexBytes wad)) (recordPlace many) (index-size wad))
+      rw (eq-eqb (length (indexBytes wad)) (recordOffset many) (index-size wad))
       (each-all (λ k. unless (recordOk entries many (indexBytes wad) k) IndexEntries) many
       (λ i h. rw (index-entry i h, index-order i h)))
 
@@ -212,8 +212,8 @@ module _ (wad : List ℕ) where
 
 refused-by : (dir : List ℕ) (count : ℕ) (index : List ℕ) (r : Refusal) → recordsCheck dir count index ≡ Refused r → IndexEntries ≡ r
 refused-by dir count index r e =
-    andThen-by (unless (eqb (length index) (recordPlace count)) IndexEntries) (eachRecord dir count index) e
-    (λ p. unless-named (eqb (length index) (recordPlace count)) IndexEntries p)
+    andThen-by (unless (eqb (length index) (recordOffset count)) IndexEntries) (eachRecord dir count index) e
+    (λ p. unless-named (eqb (length index) (recordOffset count)) IndexEntries p)
     (λ p.
     let (i, (h, q)) = each-by (λ k. unless (recordOk dir count index k) IndexEntries) count p in
     unless-named (recordOk dir count index i) IndexEntries q)

@@ -13,22 +13,22 @@ use Rattle.refusal.specs.Checks.{unless, _andThen_}
 use Rattle.refusal.proofs.Checks.{both, andThen-pass, unless-pass}
 use Rattle.name.specs.Names.{sameBytes}
 use Rattle.name.proofs.Bytes.{same-equal}
-use Rattle.directory.specs.Header.{headOf, entryCount}
-use Rattle.directory.specs.Entries.{fileCheck}
-use Rattle.index.specs.Index.{indexMark, versionPlace, countPlace, lengthPlace, recordPlace}
+use Rattle.wad.specs.Header.{headOf, entryCount}
+use Rattle.wad.specs.Entries.{fileCheck}
+use Rattle.index.specs.Index.{indexMark, versionPlace, countPlace, lengthPlace, recordOffset}
 use Rattle.index_check.specs.Checking.{indexHeadOk, versionOk, indexHeadCheck}
 use Rattle.index_check.specs.Checking.{headOk}
 
 -- the four tests of 82
 pub record Headed (count len : ℕ) (index : List ℕ) : Type 0 where
-  pub long : recordPlace count ≤ length index
+  pub long : recordOffset count ≤ length index
   pub mark : take 3 index ≡ indexMark
   pub counts : u16At index countPlace ≡ count
   pub of : u32At index lengthPlace ≡ len
 
 pub headed : (count len : ℕ) (index : List ℕ) → headOk count len index ≡ true → Headed count len index
 headed count len index e =
-    let long = leb (recordPlace count) (length index) in
+    let long = leb (recordOffset count) (length index) in
     let mark = sameBytes (take 3 index) indexMark in
     let counts = eqb (u16At index countPlace) count in
     let of = eqb (u32At index lengthPlace) len in
@@ -36,7 +36,7 @@ headed count len index e =
     let two = both (long && mark) counts (three .0) in
     let one = both long mark (two .0) in
     record {
-      long = leb-true (recordPlace count) (length index) (one .0);
+      long = leb-true (recordOffset count) (length index) (one .0);
       mark = same-equal (take 3 index) indexMark (one .1);
       counts = eqb-true (u16At index countPlace) count (two .1);
       of = eqb-true (u32At index lengthPlace) len (three .1);

@@ -9,9 +9,9 @@ use lib.ListN.{length, getD, take, drop}
 use lib.Seq.{drop-cons}
 use Rattle.endian.specs.Unsigned.{Bytes, u16At, u16Bytes}
 use Rattle.endian.proofs.Unsigned.{u16Bytes-read}
-use Rattle.field.specs.Fields.{nameAt}
+use Rattle.record_field.specs.Fields.{nameAt}
 use Rattle.name.specs.Names.{sameBytes}
-use Rattle.directory.specs.Slices.{part}
+use Rattle.wad.specs.Slices.{part}
 
 -- `n` bytes from `at` on, one by one
 abbrev spelt : List ℕ → ℕ → ℕ → List ℕ

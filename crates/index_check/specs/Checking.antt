@@ -9,14 +9,14 @@ use Rattle.refusal.specs.declared.Check.{Check}
 use Rattle.refusal.specs.declared.Refusal.the-variants.{IndexHead, IndexVersion, IndexEntries}
 use Rattle.refusal.specs.Checks.{unless, _andThen_}
 use Rattle.name.specs.Names.{sameBytes}
-use Rattle.directory.specs.Header.{headOf, entryCount}
-use Rattle.directory.specs.Entries.{fileCheck}
-use Rattle.index.specs.Index.{indexMark, indexVersion, versionPlace, countPlace, lengthPlace, recordPlace, indexBytes}
+use Rattle.wad.specs.Header.{headOf, entryCount}
+use Rattle.wad.specs.Entries.{fileCheck}
+use Rattle.index.specs.Index.{indexMark, indexVersion, versionPlace, countPlace, lengthPlace, recordOffset, indexBytes}
 
 -- long enough for `count` records, with the mark, and with that count and a file's length, `len`
 abbrev pub headOk : ℕ → ℕ → List ℕ → Bool
 headOk count len index =
-    leb (recordPlace count) (length index)
+    leb (recordOffset count) (length index)
     && sameBytes (take 3 index) indexMark
     && eqb (u16At index countPlace) count
     && eqb (u32At index lengthPlace) len

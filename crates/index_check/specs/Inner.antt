@@ -9,15 +9,15 @@ use Rattle.refusal.specs.declared.Check.{Check}
 use Rattle.refusal.specs.declared.Refusal.the-variants.{IndexEntries}
 use Rattle.refusal.specs.Checks.{unless, _andThen_, each}
 use Rattle.name.specs.Names.{sameBytes}
-use Rattle.directory.specs.Slices.{part}
-use Rattle.directory.specs.Entries.{entryName}
+use Rattle.wad.specs.Slices.{part}
+use Rattle.wad.specs.Entries.{entryName}
 use Rattle.index.specs.declared.IndexRecord.{IndexRecord}
 use Rattle.index.specs.Records.{padded, precedes}
-use Rattle.index.specs.Index.{recordPlace}
+use Rattle.index.specs.Index.{recordOffset}
 
 -- record `i` of an index
 abbrev pub recordIn : List ℕ → ℕ → IndexRecord
-recordIn index i = record { name = part index (recordPlace i) 8; number = u16At index (recordPlace i + 8) }
+recordIn index i = record { name = part index (recordOffset i) 8; number = u16At index (recordOffset i + 8) }
 
 -- a record is that of one of `count` entries
 abbrev pub entryOk : List ℕ → ℕ → IndexRecord → Bool
@@ -35,4 +35,4 @@ abbrev pub eachRecord : List ℕ → ℕ → List ℕ → Check
 eachRecord dir count index = each (λ i. unless (recordOk dir count index i) IndexEntries) count
 
 abbrev pub recordsCheck : List ℕ → ℕ → List ℕ → Check
-recordsCheck dir count index = unless (eqb (length index) (recordPlace count)) IndexEntries andThen eachRecord dir count index
+recordsCheck dir count index = unless (eqb (length index) (recordOffset count)) IndexEntries andThen eachRecord dir count index

@@ -4,7 +4,7 @@ use mathlib.Core.Logic.{_↔_}
 use mathlib.Core.Path.{_≡_}
 use Prim.Native.Nat.{ℕ}
 use Rattle.refusal.specs.declared.Check.the-variants.{Pass}
-use Rattle.directory.specs.Entries.{fileCheck}
+use Rattle.wad.specs.Entries.{fileCheck}
 use Rattle.index.specs.Index.{indexBytes}
 use Rattle.index_check.specs.Checking.{indexCheck}
 

@@ -3,13 +3,13 @@ ghost use mathlib.Core.Path.{_≡_};
 ghost use Prim.Native.Nat.{_≤_};
 ghost use lib.ListN.{length};
 ghost use Rattle.name.specs.Names.{sameBytes};
-ghost use Rattle.index.specs.Index.{recordPlace};
+ghost use Rattle.index.specs.Index.{recordOffset};
 ghost use Rattle.index_check.specs.Checking.{headOk};
 
 // Where record i begins; for the count of records, how long the index is.
-pub fn record_place(i: usize) -> usize
+pub fn record_offset(i: usize) -> usize
     requires { ⌜ i ≤ 4096 ⌝ }
-    ensures { λ r. ⌜ r ≡ recordPlace i ⌝ }
+    ensures { λ r. ⌜ r ≡ recordOffset i ⌝ }
 {
     11 + 10 * i
 }
@@ -32,10 +32,10 @@ pub fn head_ok(count: usize, len: usize, index: &[u8]) -> bool
     requires { ⌜ count ≤ 4096 ⌝ }
     ensures { λ r. ⌜ r ≡ headOk count len (now (index .entry)) ⌝ }
 {
-    if index.len() < record_place(count) {
+    if index.len() < record_offset(count) {
         return false;
     }
-    same_bytes(directory::part(index, 0, 3), b"WIX")
+    same_bytes(wad::part(index, 0, 3), b"WIX")
         & (endian::u16_at(index, 5) as usize == count)
         & (endian::u32_at(index, 7) as usize == len)
 }

@@ -5,7 +5,7 @@ mod records;
 ghost use mathlib.Core.Path.{_≡_};
 ghost use Rattle.index_check.specs.Checking.{indexHeadCheck, indexCheck};
 use head::head_ok;
-pub use head::record_place;
+pub use head::record_offset;
 use records::judge_records;
 pub use records::record_in;
 use refusal::Check;
@@ -15,10 +15,10 @@ use refusal::Refusal;
 pub fn judge_head(wad: &[u8], index: &[u8]) -> Check
     ensures { λ r. ⌜ r ≡ indexHeadCheck (now (wad .entry)) (now (index .entry)) ⌝ }
 {
-    if let Check::Refused(r) = directory::judge_file(wad) {
+    if let Check::Refused(r) = wad::judge_file(wad) {
         return Check::Refused(r);
     }
-    if head_ok(directory::entry_count(wad), wad.len(), index) {
+    if head_ok(wad::entry_count(wad), wad.len(), index) {
         return refusal::pass_if(endian::u16_at(index, 3) == 1, Refusal::IndexVersion);
     }
     Check::Refused(Refusal::IndexHead)
@@ -32,9 +32,5 @@ pub fn judge(wad: &[u8], index: &[u8]) -> Check
     if let Check::Refused(r) = judge_head(wad, index) {
         return Check::Refused(r);
     }
-    judge_records(
-        directory::directory_of(wad),
-        directory::entry_count(wad),
-        index,
-    )
+    judge_records(wad::directory_of(wad), wad::entry_count(wad), index)
 }

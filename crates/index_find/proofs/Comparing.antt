@@ -12,7 +12,7 @@ use Rattle.endian.specs.Unsigned.{Bytes}
 use Rattle.name.specs.Names.{sameBytes}
 use Rattle.name.proofs.Bytes.{same-equal, equal-same}
 use Rattle.index.specs.Records.{belowFrom}
-use Rattle.index.specs.Inner.{keyOf}
+use Rattle.index.specs.Keys.{keyOf}
 use Rattle.index.proofs.Orders.{three}
 use Rattle.index.proofs.NameKeys.{key-same, key-below, key-above, key-equal}
 

@@ -12,16 +12,16 @@ use lib.ListN.{length, getD, drop, length-take}
 use lib.Seq.{ext-getD}
 use Rattle.refusal.specs.declared.Check.{Check}
 use Rattle.refusal.specs.declared.Check.the-variants.{Pass, Refused}
-use Rattle.refusal.specs.declared.Refusal.the-variants.{MapMissing}
+use Rattle.refusal.specs.declared.Refusal.the-variants.{EntryMissing}
 use Rattle.refusal.proofs.Checks.{andThen-pass}
 use Rattle.name.specs.Names.{sameBytes, sameName}
 use Rattle.name.proofs.Bytes.{same-equal, equal-same}
 use Rattle.wad.specs.declared.map.Marker.the-variants.{Entry, Refused as NoMarker}
 use Rattle.wad.specs.declared.map.MarkerSearch.{MarkerSearch}
-use Rattle.directory.specs.Header.{headOf, entryCount}
-use Rattle.directory.specs.Entries.{directoryOf, entryName, fileCheck}
+use Rattle.wad.specs.Header.{headOf, entryCount}
+use Rattle.wad.specs.Entries.{directoryOf, entryName, fileCheck}
 use Rattle.wad.specs.Map.{findMarker, searched}
-use Rattle.directory.proofs.Listing.{file-header, file-sound}
+use Rattle.wad.proofs.Listing.{file-header, file-sound}
 use Rattle.wad.proofs.Search.{findMarker-found, findMarker-on, findMarker-none}
 use Rattle.index.specs.declared.IndexRecord.{IndexRecord}
 use Rattle.index.specs.Records.{noRecord, padded, recordAt, belowFrom, precedes}
@@ -39,7 +39,7 @@ use Rattle.index_find.proofs.Halving.{Ends, compared-few, past-ends}
 -- ---- the search from the end
 
 module _ (dir name : List ℕ) where
-  find-none : (n : ℕ) → ((m : ℕ) → m < n → sameName (entryName dir m) name ≡ false) → findMarker dir name n ≡ NoMarker MapMissing
+  find-none : (n : ℕ) → ((m : ℕ) → m < n → sameName (entryName dir m) name ≡ false) → findMarker dir name n ≡ NoMarker EntryMissing
   find-none zero none = findMarker-none dir name
   find-none (suc n) none =
       findMarker-on dir name n (suc n) refl refl (none n (omega arith)) ∙ find-none n (λ m h. none m (omega arith))

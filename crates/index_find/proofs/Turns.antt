@@ -7,7 +7,7 @@ use mathlib.Core.Path.{_≡_, refl, sym, ap, _∙_}
 use native.Mathlib.Omega.{arith}
 use borrow.Author.Tests.{ne-eqb}
 use lib.Dec.{eqb}
-use Rattle.refusal.specs.declared.Refusal.the-variants.{MapMissing}
+use Rattle.refusal.specs.declared.Refusal.the-variants.{EntryMissing}
 use Rattle.wad.specs.declared.map.Marker.the-variants.{Refused as NoMarker}
 use Rattle.index_find.specs.Finding.{pastBy, comparedBy, isEqual, numberIn, believed, lastPast}
 use Rattle.index_find.specs.Inner.{ofLast}
@@ -121,6 +121,6 @@ module _ (dir : List ℕ) (count : ℕ) (index name : List ℕ) where
   last-equal zero e = let z : _≡_ {A = ℕ} 0 1 = cc in absurd (omega arith)
   last-equal (suc i) e = let one : suc i - 1 ≡ i = omega arith in rw (one, e)
 
-  pub last-other : (past : ℕ) → ofLast (isEqual index name) past ≡ false → NoMarker MapMissing ≡ lastPast dir count index name past
+  pub last-other : (past : ℕ) → ofLast (isEqual index name) past ≡ false → NoMarker EntryMissing ≡ lastPast dir count index name past
   last-other zero e = refl
   last-other (suc i) e = rw e

@@ -6,25 +6,25 @@ use mathlib.Core.List.{List}
 use lib.Dec.{ltb, eqb}
 use lib.ListN.{length}
 use Rattle.endian.specs.Unsigned.{u16At}
-use Rattle.refusal.specs.declared.Refusal.the-variants.{MapMissing}
+use Rattle.refusal.specs.declared.Refusal.the-variants.{EntryMissing}
 use Rattle.name.specs.Names.{sameBytes, sameName}
 use Rattle.wad.specs.declared.map.Marker.{Marker}
 use Rattle.wad.specs.declared.map.Marker.the-variants.{Entry, Refused as NoMarker}
 use Rattle.wad.specs.declared.map.MarkerSearch.{MarkerSearch}
-use Rattle.directory.specs.Slices.{part}
-use Rattle.directory.specs.Header.{headOf, entryCount}
-use Rattle.directory.specs.Entries.{directoryOf, entryName}
+use Rattle.wad.specs.Slices.{part}
+use Rattle.wad.specs.Header.{headOf, entryCount}
+use Rattle.wad.specs.Entries.{directoryOf, entryName}
 use Rattle.wad.specs.Map.{searched}
 use Rattle.index.specs.Records.{padded, belowFrom}
-use Rattle.index.specs.Index.{recordPlace}
+use Rattle.index.specs.Index.{recordOffset}
 use Rattle.index_check.specs.Checking.{indexHeadCheck}
 
 -- record `i` of the index: the name's bytes as they are, and the entry number
 abbrev pub nameIn : List ℕ → ℕ → List ℕ
-nameIn index i = part index (recordPlace i) 8
+nameIn index i = part index (recordOffset i) 8
 
 abbrev pub numberIn : List ℕ → ℕ → ℕ
-numberIn index i = u16At index (recordPlace i + 8)
+numberIn index i = u16At index (recordOffset i + 8)
 
 -- by bytes, the name of record `i` is not above the asked name
 abbrev pub notAbove : List ℕ → List ℕ → ℕ → Bool
@@ -53,13 +53,13 @@ comparedBy low (suc fuel) past left =
 -- the entry of a number, if it is one and has the name
 abbrev pub believed : List ℕ → ℕ → List ℕ → ℕ → Marker
 believed dir count name number =
-    cond (ltb number count && sameName (entryName dir number) name) (Entry number) (NoMarker MapMissing)
+    cond (ltb number count && sameName (entryName dir number) name) (Entry number) (NoMarker EntryMissing)
 
 -- the entry of the last record gone past, if that record has the asked name
 abbrev pub lastPast : List ℕ → ℕ → List ℕ → List ℕ → ℕ → Marker
-lastPast dir count index name zero = NoMarker MapMissing
+lastPast dir count index name zero = NoMarker EntryMissing
 lastPast dir count index name (suc i) =
-    cond (isEqual index name i) (believed dir count name (numberIn index i)) (NoMarker MapMissing)
+    cond (isEqual index name i) (believed dir count name (numberIn index i)) (NoMarker EntryMissing)
 
 -- what the index leads to; a name of another length than eight bytes is compared with nothing
 abbrev pub lookup : List ℕ → ℕ → List ℕ → List ℕ → MarkerSearch
@@ -69,7 +69,7 @@ lookup dir count index name =
       marker = lastPast dir count index name (pastBy (notAbove index name) count 0 count);
       compared = comparedBy (notAbove index name) count 0 count;
     })
-    (record { marker = NoMarker MapMissing; compared = 0 })
+    (record { marker = NoMarker EntryMissing; compared = 0 })
 
 -- 1 to 6, 82 and 83, with nothing compared; then the entry, or 11
 abbrev pub findAnswer : List ℕ → List ℕ → List ℕ → MarkerSearch

@@ -4,8 +4,8 @@ use mathlib.Core.List.{List}
 use mathlib.Core.Path.{_≡_}
 use lib.ListN.{length}
 use Rattle.refusal.specs.declared.Check.the-variants.{Pass}
-use Rattle.directory.specs.Header.{headOf, entryCount}
-use Rattle.directory.specs.Entries.{directoryOf, fileCheck}
+use Rattle.wad.specs.Header.{headOf, entryCount}
+use Rattle.wad.specs.Entries.{directoryOf, fileCheck}
 use Rattle.wad.specs.Map.{findMarker}
 use Rattle.index.specs.Index.{indexBytes}
 use Rattle.index_find.specs.Finding.{findAnswer}

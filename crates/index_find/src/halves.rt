@@ -2,7 +2,7 @@
 ghost use mathlib.Core.Path.{_≡_};
 ghost use Prim.Native.Nat.{_+_, _<_, _≤_};
 ghost use lib.ListN.{length};
-ghost use Rattle.index.specs.Index.{recordPlace};
+ghost use Rattle.index.specs.Index.{recordOffset};
 ghost use Rattle.index_find.specs.Finding.{notAbove, isEqual};
 ghost use Rattle.index_find.specs.Inner.{comparison, goneBy};
 use index::keys::key_of;
@@ -22,7 +22,7 @@ pub struct GonePast {
 
 // Compares the name of one record with the asked name, which is given as its eight bytes.
 fn compare(index: &[u8], asked: [u8; 8], i: usize) -> Comparison
-    requires { ⌜ (i < 4096) × (recordPlace i + 10 ≤ length (now index)) ⌝ }
+    requires { ⌜ (i < 4096) × (recordOffset i + 10 ≤ length (now index)) ⌝ }
     ensures { λ r. ⌜ r ≡ comparison (now (index .entry)) asked i ⌝ }
 {
     let record = index_check::record_in(index, i);
@@ -38,7 +38,7 @@ fn compare(index: &[u8], asked: [u8; 8], i: usize) -> Comparison
 // Compares the record behind half of those that are left. If it is not above the asked name the search goes on after
 // it, otherwise before it.
 pub fn gone_past(index: &[u8], count: usize, name: &[u8]) -> GonePast
-    requires { ⌜ (count ≤ 4096) × (recordPlace count ≤ length (now index)) × (length (now name) ≡ 8) ⌝ }
+    requires { ⌜ (count ≤ 4096) × (recordOffset count ≤ length (now index)) × (length (now name) ≡ 8) ⌝ }
     ensures { λ r. ⌜ (r ≡ goneBy (notAbove (now (index .entry)) (now (name .entry))) (isEqual (now (index .entry)) (now (name .entry))) count) × (r .past ≤ count) ⌝ }
 {
     let asked = index::names::padded(name);

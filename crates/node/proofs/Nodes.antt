@@ -6,12 +6,12 @@ use mathlib.Core.Path.{_≡_}
 use native.Mathlib.Omega.{arith}
 use borrow.Author.Tests.{ltb-true, lt-ltb}
 use lib.ListN.{length}
-use Rattle.built.specs.Nodes.{nodeSize}
+use Rattle.record.specs.Nodes.{nodeSize}
 use Rattle.refusal.proofs.Checks.{both}
 use Rattle.node.specs.declared.Choice.{Choice}
 use Rattle.node.specs.declared.Choice.the-variants.{Right, Left}
 use Rattle.node.specs.Nodes.{nodesOf, subsectorBit, root, childOf, childOk, nodeOk}
-use Rattle.node.specs.Inner.{NodesInRange}
+use Rattle.node.specs.Ranges.{NodesInRange}
 
 -- every child of every node is in range, whether a route reaches the node or not
 abbrev pub ChildrenInRange : List ℕ → ℕ → Type 0

@@ -1,4 +1,4 @@
 -- A NODES lump as a graph: children, and the root. Assumes nothing.
 
 pub mod Nodes
-pub mod Inner
+pub mod Ranges

@@ -5,9 +5,9 @@ use mathlib.Core.Bool.{Bool, _&&_, cond}
 use mathlib.Core.List.{List}
 use lib.Dec.{ltb}
 use lib.ListN.{length}
-use Rattle.field.specs.Records.{recordBytes}
-use Rattle.built.specs.declared.node.Node.{Node}
-use Rattle.built.specs.Nodes.{nodeSize, nodeOf}
+use Rattle.record_field.specs.Records.{recordBytes}
+use Rattle.record.specs.declared.node.Node.{Node}
+use Rattle.record.specs.Nodes.{nodeSize, nodeOf}
 use Rattle.node.specs.declared.Choice.{Choice}
 use Rattle.node.specs.declared.Choice.the-variants.{Right, Left}
 

@@ -3,9 +3,9 @@ ghost use mathlib.Core.Path.{_≡_};
 ghost use Prim.Native.Nat.{_+_, _*_, _≤_, _<_};
 ghost use lib.ListN.{length};
 ghost use Rattle.endian.specs.Unsigned.{u16At};
-ghost use Rattle.built.specs.Nodes.{nodeSize};
+ghost use Rattle.record.specs.Nodes.{nodeSize};
 ghost use Rattle.node.specs.Nodes.{childOf, childOk, nodeOk};
-use built::Node;
+use record::Node;
 
 // A word from here on is a subsector's, a word below it a node's.
 pub const SUBSECTOR_BIT: usize = 32768;

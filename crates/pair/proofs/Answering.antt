@@ -6,14 +6,14 @@ use Rattle.refusal.specs.declared.Refusal.{Refusal}
 use Rattle.wad.specs.declared.lumps.Entry.{Entry}
 use Rattle.wad.specs.declared.map.Marker.{Marker}
 use Rattle.wad.specs.declared.map.Marker.the-variants.{Entry as Found, Refused as NoMarker}
-use Rattle.level.specs.declared.Verdict.{Verdict}
-use Rattle.level.specs.declared.Verdict.the-variants.{Refused as NotAccepted}
-use Rattle.level.specs.Verdict.{verdictBy, wordsAfterBy, AnsweredAt}
-use Rattle.pair_search.specs.declared.PairSearch.{PairSearch}
+use Rattle.map_check.specs.declared.Verdict.{Verdict}
+use Rattle.map_check.specs.declared.Verdict.the-variants.{Refused as NotAccepted}
+use Rattle.map_check.specs.Verdict.{verdictBy, wordsAfterBy, AnsweredAt}
+use Rattle.pair.specs.declared.search.PairSearch.{PairSearch}
 use Rattle.pair.specs.declared.PairEntry.{PairEntry}
 use Rattle.pair.specs.declared.PairVerdict.{PairVerdict}
-use Rattle.pair_search.specs.Search.{fileOf, lumpSearch, mapSearch}
-use Rattle.pair.specs.Answers.{entryBy, entryOf, pairEntry, verdictOf, wordsOf, PairAnswered}
+use Rattle.pair.specs.Search.{fileOf, lumpSearch, mapSearch}
+use Rattle.pair.specs.Answers.{entryBy, entryOf, pairEntry, verdictOf, wordsAfterSearch, PairAnswered}
 
 module _ (base patch name : List ℕ) (s : PairSearch) where
   -- a lump's entry
@@ -33,8 +33,8 @@ module _ (base patch name : List ℕ) (s : PairSearch) where
       ∙ ap (verdictOf base patch words) e
 
   words-are : (words : List ℕ) {m : Marker} → s ≡ mapSearch base patch name → s .marker ≡ m
-      → wordsAfterBy (fileOf base patch (s .file)) words m ≡ wordsOf base patch words (mapSearch base patch name)
-  words-are words e m = ap (wordsAfterBy (fileOf base patch (s .file)) words) (sym m) ∙ ap (wordsOf base patch words) e
+      → wordsAfterBy (fileOf base patch (s .file)) words m ≡ wordsAfterSearch base patch words (mapSearch base patch name)
+  words-are words e m = ap (wordsAfterBy (fileOf base patch (s .file)) words) (sym m) ∙ ap (wordsAfterSearch base patch words) e
 
   pub pair-refused : (words : List ℕ) {r : Refusal} → s ≡ mapSearch base patch name → s .marker ≡ NoMarker r
       → PairAnswered base patch name words (record { file = s .file; verdict = NotAccepted r }) words

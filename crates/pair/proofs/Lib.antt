@@ -1,4 +1,5 @@
--- The laws of the pair of files. Assumes nothing.
+-- The laws of the search of two files. The laws of the pair of files. Assumes nothing.
 
 pub mod Searching
+pub mod Entries
 pub mod Answering

@@ -7,13 +7,13 @@ use Rattle.wad.specs.declared.lumps.Entry.{Entry}
 use Rattle.wad.specs.declared.lumps.Entry.the-variants.{At, Refused as NotThere}
 use Rattle.wad.specs.declared.map.Marker.{Marker}
 use Rattle.wad.specs.declared.map.Marker.the-variants.{Entry as Found, Refused as NoMarker}
-use Rattle.directory.specs.Entries.{directoryOf}
+use Rattle.wad.specs.Entries.{directoryOf}
 use Rattle.wad.specs.Lump.{entryOffset, entrySize, partOf}
-use Rattle.level.specs.Verdict.{verdictBy, wordsAfterBy}
-use Rattle.pair_search.specs.declared.PairSearch.{PairSearch}
+use Rattle.map_check.specs.Verdict.{verdictBy, wordsAfterBy}
+use Rattle.pair.specs.declared.search.PairSearch.{PairSearch}
 use Rattle.pair.specs.declared.PairEntry.{PairEntry}
 use Rattle.pair.specs.declared.PairVerdict.{PairVerdict}
-use Rattle.pair_search.specs.Search.{fileOf, lumpSearch, mapSearch}
+use Rattle.pair.specs.Search.{fileOf, lumpSearch, mapSearch}
 
 -- where a found entry's part of its file lies, or the refusal
 abbrev pub entryBy : List ℕ → Marker → Entry
@@ -42,8 +42,8 @@ abbrev pub verdictOf : List ℕ → List ℕ → List ℕ → PairSearch → Pai
 verdictOf base patch words search =
     record { file = search .file; verdict = verdictBy (fileOf base patch (search .file)) words (search .marker) }
 
-abbrev pub wordsOf : List ℕ → List ℕ → List ℕ → PairSearch → List ℕ
-wordsOf base patch words search = wordsAfterBy (fileOf base patch (search .file)) words (search .marker)
+abbrev pub wordsAfterSearch : List ℕ → List ℕ → List ℕ → PairSearch → List ℕ
+wordsAfterSearch base patch words search = wordsAfterBy (fileOf base patch (search .file)) words (search .marker)
 
 -- the verdict on the map of an asked name, and in which file it is
 abbrev pub pairVerdict : List ℕ → List ℕ → List ℕ → List ℕ → PairVerdict
@@ -51,7 +51,7 @@ pairVerdict base patch name words = verdictOf base patch words (mapSearch base p
 
 -- what the lent words hold afterwards
 abbrev pub pairWords : List ℕ → List ℕ → List ℕ → List ℕ → List ℕ
-pairWords base patch name words = wordsOf base patch words (mapSearch base patch name)
+pairWords base patch name words = wordsAfterSearch base patch words (mapSearch base patch name)
 
 -- what is promised of the pair's map check: the verdict, and the words afterwards
 pub record PairAnswered (base patch name words : List ℕ) (answer : PairVerdict) (after : List ℕ) : Type 0 where

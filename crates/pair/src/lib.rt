@@ -1,11 +1,13 @@
 // The box's pair of files: a lump or a map by its name, out of a patch where it has the name, otherwise out of the base. Both
 // files are judged whole first. The definitions are in specs/.
+mod search;
+
 ghost use mathlib.Core.Path.{_≡_};
-ghost use Rattle.pair_search.specs.Search.{fileOf};
+ghost use Rattle.pair.specs.Search.{fileOf};
 ghost use Rattle.pair.specs.Answers.{pairEntry, pairLump, PairAnswered};
-use level::Verdict;
-use pair_search::search_lump;
-use pair_search::search_map;
+use map_check::Verdict;
+use search::search_lump;
+use search::search_map;
 use wad::Entry;
 use wad::Marker;
 
@@ -25,7 +27,7 @@ pub struct PairVerdict {
 fn file_of<'a>(base: &'a [u8], patch: &'a [u8], file: u32) -> &'a [u8]
     ensures { λ r. ⌜ now r ≡ fileOf (now (base .entry)) (now (patch .entry)) file ⌝ }
 {
-    if file == pair_search::PATCH {
+    if file == search::PATCH {
         return patch;
     }
     base
@@ -40,7 +42,7 @@ pub fn find<'a>(base: &'a [u8], patch: &'a [u8], name: &[u8]) -> PairEntry
     let marker = search.marker;
     match marker {
         Marker::Entry(i) => {
-            let dir = directory::directory_of(file_of(base, patch, file));
+            let dir = wad::directory_of(file_of(base, patch, file));
             PairEntry {
                 file,
                 entry: Entry::At {
@@ -64,7 +66,7 @@ pub fn pick<'a>(base: &'a [u8], patch: &'a [u8], name: &[u8]) -> &'a [u8]
     let file = found.file;
     let entry = found.entry;
     match entry {
-        Entry::At { offset, size } => directory::part_if(file_of(base, patch, file), offset, size),
+        Entry::At { offset, size } => wad::part_if(file_of(base, patch, file), offset, size),
         Entry::Refused(_) => &base[0..0],
     }
 }
@@ -80,7 +82,7 @@ pub fn judge_map<'a>(base: &'a [u8], patch: &'a [u8], name: &[u8], words: &mut [
     match marker {
         Marker::Entry(i) => PairVerdict {
             file,
-            verdict: level::judge_at(file_of(base, patch, file), i, words),
+            verdict: map_check::judge_at(file_of(base, patch, file), i, words),
         },
         Marker::Refused(r) => PairVerdict {
             file,

@@ -15,10 +15,10 @@ use Rattle.refusal.specs.Checks.{unless}
 use Rattle.refusal.proofs.Checks.{both, unless-pass, andThen-pass}
 use Rattle.picture_header.specs.Layout.{startAt, endAt, endRow, postEnd}
 use Rattle.picture.specs.Judging.{postsCheck, postCheck, rowsOk}
-use Rattle.posts.specs.Inner.{isNoted, noted, Notes}
+use Rattle.picture.specs.Stepping.{isNoted, noted, Notes}
 use Rattle.picture.specs.Inner.{Ends, ended, post, Good}
 use Rattle.picture.proofs.Posts.{Rest, rest-ended, rest-more}
-use Rattle.posts.proofs.Slots.{notes-here, notes-more, length-noted}
+use Rattle.picture.proofs.Slots.{notes-here, notes-more, length-noted}
 
 module _ (lump : List ℕ) (height : ℕ) where
   -- the row above matters to the first post alone

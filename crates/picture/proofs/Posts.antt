@@ -13,8 +13,8 @@ use Rattle.refusal.specs.declared.Check.{Check}
 use Rattle.refusal.specs.declared.Check.the-variants.{Pass, Refused}
 use Rattle.picture_header.specs.Layout.{startAt, endRow, postEnd}
 use Rattle.picture.specs.Judging.{postsCheck, rowsOk}
-use Rattle.posts.specs.Inner.{pastEmpty}
-use Rattle.posts.proofs.Inner.{Empty, past-holds}
+use Rattle.picture.specs.Stepping.{pastEmpty}
+use Rattle.picture.proofs.Inner.{Empty, past-holds}
 
 module _ (lump : List ℕ) (height column : ℕ) where
   -- the posts from `at` on, below row `row`, decide the answer

@@ -48,6 +48,6 @@ abbrev pub pictureCheck : List ℕ → Check
 pictureCheck lump = pictureHeaderCheck lump andThen columnsCheck lump
 
 -- the answer: the header of a picture that passed, or the refusal
-abbrev pub answerOf : Check → List ℕ → PictureVerdict
-answerOf Pass lump = Accepted (pictureOf lump)
-answerOf (Refused r) lump = NotAccepted r
+abbrev pub pictureAnswer : Check → List ℕ → PictureVerdict
+pictureAnswer Pass lump = Accepted (pictureOf lump)
+pictureAnswer (Refused r) lump = NotAccepted r

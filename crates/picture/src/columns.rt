@@ -6,11 +6,11 @@ ghost use lib.ListN.{length};
 ghost use Rattle.refusal.specs.declared.Check.the-variants.{Pass};
 ghost use Rattle.refusal.specs.Checks.{each};
 ghost use Rattle.picture.specs.Judging.{postsCheck, columnCheck};
-ghost use Rattle.posts.specs.Inner.{Notes};
+ghost use Rattle.picture.specs.Stepping.{Notes};
 ghost use Rattle.picture.specs.Inner.{Good};
-use posts::is_noted;
-use posts::note;
-use posts::skip_ahead;
+use crate::notes::is_noted;
+use crate::notes::note;
+use crate::skipping::skip_ahead;
 use refusal::Check;
 use refusal::Refusal;
 

@@ -1,5 +1,3 @@
--- The laws of a record's fields with their ranges. Assumes nothing.
+-- The laws of reasons. Assumes nothing.
 
-pub mod Reasons
-pub mod RefusedRecords
-pub mod Examples
+pub mod Printing

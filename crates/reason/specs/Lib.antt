@@ -1,5 +1,4 @@
--- The fields of a map's records that refer to others, with their ranges. Assumes nothing.
+-- Why a map is judged as it is: what is printed with its verdict. Assumes nothing.
 
-pub mod RecordFields
-pub mod Reasons
-pub mod Examples
+pub mod Printing
+pub mod Inner

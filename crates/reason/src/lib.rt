@@ -1,183 +1,126 @@
-// Why a record is refused (23 to 27): the first of its fields that is out of its range, each over one lump, read in place. The definitions are in
-// specs/. Callers show that the counts are those that 21 lets pass.
+// Why a map is judged as it is (W-211): the map check, and with its verdict the reason, printed into a lent output. The definitions are
+// in specs/.
 ghost use mathlib.Core.Path.{_≡_};
-ghost use Prim.Native.Nat.{_+_, _-_, _/_, _<_, _≤_};
-ghost use mathlib.Core.Bool.{cond};
+ghost use Prim.Native.Nat.{_*_, _+_, _<_, _≤_};
 ghost use lib.ListN.{length};
-ghost use Rattle.endian.specs.Unsigned.{u16At};
-ghost use Rattle.range.specs.Fields.{FieldFits, fieldAt, noField, firstOf, firstOut};
-ghost use Rattle.field.specs.Records.{recordBytes};
-ghost use Rattle.linedef.specs.Linedefs.{linedefSize};
-ghost use Rattle.record.specs.Sidedefs.{sidedefSize};
-ghost use Rattle.built.specs.Segs.{segSize};
-ghost use Rattle.built.specs.Subsectors.{subsectorSize};
-ghost use Rattle.built.specs.Nodes.{nodeSize};
+ghost use Rattle.refusal.specs.declared.Check.the-variants.{Pass};
+ghost use Rattle.wad.specs.Header.{headOf, entryCount};
+ghost use Rattle.wad.specs.Entries.{fileCheck};
 ghost use Rattle.node.specs.Nodes.{nodesOf};
-ghost use Rattle.reason.specs.RecordFields.{Counted, numberAt, leftFields, linedefFields, sidedefFields, segFields, subsectorFields, childAt, nodeFields};
-use built::Node;
-use built::Seg;
-use built::Subsector;
-use linedef::Linedef;
-use linedef::NO_SIDEDEF;
-use range::Field;
-use record::Sidedef;
+ghost use Rattle.node_graph.specs.Judging.{Judgeable};
+ghost use Rattle.map_lumps.specs.Lumps.{mapLumps};
+ghost use Rattle.map_lumps.specs.Games.{gameAt};
+ghost use Rattle.reason_field.specs.Named.{fieldOk};
+ghost use Rattle.reason.specs.Printing.{answerBy, ReasonTold, ReasonToldAt};
+ghost use Rattle.reason.specs.Inner.{RefusedBelow, RefusalTold, GraphTold};
+use map_check::Verdict;
+use record::Node;
+use refusal::Check;
+use refusal::Refusal;
+use wad::Marker;
 
-// Where a node's children stand.
-const RIGHT: usize = 24;
+// The bytes of a printed field.
+const FIELD_SIZE: usize = 16;
 
-const LEFT: usize = 26;
-
-pub fn linedef_field(
-    hexen: bool,
-    linedefs: &[u8],
-    vertices: usize,
-    sidedefs: usize,
-    i: usize,
-) -> Field
-    requires { ⌜ (i < length (now linedefs) / linedefSize hexen) × Counted vertices × Counted sidedefs ⌝ }
-    ensures { λ r. ⌜ (r ≡ firstOut (linedefFields hexen (recordBytes (now (linedefs .entry)) (linedefSize hexen) i) vertices sidedefs)) × FieldFits r ⌝ }
-{
-    let size = Linedef::size(hexen);
-    let start = number_at(linedefs, size, i, reference::START, vertices);
-    let end = number_at(linedefs, size, i, reference::END, vertices);
-    let right = number_at(linedefs, size, i, Linedef::right_place(hexen), sidedefs);
-    let left = left_field(hexen, linedefs, sidedefs, i);
-    first_of(start, first_of(end, first_of(right, left)))
+// The verdict, and how many bytes were printed with it. 85 stands alone.
+pub struct Reason {
+    pub verdict: Verdict,
+    pub length: usize,
 }
 
-// The left sidedef, but where there is none and need not be.
-fn left_field(hexen: bool, linedefs: &[u8], sidedefs: usize, i: usize) -> Field
-    requires { ⌜ (i < length (now linedefs) / linedefSize hexen) × Counted sidedefs ⌝ }
-    ensures { λ r. ⌜ (r ≡ firstOut (leftFields hexen (recordBytes (now (linedefs .entry)) (linedefSize hexen) i) sidedefs)) × FieldFits r ⌝ }
+// The map of the asked name, judged as map_check::judge_map does, over the same words; the reason is printed into the front of the
+// output where there is room for it.
+pub fn judge_map(wad: &[u8], name: &[u8], words: &mut [u16], out: &mut [u8]) -> Reason
+    ensures { λ r. ⌜ ReasonTold (now (wad .entry)) (now (name .entry)) (now (words .entry)) (now (out .entry)) r (now (words .exit)) (now (out .exit)) ⌝ }
 {
-    let size = Linedef::size(hexen);
-    let left = number_at(linedefs, size, i, Linedef::left_place(hexen), sidedefs);
-    let two_sided = reference::two_sided(reference::field(linedefs, size, i, reference::FLAGS));
-    if (left.number == NO_SIDEDEF) & !two_sided {
-        return none();
+    match wad::find_map(wad, name) {
+        Marker::Refused(r) => Reason {
+            verdict: Verdict::Refused(r),
+            length: 0,
+        },
+        Marker::Entry(marker) => judge_at(wad, marker, words, out),
     }
-    first_of(left, none())
 }
 
-pub fn sidedef_field(sidedefs: &[u8], sectors: usize, i: usize) -> Field
-    requires { ⌜ (i < length (now sidedefs) / sidedefSize) × Counted sectors ⌝ }
-    ensures { λ r. ⌜ (r ≡ firstOut (sidedefFields (recordBytes (now (sidedefs .entry)) sidedefSize i) sectors)) × FieldFits r ⌝ }
+// From a marker on that was found.
+fn judge_at(wad: &[u8], marker: usize, words: &mut [u16], out: &mut [u8]) -> Reason
+    requires { ⌜ (fileCheck (now wad) ≡ Pass) × (marker < entryCount (headOf (now wad))) ⌝ }
+    ensures { λ r. ⌜ ReasonToldAt (now (wad .entry)) marker (now (words .entry)) (now (out .entry)) r (now (words .exit)) (now (out .exit)) ⌝ }
 {
-    first_of(
-        number_at(sidedefs, Sidedef::SIZE, i, reference::SECTOR, sectors),
-        none(),
+    let dir = wad::directory_of(wad);
+    let count = wad::entry_count(wad);
+    if let Check::Refused(r) = map_check::judge_below(wad, dir, count, marker, words.len()) {
+        return tell_refusal(wad, dir, count, marker, r, out);
+    }
+    tell_graph(
+        map_lumps::map_lump(wad, dir, marker, Node::PLACE),
+        marker,
+        words,
+        out,
     )
 }
 
-pub fn seg_field(hexen: bool, segs: &[u8], linedefs: &[u8], vertices: usize, i: usize) -> Field
-    requires { ⌜ (i < length (now segs) / segSize) × Counted vertices × Counted (length (now linedefs) / linedefSize hexen) ⌝ }
-    ensures { λ r. ⌜ (r ≡ firstOut (segFields hexen (now (linedefs .entry)) (recordBytes (now (segs .entry)) segSize i) vertices)) × FieldFits r ⌝ }
+// Below 31: a field with 23 to 28, and nothing otherwise.
+fn tell_refusal(
+    wad: &[u8],
+    dir: &[u8],
+    count: usize,
+    marker: usize,
+    r: Refusal,
+    out: &mut [u8],
+) -> Reason
+    requires { ⌜ RefusedBelow (now wad) (now dir) count marker r ⌝ }
+    ensures { λ a. ⌜ RefusalTold (gameAt (now (dir .entry)) count marker) (mapLumps (now (wad .entry)) (now (dir .entry)) marker) r (now (out .entry)) a (now (out .exit)) ⌝ }
 {
-    let start = number_at(segs, Seg::SIZE, i, reference::START, vertices);
-    let end = number_at(segs, Seg::SIZE, i, reference::END, vertices);
-    let linedef = number_at(
-        segs,
-        Seg::SIZE,
-        i,
-        reference::LINEDEF,
-        linedefs.len() / Linedef::size(hexen),
+    let number = refusal::number_of(r);
+    if !field_ok(number) {
+        return answer(Verdict::Refused(r), 0, out.len());
+    }
+    if out.len() < FIELD_SIZE {
+        return answer(Verdict::Refused(r), FIELD_SIZE, out.len());
+    }
+    reason_field::print_field(
+        map_lumps::game_at(dir, count, marker),
+        wad,
+        dir,
+        marker,
+        number,
+        refusal::record_of(r),
+        out,
     );
-    let most = one_if(reference::left_ok(hexen, linedefs, linedef.number));
-    let direction = field_at(segs, Seg::SIZE, i, reference::DIRECTION, 0, most);
-    first_of(
-        start,
-        first_of(end, first_of(linedef, first_of(direction, none()))),
-    )
-}
-
-pub fn subsector_field(subsectors: &[u8], segs: usize, i: usize) -> Field
-    requires { ⌜ (i < length (now subsectors) / subsectorSize) × Counted segs ⌝ }
-    ensures { λ r. ⌜ (r ≡ firstOut (subsectorFields (recordBytes (now (subsectors .entry)) subsectorSize i) segs)) × FieldFits r ⌝ }
-{
-    let number = field_at(subsectors, Subsector::SIZE, i, reference::NUMBER, 1, segs);
-    let first = field_at(
-        subsectors,
-        Subsector::SIZE,
-        i,
-        reference::FIRST,
-        0,
-        left_over(segs, number.number),
-    );
-    first_of(number, first_of(first, none()))
-}
-
-pub fn node_field(nodes: &[u8], subsectors: usize, i: usize) -> Field
-    requires { ⌜ (i < nodesOf (now nodes)) × (nodesOf (now nodes) ≤ 65535) × Counted subsectors ⌝ }
-    ensures { λ r. ⌜ (r ≡ firstOut (nodeFields (recordBytes (now (nodes .entry)) nodeSize i) (nodesOf (now (nodes .entry))) subsectors)) × FieldFits r ⌝ }
-{
-    let right = child_at(nodes, subsectors, i, RIGHT);
-    let left = child_at(nodes, subsectors, i, LEFT);
-    first_of(right, first_of(left, none()))
-}
-
-// A child's range is its kind's.
-fn child_at(nodes: &[u8], subsectors: usize, i: usize, at: usize) -> Field
-    requires { ⌜ (i < nodesOf (now nodes)) × (nodesOf (now nodes) ≤ 65535) × Counted subsectors × (at + 1 < nodeSize) ⌝ }
-    ensures { λ r. ⌜ (r ≡ childAt (recordBytes (now (nodes .entry)) nodeSize i) at (nodesOf (now (nodes .entry))) subsectors) × FieldFits r ⌝ }
-{
-    if reference::field(nodes, Node::SIZE, i, at) < node::SUBSECTOR_BIT {
-        return number_at(nodes, Node::SIZE, i, at, nodes.len() / Node::SIZE);
-    }
-    field_at(
-        nodes,
-        Node::SIZE,
-        i,
-        at,
-        node::SUBSECTOR_BIT,
-        node::SUBSECTOR_BIT + subsectors - 1,
-    )
-}
-
-// The field at `at` of record i, which numbers one of `count` others.
-fn number_at(lump: &[u8], size: usize, i: usize, at: usize, count: usize) -> Field
-    requires { ⌜ (i < length (now lump) / size) × (at + 1 < size) × (size ≤ 30) × Counted count ⌝ }
-    ensures { λ r. ⌜ (r ≡ numberAt (recordBytes (now (lump .entry)) size i) at count) × FieldFits r ⌝ }
-{
-    field_at(lump, size, i, at, 0, count - 1)
-}
-
-// The field at `at` of record i, where `least` to `most` is allowed.
-fn field_at(lump: &[u8], size: usize, i: usize, at: usize, least: usize, most: usize) -> Field
-    requires { ⌜ (i < length (now lump) / size) × (at + 1 < size) × (size ≤ 30) × (least ≤ 65535) × (most ≤ 131071) ⌝ }
-    ensures { λ r. ⌜ (r ≡ fieldAt (recordBytes (now (lump .entry)) size i) at least most) × FieldFits r ⌝ }
-{
-    Field {
-        offset: at,
-        number: reference::field(lump, size, i, at),
-        least,
-        most,
+    Reason {
+        verdict: Verdict::Refused(r),
+        length: FIELD_SIZE,
     }
 }
 
-// The field f where it is out of its range, else g. Both fit 32 bits, and so does the answer.
-fn first_of(f: Field, g: Field) -> Field
-    requires { ⌜ FieldFits f × FieldFits g ⌝ }
-    ensures { λ r. ⌜ (r ≡ firstOf f g) × FieldFits r ⌝ }
+fn field_ok(number: u32) -> bool
+    ensures { λ r. ⌜ r ≡ fieldOk number ⌝ }
 {
-    range::first_of(f, g)
+    (23 <= number) & (number <= 28)
 }
 
-fn none() -> Field
-    ensures { λ r. ⌜ (r ≡ noField) × FieldFits r ⌝ }
+// 31, 32, or accepted.
+fn tell_graph(nodes: &[u8], marker: usize, words: &mut [u16], out: &mut [u8]) -> Reason
+    requires { ⌜ Judgeable (now nodes) (nodesOf (now nodes)) (now words) ⌝ }
+    ensures { λ r. ⌜ GraphTold (now (nodes .entry)) marker (now (words .entry)) (now (out .entry)) r (now (words .exit)) (now (out .exit)) ⌝ }
 {
-    range::no_field()
+    let room = out.len();
+    let told = node_path::judge(nodes, nodes.len() / Node::SIZE, words, out);
+    let graph = told.verdict;
+    answer(map_check::verdict_of(graph, marker), told.length, room)
 }
 
-// The most that a seg's direction may be.
-fn one_if(left: bool) -> usize
-    ensures { λ r. ⌜ (r ≡ cond left 1 0) × (r ≤ 1) ⌝ }
+// 85 where there is no room.
+fn answer(verdict: Verdict, length: usize, room: usize) -> Reason
+    ensures { λ r. ⌜ r ≡ answerBy verdict length room ⌝ }
 {
-    if left { 1 } else { 0 }
-}
-
-// The most that a subsector's first may be; 0 where the number alone exceeds the segs, and is named before it.
-fn left_over(segs: usize, number: usize) -> usize
-    ensures { λ r. ⌜ (r ≡ segs - number) × (r ≤ segs) ⌝ }
-{
-    if number <= segs { segs - number } else { 0 }
+    if length <= room {
+        Reason { verdict, length }
+    } else {
+        Reason {
+            verdict: Verdict::Refused(Refusal::ReasonRoom),
+            length: 0,
+        }
+    }
 }

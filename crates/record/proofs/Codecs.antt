@@ -3,9 +3,9 @@
 use mathlib.Core.Path.{refl}
 use mathlib.Core.List.{[], _∷_}
 use Rattle.endian.proofs.Unsigned.{u16-whole}
-use Rattle.field.proofs.Lossless.{Codec}
-use Rattle.field.proofs.Fields.{i16-whole, name-whole}
-use Rattle.field.proofs.FieldRows.{number, signed16, name, written-whole}
+use Rattle.record_field.proofs.Lossless.{Codec}
+use Rattle.record_field.proofs.Fields.{i16-whole, name-whole}
+use Rattle.record_field.proofs.FieldRows.{number, signed16, name, written-whole}
 use Rattle.record.specs.Sidedefs.{sidedefSize, sidedefOf, sidedefBytes, SidedefFits}
 use Rattle.record.specs.Vertexes.{vertexSize, vertexOf, vertexBytes, VertexFits}
 use Rattle.record.specs.Sectors.{sectorSize, sectorOf, sectorBytes, SectorFits}

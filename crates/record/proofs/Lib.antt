@@ -1,3 +1,4 @@
--- The laws of sidedefs, vertices and sectors. Assumes nothing.
+-- The laws of sidedefs, vertices and sectors. The laws of the kinds that a node builder makes. Assumes nothing.
 
 pub mod Codecs
+pub mod BuiltCodecs

@@ -3,8 +3,8 @@ use Prim.Native.Nat.{ℕ}
 use mathlib.Core.List.{List, _++_}
 use Rattle.endian.specs.Unsigned.{u16At, u16Bytes}
 use Rattle.endian.specs.Signed.{i16At}
-use Rattle.field.specs.Fields.{i16Bytes, Int16, nameAt, Name}
-use Rattle.field.specs.Records.{insideCheck, bytesOrZeros}
+use Rattle.record_field.specs.Fields.{i16Bytes, Int16, nameAt, Name}
+use Rattle.record_field.specs.Records.{insideCheck, bytesOrZeros}
 use Rattle.record.specs.declared.sector.Sector.{Sector}
 use Rattle.record.specs.declared.sector.SectorRead.{SectorRead}
 

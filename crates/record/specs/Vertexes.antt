@@ -2,8 +2,8 @@
 use Prim.Native.Nat.{ℕ}
 use mathlib.Core.List.{List, _++_}
 use Rattle.endian.specs.Signed.{i16At}
-use Rattle.field.specs.Fields.{i16Bytes, Int16}
-use Rattle.field.specs.Records.{insideCheck, bytesOrZeros}
+use Rattle.record_field.specs.Fields.{i16Bytes, Int16}
+use Rattle.record_field.specs.Records.{insideCheck, bytesOrZeros}
 use Rattle.record.specs.declared.vertex.Vertex.{Vertex}
 use Rattle.record.specs.declared.vertex.VertexRead.{VertexRead}
 

@@ -1,7 +1,7 @@
 // A record of SECTORS: floor, ceiling and light of an area.
 ghost use mathlib.Core.Path.{_≡_};
 ghost use lib.ListN.{length};
-ghost use Rattle.field.specs.Records.{Written};
+ghost use Rattle.record_field.specs.Records.{Written};
 ghost use Rattle.record.specs.Sectors.{sectorSize, sectorOf, sectorBytes, sectorAt};
 use refusal::Check;
 
@@ -34,8 +34,8 @@ impl Sector {
         requires { ⌜ length (now b) ≡ sectorSize ⌝ }
         ensures { λ r. ⌜ r ≡ sectorOf (now (b .entry)) ⌝ }
     {
-        let floor_flat = field::name_at(b, 4);
-        let ceiling_flat = field::name_at(b, 12);
+        let floor_flat = record_field::name_at(b, 4);
+        let ceiling_flat = record_field::name_at(b, 12);
         Sector {
             floor: endian::i16_at(b, 0),
             ceiling: endian::i16_at(b, 2),
@@ -56,8 +56,8 @@ impl Sector {
         let mut out = [0; 26];
         endian::put_i16(&mut out, 0, self.floor);
         endian::put_i16(&mut out, 2, self.ceiling);
-        field::put_name(&mut out, 4, floor_flat);
-        field::put_name(&mut out, 12, ceiling_flat);
+        record_field::put_name(&mut out, 4, floor_flat);
+        record_field::put_name(&mut out, 12, ceiling_flat);
         endian::put_u16(&mut out, 20, self.light);
         endian::put_u16(&mut out, 22, self.special);
         endian::put_u16(&mut out, 24, self.tag);
@@ -69,8 +69,13 @@ impl Sector {
         ensures { λ r. ⌜ r ≡ sectorAt (now (lump .entry)) index ⌝ }
     {
         SectorRead {
-            check: field::inside_check(lump, Sector::SIZE, index),
-            sector: Sector::parse(field::bytes_or_zeros(lump, Sector::SIZE, index, &[0; 26])),
+            check: record_field::inside_check(lump, Sector::SIZE, index),
+            sector: Sector::parse(record_field::bytes_or_zeros(
+                lump,
+                Sector::SIZE,
+                index,
+                &[0; 26],
+            )),
         }
     }
 
@@ -79,6 +84,6 @@ impl Sector {
         ensures { λ r. ⌜ Written (now (lump .entry)) sectorSize index (sectorBytes sector) r (now (lump .exit)) ⌝ }
     {
         let bytes = sector.bytes();
-        field::replace(lump, Sector::SIZE, index, &bytes)
+        record_field::replace(lump, Sector::SIZE, index, &bytes)
     }
 }

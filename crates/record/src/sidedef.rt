@@ -1,7 +1,7 @@
 // A record of SIDEDEFS: what one side of a linedef shows, and the sector before it.
 ghost use mathlib.Core.Path.{_≡_};
 ghost use lib.ListN.{length};
-ghost use Rattle.field.specs.Records.{Written};
+ghost use Rattle.record_field.specs.Records.{Written};
 ghost use Rattle.record.specs.Sidedefs.{sidedefSize, sidedefOf, sidedefBytes, sidedefAt};
 use refusal::Check;
 
@@ -33,9 +33,9 @@ impl Sidedef {
         requires { ⌜ length (now b) ≡ sidedefSize ⌝ }
         ensures { λ r. ⌜ r ≡ sidedefOf (now (b .entry)) ⌝ }
     {
-        let upper = field::name_at(b, 4);
-        let lower = field::name_at(b, 12);
-        let middle = field::name_at(b, 20);
+        let upper = record_field::name_at(b, 4);
+        let lower = record_field::name_at(b, 12);
+        let middle = record_field::name_at(b, 20);
         Sidedef {
             x_offset: endian::i16_at(b, 0),
             y_offset: endian::i16_at(b, 2),
@@ -56,9 +56,9 @@ impl Sidedef {
         let mut out = [0; 30];
         endian::put_i16(&mut out, 0, self.x_offset);
         endian::put_i16(&mut out, 2, self.y_offset);
-        field::put_name(&mut out, 4, upper);
-        field::put_name(&mut out, 12, lower);
-        field::put_name(&mut out, 20, middle);
+        record_field::put_name(&mut out, 4, upper);
+        record_field::put_name(&mut out, 12, lower);
+        record_field::put_name(&mut out, 20, middle);
         endian::put_u16(&mut out, 28, self.sector);
         out
     }
@@ -68,8 +68,13 @@ impl Sidedef {
         ensures { λ r. ⌜ r ≡ sidedefAt (now (lump .entry)) index ⌝ }
     {
         SidedefRead {
-            check: field::inside_check(lump, Sidedef::SIZE, index),
-            sidedef: Sidedef::parse(field::bytes_or_zeros(lump, Sidedef::SIZE, index, &[0; 30])),
+            check: record_field::inside_check(lump, Sidedef::SIZE, index),
+            sidedef: Sidedef::parse(record_field::bytes_or_zeros(
+                lump,
+                Sidedef::SIZE,
+                index,
+                &[0; 30],
+            )),
         }
     }
 
@@ -78,6 +83,6 @@ impl Sidedef {
         ensures { λ r. ⌜ Written (now (lump .entry)) sidedefSize index (sidedefBytes sidedef) r (now (lump .exit)) ⌝ }
     {
         let bytes = sidedef.bytes();
-        field::replace(lump, Sidedef::SIZE, index, &bytes)
+        record_field::replace(lump, Sidedef::SIZE, index, &bytes)
     }
 }

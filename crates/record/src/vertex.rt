@@ -1,7 +1,7 @@
 // A record of VERTEXES: a point of the map.
 ghost use mathlib.Core.Path.{_≡_};
 ghost use lib.ListN.{length};
-ghost use Rattle.field.specs.Records.{Written};
+ghost use Rattle.record_field.specs.Records.{Written};
 ghost use Rattle.record.specs.Vertexes.{vertexSize, vertexOf, vertexBytes, vertexAt};
 use refusal::Check;
 
@@ -48,8 +48,8 @@ impl Vertex {
         ensures { λ r. ⌜ r ≡ vertexAt (now (lump .entry)) index ⌝ }
     {
         VertexRead {
-            check: field::inside_check(lump, Vertex::SIZE, index),
-            vertex: Vertex::parse(field::bytes_or_zeros(lump, Vertex::SIZE, index, &[0; 4])),
+            check: record_field::inside_check(lump, Vertex::SIZE, index),
+            vertex: Vertex::parse(record_field::bytes_or_zeros(lump, Vertex::SIZE, index, &[0; 4])),
         }
     }
 
@@ -58,6 +58,6 @@ impl Vertex {
         ensures { λ r. ⌜ Written (now (lump .entry)) vertexSize index (vertexBytes vertex) r (now (lump .exit)) ⌝ }
     {
         let bytes = vertex.bytes();
-        field::replace(lump, Vertex::SIZE, index, &bytes)
+        record_field::replace(lump, Vertex::SIZE, index, &bytes)
     }
 }

@@ -5,7 +5,7 @@ use Rattle.refusal.specs.declared.Row.{Row}
 use Rattle.refusal.specs.declared.Refusal.{Refusal}
 use Rattle.refusal.specs.declared.Refusal.the-variants.{FileLength, Mark, LumpCount, DirectoryBounds}
 use Rattle.refusal.specs.declared.Refusal.the-variants.{EntryBounds, EntryName, EntryNumber}
-use Rattle.refusal.specs.declared.Refusal.the-variants.{MapName, MapMissing, MarkerRun}
+use Rattle.refusal.specs.declared.Refusal.the-variants.{MapName, EntryMissing, MarkerRun}
 use Rattle.refusal.specs.declared.Refusal.the-variants.{RecordSize, RecordCount, RejectLength}
 use Rattle.refusal.specs.declared.Refusal.the-variants.{LinedefReference, SidedefReference, SegReference}
 use Rattle.refusal.specs.declared.Refusal.the-variants.{SubsectorReference, NodeReference, Blockmap}
@@ -35,7 +35,7 @@ rowOf (EntryBounds entry) = row 5 0 entry
 rowOf (EntryName entry) = row 6 0 entry
 rowOf EntryNumber = row 7 0 0
 rowOf MapName = row 10 0 0
-rowOf MapMissing = row 11 0 0
+rowOf EntryMissing = row 11 0 0
 rowOf (MarkerRun place) = row 12 place 0
 rowOf (RecordSize place) = row 20 place 0
 rowOf (RecordCount place) = row 21 place 0

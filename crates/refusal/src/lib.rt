@@ -1,5 +1,14 @@
 // The table of refusals as one enum, with the three numbers that a caller is given for each, and the answer of a check.
 // The table itself is specs/Table.antt.
+mod status;
+
+pub use status::LengthAnswer;
+pub use status::Status;
+pub use status::length_given;
+pub use status::length_refused;
+pub use status::nothing_refused;
+pub use status::refused;
+pub use status::status_of;
 ghost use mathlib.Core.Path.{_≡_};
 ghost use Rattle.refusal.specs.Table.{rowOf, numberOf, placeOf, recordOf};
 ghost use Rattle.refusal.specs.Checks.{unless, _andThen_};
@@ -23,7 +32,7 @@ pub enum Refusal {
     // 10: the asked name is not a map name
     MapName,
     // 11: no such entry
-    MapMissing,
+    EntryMissing,
     // 12: the marker's size, or one of the ten lumps missing or misnamed, at a place
     MarkerRun(usize),
     // 20: a size that is no multiple of the record, at a place
@@ -144,7 +153,7 @@ pub fn row_of(r: Refusal) -> Row
         Refusal::EntryName(entry) => Row(6, 0, entry),
         Refusal::EntryNumber => Row(7, 0, 0),
         Refusal::MapName => Row(10, 0, 0),
-        Refusal::MapMissing => Row(11, 0, 0),
+        Refusal::EntryMissing => Row(11, 0, 0),
         Refusal::MarkerRun(place) => Row(12, place, 0),
         Refusal::RecordSize(place) => Row(20, place, 0),
         Refusal::RecordCount(place) => Row(21, place, 0),

@@ -1,7 +1,7 @@
 -- The lists of specs/Examples are judged, and one is written, by computing. Assumes nothing.
 use mathlib.Core.Path.{refl}
 use Rattle.layout.specs.Rows.{laidOut}
-use Rattle.route.specs.Heights.{wordsFrom}
+use Rattle.node_route.specs.Heights.{wordsFrom}
 use Rattle.renumber_order.specs.Orders.{childrenOk}
 use Rattle.renumber.specs.Examples.{Examples}
 

@@ -14,17 +14,17 @@ use Rattle.refusal.specs.Checks.{unless}
 use Rattle.refusal.proofs.Checks.{unless-pass, refused-then, pass-then, andThen-pass}
 use Rattle.layout.specs.Buffers.{bufferAfter}
 use Rattle.layout.proofs.LaidOut.{laid-none}
-use Rattle.built.specs.Nodes.{nodeSize}
-use Rattle.route.specs.declared.Graph.{Graph}
+use Rattle.record.specs.Nodes.{nodeSize}
+use Rattle.node_route.specs.declared.Graph.{Graph}
 use Rattle.node.specs.Nodes.{nodesOf, subsectorBit}
-use Rattle.route.specs.Heights.{graphVerdict}
-use Rattle.route.specs.Reach.{reachedNodes}
-use Rattle.route.proofs.Shared.{words-end}
-use Rattle.route.proofs.Verdict.{verdict-none}
+use Rattle.node_route.specs.Heights.{graphVerdict}
+use Rattle.node_route.specs.Reach.{reachedNodes}
+use Rattle.node_route.proofs.Shared.{words-end}
+use Rattle.node_route.proofs.Verdict.{verdict-none}
 use Rattle.renumber.specs.declared.Renumbering.{Renumbering}
 use Rattle.renumber_order.specs.Orders.{manyOk, onceOk, rootOk, childrenOk, renumberCheck}
 use Rattle.renumber.specs.Renumbering.{renumbered, newNode, renumberingOf}
-use Rattle.renumber_order.specs.Inner.{GraphJudged, graphCheck, nodesCheck}
+use Rattle.renumber_order.specs.Judging.{RenumberJudged, graphCheck, renumberGraphCheck}
 use Rattle.renumber.specs.Inner.{NodesRenumbered, Writable}
 use Rattle.renumber_order.proofs.Checking.{children-none}
 use Rattle.renumber_order.proofs.Outcomes.{graph-passes}
@@ -33,7 +33,7 @@ use Rattle.renumber_order.proofs.Outcomes.{graph-passes}
 
 module _ (nodes : List ℕ) (count : ℕ) (order : List ℕ) (room : ℕ) where
   -- what passes can be written
-  pub writable : {words : List ℕ} {a : Check} → GraphJudged nodes count order room words a → a ≡ Pass → Writable nodes count words order room
+  pub writable : {words : List ℕ} {a : Check} → RenumberJudged nodes count order room words a → a ≡ Pass → Writable nodes count words order room
   writable j e =
       let all = graph-passes nodes count order room (graphVerdict nodes) (sym (j .tells) ∙ e) in
       let p = andThen-pass (unless (manyOk nodes order) RenumberLength) _ all in
@@ -49,7 +49,7 @@ module _ (nodes : List ℕ) (count : ℕ) (order : List ℕ) (room : ℕ) where
 -- ---- what is answered and written
 
 module _ (nodes order out : List ℕ) where
-  pub renumbered-by : (k : Check) {a : Renumbering} {last : List ℕ} → nodesCheck nodes order (length out) ≡ k
+  pub renumbered-by : (k : Check) {a : Renumbering} {last : List ℕ} → renumberGraphCheck nodes order (length out) ≡ k
       → a ≡ renumberingOf k (nodeSize * length order) → last ≡ bufferAfter k (renumbered nodes order) out → NodesRenumbered nodes order out a last
   renumbered-by k e p q =
       record {
@@ -65,7 +65,7 @@ pub renumbered-none : (nodes order out : List ℕ) {a : Renumbering} → nodesOf
     → a ≡ renumberingOf (unless (eqb (length order) 0) RenumberLength) 0 → NodesRenumbered nodes order out a out
 renumbered-none nodes [] out none q =
     let empty = none-reached nodes none in
-    let passes : nodesCheck nodes [] (length out) ≡ Pass =
+    let passes : renumberGraphCheck nodes [] (length out) ≡ Pass =
     ap (λ (graph : Graph). graphCheck graph nodes [] (length out)) (verdict-none nodes none) ∙ pass-all empty in
     renumbered-by nodes [] out Pass passes q (sym (ap (λ (x : List ℕ). bufferAfter Pass x out) (laid-none (newNode nodes []))))
   where
@@ -78,7 +78,7 @@ renumbered-none nodes [] out none q =
         (sym (ap (λ (b : Bool). unless b RenumberRoom) (le-leb 0 (length out) (omega arith))))))))
 renumbered-none nodes (x ∷ xs) out none q =
     let empty = ap length (none-reached nodes none) in
-    let refuses : nodesCheck nodes (x ∷ xs) (length out) ≡ Refused RenumberLength =
+    let refuses : renumberGraphCheck nodes (x ∷ xs) (length out) ≡ Refused RenumberLength =
     ap (λ (graph : Graph). graphCheck graph nodes (x ∷ xs) (length out)) (verdict-none nodes none)
     ∙ sym
     (refused-then _

@@ -16,19 +16,19 @@ use Rattle.layout.specs.Buffers.{bufferAfter}
 use Rattle.layout.proofs.LaidOut.{laid-none, laid-more, length-laid-suc}
 use Rattle.layout.proofs.Stores.{sets-append, sets-push}
 use Rattle.refusal.specs.declared.Check.the-variants.{Pass}
-use Rattle.field.specs.Records.{recordBytes}
-use Rattle.field.proofs.Records.{length-recordBytes}
-use Rattle.built.specs.Nodes.{nodeSize}
+use Rattle.record_field.specs.Records.{recordBytes}
+use Rattle.record_field.proofs.Records.{length-recordBytes}
+use Rattle.record.specs.Nodes.{nodeSize}
 use Rattle.node.specs.declared.Choice.{Choice}
 use Rattle.node.specs.declared.Choice.the-variants.{Right, Left}
 use Rattle.node.specs.Nodes.{subsectorBit, isNode, childOf}
-use Rattle.route.proofs.Heights.{node-or-end}
-use Rattle.route.proofs.Repeats.{or-either}
+use Rattle.node_route.proofs.Heights.{node-or-end}
+use Rattle.node_route.proofs.Repeats.{or-either}
 use Rattle.renumber_order.specs.Orders.{indexIn}
-use Rattle.renumber_places.specs.Orders.{oldAt}
+use Rattle.renumber_order.specs.Lists.{oldAt}
 use Rattle.renumber.specs.Renumbering.{renamed, newNode, renumbered}
 use Rattle.renumber.specs.Inner.{renamedBy, nodeBy, Writable}
-use Rattle.renumber_places.proofs.Members.{not-both}
+use Rattle.renumber_order.proofs.Members.{not-both}
 use Rattle.renumber_order.proofs.Placing.{own-place}
 use Rattle.renumber_order.proofs.Checking.{children-each, order-inside, child-word}
 

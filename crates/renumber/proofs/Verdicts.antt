@@ -6,21 +6,21 @@ use lib.ListN.{length}
 use Rattle.refusal.specs.declared.Refusal.{Refusal}
 use Rattle.refusal.specs.declared.Check.the-variants.{Pass, Refused}
 use Rattle.layout.specs.Buffers.{bufferAfter}
-use Rattle.built.specs.Nodes.{nodeSize}
+use Rattle.record.specs.Nodes.{nodeSize}
 use Rattle.wad.specs.declared.map.Marker.the-variants.{Entry, Refused as NoMarker}
 use Rattle.wad.specs.Map.{markerAnswer}
-use Rattle.route.specs.declared.Graph.{Graph}
-use Rattle.route.specs.declared.Graph.the-variants.{HasLoop, HasShared, HasDepth}
+use Rattle.node_route.specs.declared.Graph.{Graph}
+use Rattle.node_route.specs.declared.Graph.the-variants.{HasLoop, HasShared, HasDepth}
 use Rattle.node.specs.Nodes.{nodesOf}
-use Rattle.route.specs.Heights.{graphVerdict}
-use Rattle.graph.specs.Judging.{cleared}
-use Rattle.level.specs.declared.Verdict.{Verdict}
-use Rattle.level.specs.Verdict.{graphAnswer, judged, wordsBy, checkAt, nodesAt, verdictBy, wordsAfterBy}
+use Rattle.node_route.specs.Heights.{graphVerdict}
+use Rattle.node_graph.specs.Judging.{cleared}
+use Rattle.map_check.specs.declared.Verdict.{Verdict}
+use Rattle.map_check.specs.Verdict.{graphAnswer, judged, wordsBy, checkAt, nodesAt, verdictBy, wordsAfterBy}
 use Rattle.renumber.specs.declared.Renumbering.{Renumbering}
 use Rattle.renumber.specs.declared.Renumbering.the-variants.{Refused as NotWritten}
 use Rattle.renumber.specs.Renumbering.{renumbered, checkBy, lumpBy, renumberingOf, Renumbers}
 use Rattle.renumber.specs.Inner.{RenumbersAt, NodesRenumbered}
-use Rattle.renumber_order.specs.Inner.{graphCheck}
+use Rattle.renumber_order.specs.Judging.{graphCheck}
 
 module _ (wad : List ℕ) (marker : ℕ) (order out : List ℕ) where
   -- the answer to a verdict, and the output afterwards

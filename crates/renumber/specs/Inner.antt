@@ -6,15 +6,15 @@ use mathlib.Core.List.{List}
 use mathlib.Core.Path.{_≡_}
 use lib.ListN.{length}
 use Rattle.layout.specs.Buffers.{bufferAfter}
-use Rattle.built.specs.Nodes.{nodeSize}
+use Rattle.record.specs.Nodes.{nodeSize}
 use Rattle.node.specs.declared.Choice.the-variants.{Right, Left}
 use Rattle.node.specs.Nodes.{isNode, childOf}
 use Rattle.wad.specs.declared.map.Marker.the-variants.{Entry}
-use Rattle.level.specs.Verdict.{verdictBy, wordsAfterBy}
+use Rattle.map_check.specs.Verdict.{verdictBy, wordsAfterBy}
 use Rattle.renumber.specs.declared.Renumbering.{Renumbering}
 use Rattle.renumber_order.specs.Orders.{childrenOk}
-use Rattle.renumber_order.specs.Inner.{nodesCheck, Ordered}
-use Rattle.renumber_places.specs.Inner.{placeWord}
+use Rattle.renumber_order.specs.Judging.{renumberGraphCheck, Ordered}
+use Rattle.renumber_order.specs.Places.{placeWord}
 use Rattle.renumber.specs.Renumbering.{withChildren, checkBy, lumpBy, renumbered, renumberingOf}
 
 -- ---- from a marker on, and from the nodes on
@@ -27,8 +27,8 @@ pub record RenumbersAt (wad : List ℕ) (marker : ℕ) (words order out : List �
 
 -- what is answered and written where only the node graph and the list are left to judge
 pub record NodesRenumbered (nodes order out : List ℕ) (answer : Renumbering) (outThen : List ℕ) : Type 0 where
-  pub answers : answer ≡ renumberingOf (nodesCheck nodes order (length out)) (nodeSize * length order)
-  pub writes : outThen ≡ bufferAfter (nodesCheck nodes order (length out)) (renumbered nodes order) out
+  pub answers : answer ≡ renumberingOf (renumberGraphCheck nodes order (length out)) (nodeSize * length order)
+  pub writes : outThen ≡ bufferAfter (renumberGraphCheck nodes order (length out)) (renumbered nodes order) out
 
 -- ---- children by the words
 

@@ -9,17 +9,17 @@ use Rattle.refusal.specs.declared.Check.{Check}
 use Rattle.refusal.specs.declared.Check.the-variants.{Pass, Refused}
 use Rattle.layout.specs.Rows.{laidOut}
 use Rattle.layout.specs.Buffers.{bufferAfter}
-use Rattle.field.specs.Records.{recordBytes}
-use Rattle.built.specs.Nodes.{nodeSize}
+use Rattle.record_field.specs.Records.{recordBytes}
+use Rattle.record.specs.Nodes.{nodeSize}
 use Rattle.node.specs.declared.Choice.the-variants.{Right, Left}
 use Rattle.node.specs.Nodes.{isNode, childOf}
-use Rattle.level.specs.declared.Verdict.{Verdict}
-use Rattle.level.specs.declared.Verdict.the-variants.{Accepted, Refused as NotAccepted}
-use Rattle.level.specs.Verdict.{nodesAt, verdict, wordsAfter}
+use Rattle.map_check.specs.declared.Verdict.{Verdict}
+use Rattle.map_check.specs.declared.Verdict.the-variants.{Accepted, Refused as NotAccepted}
+use Rattle.map_check.specs.Verdict.{nodesAt, verdict, wordsAfter}
 use Rattle.renumber.specs.declared.Renumbering.{Renumbering}
 use Rattle.renumber.specs.declared.Renumbering.the-variants.{Written, Refused as NotWritten}
 use Rattle.renumber_order.specs.Orders.{indexIn, renumberCheck}
-use Rattle.renumber_places.specs.Orders.{oldAt}
+use Rattle.renumber_order.specs.Lists.{oldAt}
 
 -- a node by its place in the list; a subsector as it is
 abbrev pub renamed : List ℕ → ℕ → ℕ

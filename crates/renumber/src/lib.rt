@@ -7,14 +7,14 @@ ghost use lib.Dec.{eqb};
 ghost use Rattle.refusal.specs.declared.Check.the-variants.{Pass};
 ghost use Rattle.refusal.specs.declared.Refusal.the-variants.{RenumberLength};
 ghost use Rattle.refusal.specs.Checks.{unless};
-ghost use Rattle.directory.specs.Header.{headOf, entryCount};
-ghost use Rattle.directory.specs.Entries.{fileCheck};
+ghost use Rattle.wad.specs.Header.{headOf, entryCount};
+ghost use Rattle.wad.specs.Entries.{fileCheck};
 ghost use Rattle.node.specs.Nodes.{nodesOf};
-ghost use Rattle.graph.specs.Judging.{Judgeable, cleared};
-ghost use Rattle.graph.specs.Inner.Searching.{Searchable};
+ghost use Rattle.node_graph.specs.Judging.{Judgeable, cleared};
+ghost use Rattle.node_graph.specs.Searching.{Searchable};
 ghost use Rattle.renumber.specs.Renumbering.{renumberingOf, Renumbers};
 ghost use Rattle.renumber.specs.Inner.{RenumbersAt, NodesRenumbered};
-use built::Node;
+use record::Node;
 use refusal::Check;
 use refusal::Refusal;
 use wad::Marker;
@@ -25,7 +25,7 @@ pub enum Renumbering {
     Refused(Refusal),
 }
 
-// The map of the asked name, judged as level::judge_map does, over the same words; then the list, and where it is good the renumbered
+// The map of the asked name, judged as map_check::judge_map does, over the same words; then the list, and where it is good the renumbered
 // NODES in the front of the output. A refusal writes nothing.
 pub fn renumber(
     wad: &[u8],
@@ -53,13 +53,13 @@ fn renumber_at(
     requires { ⌜ (fileCheck (now wad) ≡ Pass) × (marker < entryCount (headOf (now wad))) ⌝ }
     ensures { λ r. ⌜ RenumbersAt (now (wad .entry)) marker (now (words .entry)) (now (order .entry)) (now (out .entry)) r (now (words .exit)) (now (out .exit)) ⌝ }
 {
-    let dir = directory::directory_of(wad);
-    let count = directory::entry_count(wad);
-    if let Check::Refused(r) = level::judge_below(wad, dir, count, marker, words.len()) {
+    let dir = wad::directory_of(wad);
+    let count = wad::entry_count(wad);
+    if let Check::Refused(r) = map_check::judge_below(wad, dir, count, marker, words.len()) {
         return Renumbering::Refused(r);
     }
     renumber_nodes(
-        lump::map_lump(wad, dir, marker, Node::PLACE),
+        map_lumps::map_lump(wad, dir, marker, Node::PLACE),
         words,
         order,
         out,
@@ -78,7 +78,7 @@ fn renumber_nodes(nodes: &[u8], words: &mut [u16], order: &[u16], out: &mut [u8]
     }
     let used = 4 * count;
     let answer = renumber_some(nodes, count, &mut words[..used], order, out);
-    graph::clear(words, used);
+    node_graph::clear(words, used);
     answer
 }
 

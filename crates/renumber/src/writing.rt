@@ -4,13 +4,13 @@ ghost use mathlib.Core.List.{_++_};
 ghost use Prim.Native.Nat.{_+_, _*_, _≤_, _<_};
 ghost use lib.ListN.{length, take, drop};
 ghost use lib.Seq.{sets};
-ghost use Rattle.built.specs.Nodes.{nodeSize};
+ghost use Rattle.record.specs.Nodes.{nodeSize};
 ghost use Rattle.node.specs.Nodes.{subsectorBit};
 ghost use Rattle.renumber.specs.Renumbering.{renumbered};
 ghost use Rattle.renumber.specs.Inner.{renamedBy, nodeBy, Writable};
-ghost use Rattle.renumber_order.specs.Inner.{ChildrenPlaced};
-use built::Node;
+ghost use Rattle.renumber_order.specs.Judging.{ChildrenPlaced};
 use node::Choice;
+use record::Node;
 
 // The bytes of a node before its children.
 const LINE_SIZE: usize = 24;

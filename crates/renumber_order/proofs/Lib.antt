@@ -1,5 +1,9 @@
--- The laws of the list to renumber by. Assumes nothing.
+-- The laws of marks and places. The laws of the list to renumber by. Assumes nothing.
 
+pub mod Members
+pub mod Marks
+pub mod FirstPlaces
+pub mod Filling
 pub mod Marking
 pub mod Placing
 pub mod Checking

@@ -5,19 +5,19 @@ use mathlib.Core.List.{List, [], _∷_}
 use mathlib.Core.Path.{_≡_, refl, sym, _∙_}
 use native.Mathlib.Omega.{arith}
 use lib.ListN.{length}
-use Rattle.route.specs.declared.Graph.{Graph}
-use Rattle.route.specs.Heights.{member, graphVerdict}
-use Rattle.route.specs.Reach.{reachedNodes}
+use Rattle.node_route.specs.declared.Graph.{Graph}
+use Rattle.node_route.specs.Heights.{member, graphVerdict}
+use Rattle.node_route.specs.Reach.{reachedNodes}
 use Rattle.node.proofs.Nodes.{nodesOf-whole}
-use Rattle.route.proofs.Reach.{nodes-held}
-use Rattle.route.proofs.Verdict.{depth-verdict}
-use Rattle.graph.specs.Inner.Looks.{markOf}
-use Rattle.graph.specs.Inner.Searching.{Searchable, Explored}
+use Rattle.node_route.proofs.Reach.{nodes-held}
+use Rattle.node_route.proofs.Verdict.{depth-verdict}
+use Rattle.node_graph.specs.Looks.{markOf}
+use Rattle.node_graph.specs.Searching.{Searchable, Explored}
 use Rattle.renumber_order.specs.Orders.{allAmong}
-use Rattle.renumber_places.specs.Inner.{markedOk, markedBelow, allMarked}
-use Rattle.renumber_order.specs.Inner.{Marks}
-use Rattle.renumber_places.proofs.Members.{same-test, as-many}
-use Rattle.renumber_places.proofs.Marking.{marked-is, is-marked, below-once, below-says}
+use Rattle.renumber_order.specs.Places.{markedOk, markedBelow, allMarked}
+use Rattle.renumber_order.specs.Judging.{Marks}
+use Rattle.renumber_order.proofs.Members.{same-test, as-many}
+use Rattle.renumber_order.proofs.Marks.{marked-is, is-marked, below-once, below-says}
 
 module _ (nodes : List ℕ) (count : ℕ) (words : List ℕ) where
   -- as many are marked as are reached

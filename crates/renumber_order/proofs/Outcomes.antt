@@ -12,18 +12,18 @@ use Rattle.refusal.specs.declared.Check.{Check}
 use Rattle.refusal.specs.declared.Check.the-variants.{Pass, Refused}
 use Rattle.refusal.specs.Checks.{unless}
 use Rattle.refusal.proofs.Checks.{both, refused-then, pass-then}
-use Rattle.route.specs.declared.Graph.{Graph}
-use Rattle.route.specs.declared.Graph.the-variants.{HasLoop, HasShared, HasDepth}
-use Rattle.route.specs.Heights.{repeats, graphVerdict}
-use Rattle.route.specs.Reach.{reachedNodes}
-use Rattle.graph.specs.Inner.Searching.{Searchable}
+use Rattle.node_route.specs.declared.Graph.{Graph}
+use Rattle.node_route.specs.declared.Graph.the-variants.{HasLoop, HasShared, HasDepth}
+use Rattle.node_route.specs.Heights.{repeats, graphVerdict}
+use Rattle.node_route.specs.Reach.{reachedNodes}
+use Rattle.node_graph.specs.Searching.{Searchable}
 use Rattle.renumber_order.specs.Orders.{lateCheck, manyOk, onceOk, renumberCheck}
-use Rattle.renumber_places.specs.Inner.{markedOk, markedBelow, allMarked, PlacesHeld, Emptied, Filled}
-use Rattle.renumber_order.specs.Inner.{Marks, Ordered, OrderJudged, GraphJudged, graphCheck, nodesCheck}
-use Rattle.renumber_places.proofs.Members.{same-test}
-use Rattle.renumber_places.proofs.Marking.{marked-is, is-marked, below-few}
+use Rattle.renumber_order.specs.Places.{markedOk, markedBelow, allMarked, PlacesHeld, Emptied, Filled}
+use Rattle.renumber_order.specs.Judging.{Marks, Ordered, OrderJudged, RenumberJudged, graphCheck, renumberGraphCheck}
+use Rattle.renumber_order.proofs.Members.{same-test}
+use Rattle.renumber_order.proofs.Marks.{marked-is, is-marked, below-few}
 use Rattle.renumber_order.proofs.Marking.{marks-many, all-marked}
-use Rattle.renumber_places.proofs.Placing.{placed-none, all-places}
+use Rattle.renumber_order.proofs.FirstPlaces.{placed-none, all-places}
 
 -- a refusal does not pass
 refused-passes : {X : Type 0} {r : Refusal} → Refused r ≡ Pass → X
@@ -105,17 +105,17 @@ module _ (nodes : List ℕ) (count : ℕ) (words order : List ℕ) (room : ℕ) 
 -- ---- the graph and the list
 
 module _ (nodes : List ℕ) (count : ℕ) (order : List ℕ) (room : ℕ) where
-  by-graph : {graph : Graph} → graphVerdict nodes ≡ graph → graphCheck graph nodes order room ≡ nodesCheck nodes order room
+  by-graph : {graph : Graph} → graphVerdict nodes ≡ graph → graphCheck graph nodes order room ≡ renumberGraphCheck nodes order room
   by-graph e = ap (λ (graph : Graph). graphCheck graph nodes order room) (sym e)
 
-  pub judged-loop : graphVerdict nodes ≡ HasLoop → (last : List ℕ) → GraphJudged nodes count order room last (Refused NodeLoop)
+  pub judged-loop : graphVerdict nodes ≡ HasLoop → (last : List ℕ) → RenumberJudged nodes count order room last (Refused NodeLoop)
   judged-loop e last = record { tells = by-graph e; ordered = λ q. refused-passes q }
 
-  pub judged-shared : graphVerdict nodes ≡ HasShared → (last : List ℕ) → GraphJudged nodes count order room last (Refused NodeShared)
+  pub judged-shared : graphVerdict nodes ≡ HasShared → (last : List ℕ) → RenumberJudged nodes count order room last (Refused NodeShared)
   judged-shared e last = record { tells = by-graph e; ordered = λ q. refused-passes q }
 
   pub judged-order : {depth : ℕ} → graphVerdict nodes ≡ HasDepth depth → {last : List ℕ} {a : Check}
-      → OrderJudged nodes count order room last a → GraphJudged nodes count order room last a
+      → OrderJudged nodes count order room last a → RenumberJudged nodes count order room last a
   judged-order e j = record { tells = j .tells ∙ by-graph e; ordered = j .ordered }
 
   -- a graph that passes leaves the list

@@ -8,12 +8,12 @@ use native.Mathlib.Omega.{arith}
 use borrow.Author.Tests.{ltb-true, ltb-false, le-ltb, eqb-true, eqb-false}
 use lib.Dec.{ltb, eqb}
 use lib.ListN.{length}
-use Rattle.route.specs.Heights.{repeats}
+use Rattle.node_route.specs.Heights.{repeats}
 use Rattle.renumber_order.specs.Orders.{indexIn}
-use Rattle.renumber_places.specs.Orders.{oldAt}
-use Rattle.renumber_places.specs.Inner.{noPlace, placed}
-use Rattle.renumber_places.proofs.Members.{once-apart}
-use Rattle.renumber_places.proofs.Placing.{placed-absent, placed-last}
+use Rattle.renumber_order.specs.Lists.{oldAt}
+use Rattle.renumber_order.specs.Places.{noPlace, placed}
+use Rattle.renumber_order.proofs.Members.{once-apart}
+use Rattle.renumber_order.proofs.FirstPlaces.{placed-absent, placed-last}
 
 pub place-low : (xs : List ℕ) (v : ℕ) → indexIn xs v ≤ length xs
 place-low [] v = omega arith

@@ -1,4 +1,6 @@
--- A list of nodes to renumber by, judged. Assumes nothing.
+-- The places of a list of nodes to renumber by. A list of nodes to renumber by, judged. Assumes nothing.
 
+pub mod Lists
+pub mod Places
 pub mod Orders
-pub mod Inner
+pub mod Judging

@@ -8,13 +8,13 @@ use lib.ListN.{length}
 use Rattle.refusal.specs.declared.Check.{Check}
 use Rattle.refusal.specs.declared.Refusal.the-variants.{RenumberNodes, RenumberChild, RenumberRoot, RenumberLength, RenumberRoom}
 use Rattle.refusal.specs.Checks.{unless, _andThen_}
-use Rattle.built.specs.Nodes.{nodeSize}
+use Rattle.record.specs.Nodes.{nodeSize}
 use Rattle.node.specs.declared.Choice.{Choice}
 use Rattle.node.specs.declared.Choice.the-variants.{Right, Left}
 use Rattle.node.specs.Nodes.{nodesOf, isNode, childOf, root}
-use Rattle.route.specs.Heights.{member, repeats}
-use Rattle.route.specs.Reach.{reachedNodes}
-use Rattle.renumber_places.specs.Orders.{oldAt}
+use Rattle.node_route.specs.Heights.{member, repeats}
+use Rattle.node_route.specs.Reach.{reachedNodes}
+use Rattle.renumber_order.specs.Lists.{oldAt}
 
 -- how many numbers of the list stand before the first `v`; all where it is not there
 abbrev pub indexIn : List ℕ → ℕ → ℕ

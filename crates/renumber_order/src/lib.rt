@@ -1,17 +1,19 @@
 // The node graph and the list to renumber by (W-212), judged: 31 and 32, then 73, 70, 72, 71 and 74. The search of `graph` leaves its marks in the first run of
 // words; `renumber_places` then has the place of each node in the second. Each number of the list is looked at once for each test.
+mod places;
+
 ghost use mathlib.Core.Path.{_≡_};
 ghost use Prim.Native.Nat.{_+_, _*_, _≤_, _<_};
 ghost use lib.ListN.{length};
-ghost use Rattle.built.specs.Nodes.{nodeSize};
+ghost use Rattle.record.specs.Nodes.{nodeSize};
 ghost use Rattle.node.specs.Nodes.{subsectorBit, root};
-ghost use Rattle.graph.specs.Inner.Looks.{markOf};
-ghost use Rattle.graph.specs.Inner.Searching.{Searchable, Explored};
+ghost use Rattle.node_graph.specs.Looks.{markOf};
+ghost use Rattle.node_graph.specs.Searching.{Searchable, Explored};
 ghost use Rattle.renumber_order.specs.Orders.{lastOk, childrenOk, lateCheck};
-ghost use Rattle.renumber_order.specs.Inner.{Marks, Ordered, OrderJudged, GraphJudged, ChildrenPlaced, beforeOk, bothBefore};
-use built::Node;
-use graph::Search;
+ghost use Rattle.renumber_order.specs.Judging.{Marks, Ordered, OrderJudged, RenumberJudged, ChildrenPlaced, beforeOk, bothBefore};
 use node::Choice;
+use node_graph::Search;
+use record::Node;
 use refusal::Check;
 use refusal::Refusal;
 
@@ -24,9 +26,9 @@ pub fn judge_graph(
     room: usize,
 ) -> Check
     requires { ⌜ Searchable (now nodes) count (now words) ⌝ }
-    ensures { λ r. ⌜ GraphJudged (now (nodes .entry)) count (now (order .entry)) room (now (words .exit)) r ⌝ }
+    ensures { λ r. ⌜ RenumberJudged (now (nodes .entry)) count (now (order .entry)) room (now (words .exit)) r ⌝ }
 {
-    match graph::explore(nodes, count, words) {
+    match node_graph::explore(nodes, count, words) {
         Search::Looping(_) => Check::Refused(Refusal::NodeLoop),
         Search::Done(depth) => judge_explored(nodes, count, words, depth, order, room),
     }
@@ -42,9 +44,9 @@ fn judge_explored(
     room: usize,
 ) -> Check
     requires { ⌜ Searchable (now nodes) count (now words) × Explored (now nodes) (markOf (now words)) depth ⌝ }
-    ensures { λ r. ⌜ GraphJudged (now (nodes .entry)) count (now (order .entry)) room (now (words .exit)) r ⌝ }
+    ensures { λ r. ⌜ RenumberJudged (now (nodes .entry)) count (now (order .entry)) room (now (words .exit)) r ⌝ }
 {
-    if sharing::shares(nodes, count, words) {
+    if node_sharing::shares(nodes, count, words) {
         return Check::Refused(Refusal::NodeShared);
     }
     judge_order(nodes, count, words, order, room)
@@ -55,11 +57,11 @@ fn judge_order(nodes: &[u8], count: usize, words: &mut [u16], order: &[u16], roo
     requires { ⌜ Searchable (now nodes) count (now words) × Marks (now nodes) count (now words) ⌝ }
     ensures { λ r. ⌜ OrderJudged (now (nodes .entry)) count (now (order .entry)) room (now (words .exit)) r ⌝ }
 {
-    if order.len() != renumber_places::marked_count(words, count) {
+    if order.len() != places::marked_count(words, count) {
         return Check::Refused(Refusal::RenumberLength);
     }
-    renumber_places::empty_places(words, count);
-    if !renumber_places::fill_places(words, count, order) {
+    places::empty_places(words, count);
+    if !places::fill_places(words, count, order) {
         return Check::Refused(Refusal::RenumberNodes);
     }
     judge_places(nodes, count, words, order, room)

@@ -3,7 +3,7 @@ use Prim.Native.Nat.{_<_}
 use mathlib.Core.Bool.{false}
 use mathlib.Core.Path.{_≡_}
 use borrow.Author.Tests.{leb-false}
-use Rattle.text_scope.specs.declared.Scope.{Scope}
+use Rattle.text_table.specs.declared.scope.Scope.{Scope}
 use Rattle.text_block.specs.declared.Counts.{Counts}
 use Rattle.text_block.specs.Blocks.{countOf, isFull}
 

@@ -7,11 +7,11 @@ use lib.Dec.{eqb, leb}
 use lib.ListN.{length, getD, set, replicate}
 use Rattle.text_token.specs.declared.Token.{Token}
 use Rattle.text_byte.specs.Bytes.{semicolon, openBrace}
-use Rattle.text_scope.specs.declared.Scope.{Scope}
-use Rattle.text_scope.specs.declared.Scope.the-variants.{Top, Vertex, Linedef, Sidedef, Sector, Thing, Unknown}
+use Rattle.text_table.specs.declared.scope.Scope.{Scope}
+use Rattle.text_table.specs.declared.scope.Scope.the-variants.{Top, Vertex, Linedef, Sidedef, Sector, Thing, Unknown}
 use Rattle.text_table.specs.Table.{fieldsOf, isRequired}
-use Rattle.text_scope.specs.Scopes.{scopeNumber}
-use Rattle.text_field.specs.Names.{every}
+use Rattle.text_table.specs.Scopes.{scopeNumber}
+use Rattle.text_table.specs.Names.{every}
 use Rattle.text_block.specs.declared.Counts.{Counts}
 use Rattle.text_block.specs.declared.Asked.{Asked}
 use Rattle.text_block.specs.declared.Asked.the-variants.{Nothing, Numbered, First, Opening}

@@ -5,12 +5,12 @@ ghost use mathlib.Core.Path.{_≡_};
 ghost use Prim.Native.Nat.{_≤_, _<_};
 ghost use lib.Dec.{eqb};
 ghost use lib.ListN.{length};
-ghost use Rattle.text_table.specs.Inner.{rowsOf, requiredAt};
-ghost use Rattle.text_scope.specs.Scopes.{scopeNumber};
-ghost use Rattle.text_field.specs.Names.{every};
+ghost use Rattle.text_table.specs.Rows.{rowsOf, requiredAt};
+ghost use Rattle.text_table.specs.Scopes.{scopeNumber};
+ghost use Rattle.text_table.specs.Names.{every};
 ghost use Rattle.text_block.specs.declared.Asked.the-variants.{Numbered};
 ghost use Rattle.text_block.specs.Blocks.{countOf, counted, isFull, isAsked, stopsThere, stopsInside, noPlaces, stored, isGiven, allGiven};
-use text_scope::Scope;
+use text_table::Scope;
 
 // What is wanted next: a statement; `=` behind an identifier, from its first byte to the byte behind it; a value for a name of the scope,
 // counted from 1, 0 for an unknown one; `;` behind the value at a place for such a name; or nothing more.
@@ -100,19 +100,19 @@ pub fn is_asked(asked: Asked, kind: Scope, before: usize) -> bool
 fn is_numbered(of: Scope, number: usize, kind: Scope, before: usize) -> bool
     ensures { λ r. ⌜ r ≡ isAsked (Numbered of number) kind before ⌝ }
 {
-    (text_scope::scope_number(of) == text_scope::scope_number(kind)) & (before == number)
+    (text_table::scope_number(of) == text_table::scope_number(kind)) & (before == number)
 }
 
 fn is_kind(of: Scope, kind: Scope) -> bool
     ensures { λ r. ⌜ r ≡ eqb (scopeNumber of) (scopeNumber kind) ⌝ }
 {
-    text_scope::scope_number(of) == text_scope::scope_number(kind)
+    text_table::scope_number(of) == text_table::scope_number(kind)
 }
 
 fn is_known(kind: Scope) -> bool
     ensures { λ r. ⌜ r ≡ not (eqb (scopeNumber kind) 6) ⌝ }
 {
-    text_scope::scope_number(kind) != 6
+    text_table::scope_number(kind) != 6
 }
 
 // Nothing more is read behind it.
@@ -182,7 +182,7 @@ pub fn all_given(rows: &[u8], kind: Scope, places: &[usize; 34]) -> bool
     requires { ⌜ now rows ≡ rowsOf kind ⌝ }
     ensures { λ r. ⌜ r ≡ allGiven kind (now (places .entry)) ⌝ }
 {
-    given_in(rows, places, text_scope::row_count(kind))
+    given_in(rows, places, text_table::row_count(kind))
 }
 
 fn given_in(rows: &[u8], places: &[usize; 34], n: usize) -> bool

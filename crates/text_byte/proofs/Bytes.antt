@@ -5,7 +5,7 @@ use mathlib.Core.Path.{_≡_, refl, sym, ap, _∙_}
 use borrow.Author.Tests.{leb-true, ne-eqb}
 use lib.Dec.{leb, eqb}
 use Rattle.text_byte.specs.Bytes.{newline, doubleQuote, slash, semicolon, equalsSign, openBrace, closeBrace, within, isBlank, isMark, opensLine, opensComment, endsWord, isNameByte}
-use Rattle.text_byte.specs.Inner.{isPlain, stopsWord}
+use Rattle.text_byte.specs.WordBytes.{isPlain, stopsWord}
 
 pub within-true : (least most b : ℕ) → within least most b ≡ true → (least ≤ b) × (b ≤ most)
 within-true least most b e =

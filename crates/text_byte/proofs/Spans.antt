@@ -6,7 +6,7 @@ use native.Mathlib.Omega.{arith}
 use borrow.Author.Tests.{ltb-true, ltb-false}
 use lib.Dec.{ltb}
 use Rattle.text_byte.specs.Spans.{spanEnd}
-use Rattle.text_byte.specs.Inner.{Unseen}
+use Rattle.text_byte.specs.WordBytes.{Unseen}
 
 -- `n` places left, of which one is inside
 pub left : (at end : ℕ) → at < end → end - at ≡ suc (end - (at + 1))

@@ -2,4 +2,4 @@
 
 pub mod Bytes
 pub mod Spans
-pub mod Inner
+pub mod WordBytes

@@ -2,7 +2,7 @@
 ghost use mathlib.Core.Path.{_≡_};
 ghost use lib.ListN.{getD};
 ghost use Rattle.text_byte.specs.Bytes.{isBlank, isMark, opensLine, opensComment, endsWord, isDigit, isHexDigit, isLetter, isNameByte, lower, lowerAt};
-ghost use Rattle.text_byte.specs.Inner.{isPlain, stopsWord};
+ghost use Rattle.text_byte.specs.WordBytes.{isPlain, stopsWord};
 
 pub const NEWLINE: u8 = 10;
 

@@ -13,7 +13,7 @@ use Rattle.text_gap.specs.declared.Gap.{Gap}
 use Rattle.text_byte.specs.Bytes.{newline, star, slash, isBlank, opensLine, opensComment}
 use Rattle.text_gap.specs.Gaps.{modeAfter, isStop, gap, gapFrom}
 use Rattle.text_byte.specs.Spans.{spanEnd}
-use Rattle.text_gap.specs.Inner.{blankAt, otherAt, otherEnd, startsToken, Stays, isBetween, Ends}
+use Rattle.text_gap.specs.Passing.{blankAt, otherAt, otherEnd, startsToken, Stays, isBetween, Ends}
 use Rattle.text_gap.proofs.Scans.{gap-more, gap-stop, gap-done}
 use Rattle.text_byte.proofs.Spans.{cond-on, span-done, span-stops, by-test}
 

@@ -1,4 +1,4 @@
 -- White space and comments of a text map. Assumes nothing.
 
 pub mod Gaps
-pub mod Inner
+pub mod Passing

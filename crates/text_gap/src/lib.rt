@@ -5,8 +5,8 @@ ghost use lib.ListN.{length};
 ghost use Rattle.text_gap.specs.declared.Mode.the-variants.{Between, Line, Opening, Comment};
 ghost use Rattle.text_gap.specs.Gaps.{isOpen, gapFrom};
 ghost use Rattle.text_byte.specs.Spans.{spanEnd};
-ghost use Rattle.text_byte.specs.Inner.{Unseen};
-ghost use Rattle.text_gap.specs.Inner.{blankAt, byteIs, otherEnd, startsToken, isBetween, Ends};
+ghost use Rattle.text_byte.specs.WordBytes.{Unseen};
+ghost use Rattle.text_gap.specs.Passing.{blankAt, byteIs, otherEnd, startsToken, isBetween, Ends};
 use text_byte as bytes;
 
 // How the reading of a gap goes on: between tokens, in a comment up to the line's end, at the star that opens a comment, in that comment,

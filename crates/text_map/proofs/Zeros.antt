@@ -7,7 +7,7 @@ use lib.IntN.{ℤ, pos}
 use lib.ListN.{getD, replicate}
 use Rattle.text_table.specs.Table.{defaultOf}
 use Rattle.text_block.specs.Blocks.{noPlaces}
-use Rattle.text_given.specs.Fields.{valueAt, defaultWhole, wholeOr, decimalOr, stringOr, flagOr, between, zeroPoint, wholeField, decimalField, stringField, flagField}
+use Rattle.text_record.specs.Fields.{valueAt, defaultWhole, wholeOr, decimalOr, stringOr, flagOr, between, zeroPoint, wholeField, decimalField, stringField, flagField}
 
 getD-zeros : (n k : ℕ) → _≡_ {A = ℕ} (getD (replicate n 0) k 0) 0
 getD-zeros zero k = refl

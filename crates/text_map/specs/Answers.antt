@@ -10,18 +10,18 @@ use Rattle.refusal.specs.declared.Check.{Check}
 use Rattle.refusal.specs.declared.Check.the-variants.{Pass, Refused}
 use Rattle.refusal.specs.Checks.{unless, _andThen_}
 use Rattle.text_token.specs.Tokens.{bytesOf}
-use Rattle.text_scope.specs.declared.Scope.{Scope}
-use Rattle.text_scope.specs.Scopes.{scopeNumber}
+use Rattle.text_table.specs.declared.scope.Scope.{Scope}
+use Rattle.text_table.specs.Scopes.{scopeNumber}
 use Rattle.text_table.specs.Table.{Row, fieldsOf}
-use Rattle.text_field.specs.Names.{zeroIds}
+use Rattle.text_table.specs.Names.{zeroIds}
 use Rattle.text_block.specs.declared.Asked.{Asked}
 use Rattle.text_block.specs.declared.Asked.the-variants.{Nothing, Numbered, First, Opening}
 use Rattle.text_step.specs.declared.Parse.{Parse}
 use Rattle.text_block.specs.Blocks.{noPlaces}
 use Rattle.text_step.specs.Steps.{isTop}
 use Rattle.text_reader.specs.Texts.{Stand, textFrom}
-use Rattle.text_given.specs.declared.Places.{Places}
-use Rattle.text_given.specs.Fields.{valueAt, between, stringOr}
+use Rattle.text_record.specs.declared.given.Places.{Places}
+use Rattle.text_record.specs.Fields.{valueAt, between, stringOr}
 use Rattle.text_map.specs.declared.TextSummary.{TextSummary}
 use Rattle.text_map.specs.declared.TextAnswer.{TextAnswer}
 use Rattle.text_map.specs.declared.TextAnswer.the-variants.{Summary, Refused as NoSummary}

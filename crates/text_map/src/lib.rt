@@ -1,8 +1,8 @@
 // What a text map answers (W-206): its namespace and counts; and a block, by its kind and number or from a place on. The definitions are in
 // specs/.
 ghost use mathlib.Core.Path.{_≡_};
-ghost use Rattle.text_scope.specs.Scopes.{scopeNumber};
-ghost use Rattle.text_table.specs.Inner.{namespaceRows};
+ghost use Rattle.text_table.specs.Scopes.{scopeNumber};
+ghost use Rattle.text_table.specs.Rows.{namespaceRows};
 ghost use Rattle.text_token.specs.Tokens.{bytesOf};
 ghost use Rattle.text_map.specs.Answers.{namespaceOf, summaryBy, textAnswer, blockCheck, openedCheck, blockBy, blockAnswer};
 ghost use Rattle.text_map.specs.Answers.{fieldsBy, blockFields, placesBy, blockPlaces, numbered, firstFrom, nextFrom, idBy, idOf};
@@ -10,9 +10,9 @@ use refusal::Check;
 use refusal::Refusal;
 use text_block::Asked;
 use text_block::Counts;
-use text_given::Places;
-use text_scope::Scope;
+use text_record::Places;
 use text_step::Parse;
+use text_table::Scope;
 
 // The namespace's string, and how many blocks of each kind there are.
 pub struct TextSummary {
@@ -71,7 +71,7 @@ fn summary_by(text: &[u8], s: Parse) -> TextAnswer
 fn namespace_of(text: &[u8], s: Parse) -> Places
     ensures { λ r. ⌜ r ≡ namespaceOf (now (text .entry)) s ⌝ }
 {
-    text_given::string_at(text, s.notes.namespace)
+    text_record::string_at(text, s.notes.namespace)
 }
 
 // 94 comes last.
@@ -119,7 +119,7 @@ fn block_by(s: Parse) -> BlockAnswer
 fn kind_of(kind: Scope) -> u32
     ensures { λ r. ⌜ r ≡ scopeNumber kind ⌝ }
 {
-    text_scope::scope_number(kind) as u32
+    text_table::scope_number(kind) as u32
 }
 
 // What the record of block `number` of a kind is read from, after the whole text was judged, and of each field the place of its last value.
@@ -188,7 +188,7 @@ fn id_in(namespaces: &[u8], namespace: &[u8]) -> i32
     requires { ⌜ now namespaces ≡ namespaceRows ⌝ }
     ensures { λ r. ⌜ r ≡ idBy (now (namespace .entry)) ⌝ }
 {
-    if text_field::zero_ids(namespaces, namespace) {
+    if text_table::zero_ids(namespaces, namespace) {
         0
     } else {
         -1

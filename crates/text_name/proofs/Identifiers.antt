@@ -10,10 +10,10 @@ use lib.ListN.{getD, length, drop, length-drop}
 use lib.Seq.{length-take-le, getD-take, getD-drop}
 use Rattle.text_byte.specs.Bytes.{doubleQuote, slash, isBlank, isMark, opensLine, opensComment, isLetter, isNameByte}
 use Rattle.text_byte.specs.Spans.{spanEnd}
-use Rattle.text_byte.specs.Inner.{stopsWord}
+use Rattle.text_byte.specs.WordBytes.{stopsWord}
 use Rattle.text_byte.proofs.Bytes.{unlike, name-ends, stops-ends}
 use Rattle.text_byte.proofs.Spans.{span-more, span-reach, span-passes, span-all, span-wider, neither}
-use Rattle.text_gap.specs.Inner.{startsToken}
+use Rattle.text_gap.specs.Passing.{startsToken}
 use Rattle.text_token.specs.Tokens.{inWord, wordTo, bytesOf, tokenAt}
 use Rattle.text_token.proofs.Tokens.{tokenAt-here}
 use Rattle.text_name.specs.Identifiers.{isIdentifier}

@@ -13,7 +13,7 @@ use Rattle.text_block.specs.declared.Asked.{Asked}
 use Rattle.text_block.specs.declared.Wanted.{Wanted}
 use Rattle.text_block.specs.declared.Wanted.the-variants.{NoMore}
 use Rattle.text_block.specs.Blocks.{isFull, stopsThere, stopsInside, allGiven, filed}
-use Rattle.text_field.specs.Names.{kindNamed}
+use Rattle.text_table.specs.Names.{kindNamed}
 use Rattle.text_step.specs.declared.Parse.{Parse}
 use Rattle.text_step.specs.Steps.{isTop, isFound, onEnd, onBrace, onSemicolon, stepBy}
 use Rattle.text_reader.specs.Texts.{Stand, stand, isMore, goes, keptAfter, tokenMore}

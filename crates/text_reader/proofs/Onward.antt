@@ -16,8 +16,8 @@ use Rattle.text_byte.proofs.Spans.{cond-on}
 use Rattle.text_token.proofs.Tokens.{tokenAt-placed}
 use Rattle.text_value.specs.declared.Reading.{Reading}
 use Rattle.text_value.specs.Values.{tokenRead}
-use Rattle.text_scope.specs.declared.Scope.{Scope}
-use Rattle.text_field.specs.Names.{kindNamed}
+use Rattle.text_table.specs.declared.scope.Scope.{Scope}
+use Rattle.text_table.specs.Names.{kindNamed}
 use Rattle.text_block.specs.declared.Asked.{Asked}
 use Rattle.text_block.specs.declared.Wanted.{Wanted}
 use Rattle.text_block.specs.declared.Wanted.the-variants.{Statement, Equals, Value, Semicolon, NoMore}

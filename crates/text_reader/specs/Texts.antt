@@ -6,7 +6,7 @@ use mathlib.Core.List.{List}
 use lib.ListN.{length}
 use Rattle.refusal.specs.declared.Check.the-variants.{Pass}
 use Rattle.text_token.specs.Tokens.{tokenAt}
-use Rattle.text_scope.specs.declared.Scope.the-variants.{Top}
+use Rattle.text_table.specs.declared.scope.Scope.the-variants.{Top}
 use Rattle.text_block.specs.declared.Asked.{Asked}
 use Rattle.text_block.specs.declared.Wanted.{Wanted}
 use Rattle.text_block.specs.declared.Wanted.the-variants.{Statement, Equals, Value, Semicolon, NoMore}

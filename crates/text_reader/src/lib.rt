@@ -3,7 +3,7 @@
 ghost use mathlib.Core.Bool.{false};
 ghost use mathlib.Core.Path.{_≡_};
 ghost use lib.ListN.{length};
-ghost use Rattle.text_table.specs.Inner.{kindRows, rowsOf};
+ghost use Rattle.text_table.specs.Rows.{kindRows, rowsOf};
 ghost use Rattle.text_block.specs.declared.Asked.{Asked};
 ghost use Rattle.text_block.specs.declared.Wanted.the-variants.{Statement, Equals, Value, Semicolon};
 ghost use Rattle.text_block.specs.Blocks.{isFull, noPlaces};
@@ -14,9 +14,9 @@ use text_block::Asked;
 use text_block::Counts;
 use text_block::Wanted;
 use text_byte as bytes;
-use text_scope::Scope;
 use text_step::Notes;
 use text_step::Parse;
+use text_table::Scope;
 
 // The text from a place on: where its reading ended, and of each field of the block that was asked for the place of its last value, 0 for
 // none.
@@ -55,7 +55,7 @@ fn reload(before: Scope, scope: Scope, rows: &mut [u8; 612])
     requires { ⌜ Loaded before (now rows) ⌝ }
     ensures { λ _. ⌜ Loaded scope (now (rows .exit)) ⌝ }
 {
-    if text_scope::scope_number(before) == text_scope::scope_number(scope) {
+    if text_table::scope_number(before) == text_table::scope_number(scope) {
         return;
     }
     text_table::load(scope, rows);
@@ -108,7 +108,7 @@ fn behind_name(
     let name = text_token::bytes_of(text, start, end);
     if t.form == bytes::EQUALS_SIGN {
         let scope = s.scope;
-        let field = text_field::field_named(rows, scope, name);
+        let field = text_table::field_named(rows, scope, name);
         let given = text_step::goes_on(s, t, Wanted::Value(field));
         return behind_equals(text, rows, given, field, places);
     }

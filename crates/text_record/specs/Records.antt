@@ -2,28 +2,30 @@
 -- stand at `places`, each field by its name. `defaults` has the default of each row of the kind. Assumes nothing.
 use Prim.Native.Nat.{ℕ, _-_}
 use Prim.Native.String.{String}
-use mathlib.Core.Bool.{Bool}
+use mathlib.Core.Bool.{Bool, cond}
 use mathlib.Core.List.{List}
+use lib.Dec.{eqb}
 use lib.IntN.{ℤ, pos}
 use lib.Ieee.{Float}
-use Rattle.text_scope.specs.declared.Scope.{Scope}
-use Rattle.text_scope.specs.declared.Scope.the-variants.{Vertex, Linedef, Sidedef, Sector, Thing}
-use Rattle.text_table.specs.Table.{bytes}
-use Rattle.text_field.specs.Names.{fieldNamed}
-use Rattle.text_given.specs.declared.Places.{Places}
-use Rattle.text_given.specs.Fields.{wholeField, decimalField, stringField, flagField}
+use lib.ListN.{length}
+use Rattle.text_table.specs.declared.scope.Scope.{Scope}
+use Rattle.text_table.specs.declared.scope.Scope.the-variants.{Vertex, Linedef, Sidedef, Sector, Thing}
+use Rattle.text_table.specs.Table.{bytes, fieldsOf}
+use Rattle.text_table.specs.Names.{fieldNamed}
+use Rattle.text_record.specs.declared.given.Places.{Places}
+use Rattle.text_record.specs.Fields.{wholeField, decimalField, stringField, flagField}
 use Rattle.text_record.specs.declared.TextVertex.{TextVertex}
 use Rattle.text_record.specs.declared.TextLinedef.{TextLinedef}
 use Rattle.text_record.specs.declared.TextSidedef.{TextSidedef}
 use Rattle.text_record.specs.declared.TextSector.{TextSector}
 use Rattle.text_record.specs.declared.TextThing.{TextThing}
 
--- the row of a field, found by its name as a text's own words are
+-- the row of a field, found by its name as a text's own words are; behind the last row for a name that the kind does not have
 abbrev pub rowOf : Scope → String → ℕ
-rowOf kind name = fieldNamed kind (bytes name) - 1
+rowOf kind name = let n = fieldNamed kind (bytes name) in cond (eqb n 0) (length (fieldsOf kind)) (n - 1)
 
-abbrev pub vertexOf : List ℕ → List ℕ → TextVertex
-vertexOf text places =
+abbrev pub textVertexOf : List ℕ → List ℕ → TextVertex
+textVertexOf text places =
     let decimal : String → Float = λ name. decimalField text places (rowOf Vertex name) in
     record {
       x = decimal "x";
@@ -31,8 +33,8 @@ vertexOf text places =
     }
 
 -- a linedef, whose id is `id` by default
-abbrev pub linedefOf : List ℕ → List ℕ → (ℕ → ℕ) → ℤ → TextLinedef
-linedefOf text places defaults id =
+abbrev pub textLinedefOf : List ℕ → List ℕ → (ℕ → ℕ) → ℤ → TextLinedef
+textLinedefOf text places defaults id =
     let whole : String → ℤ = λ name. wholeField text places defaults id (rowOf Linedef name) in
     let flag : String → Bool = λ name. flagField text places (rowOf Linedef name) in
     let string : String → Places = λ name. stringField text places (rowOf Linedef name) in
@@ -73,8 +75,8 @@ linedefOf text places defaults id =
       comment = string "comment";
     }
 
-abbrev pub sidedefOf : List ℕ → List ℕ → (ℕ → ℕ) → TextSidedef
-sidedefOf text places defaults =
+abbrev pub textSidedefOf : List ℕ → List ℕ → (ℕ → ℕ) → TextSidedef
+textSidedefOf text places defaults =
     let whole : String → ℤ = λ name. wholeField text places defaults (pos 0) (rowOf Sidedef name) in
     let string : String → Places = λ name. stringField text places (rowOf Sidedef name) in
     record {
@@ -87,8 +89,8 @@ sidedefOf text places defaults =
       comment = string "comment";
     }
 
-abbrev pub sectorOf : List ℕ → List ℕ → (ℕ → ℕ) → TextSector
-sectorOf text places defaults =
+abbrev pub textSectorOf : List ℕ → List ℕ → (ℕ → ℕ) → TextSector
+textSectorOf text places defaults =
     let whole : String → ℤ = λ name. wholeField text places defaults (pos 0) (rowOf Sector name) in
     let string : String → Places = λ name. stringField text places (rowOf Sector name) in
     record {
@@ -103,8 +105,8 @@ sectorOf text places defaults =
     }
 
 -- a thing; `kind` is the field `type`, a word of the language
-abbrev pub thingOf : List ℕ → List ℕ → (ℕ → ℕ) → TextThing
-thingOf text places defaults =
+abbrev pub textThingOf : List ℕ → List ℕ → (ℕ → ℕ) → TextThing
+textThingOf text places defaults =
     let whole : String → ℤ = λ name. wholeField text places defaults (pos 0) (rowOf Thing name) in
     let decimal : String → Float = λ name. decimalField text places (rowOf Thing name) in
     let flag : String → Bool = λ name. flagField text places (rowOf Thing name) in

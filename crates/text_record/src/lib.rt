@@ -1,10 +1,13 @@
 // The records of a text map (W-206): the fields of a block by document 002, in its order, read off the places of their values. The
 // definitions are in specs/.
+mod given;
+
+pub use given::Places;
+pub use given::string_at;
 ghost use mathlib.Core.Path.{_≡_};
-ghost use Rattle.text_table.specs.Inner.{defaultAt};
-ghost use Rattle.text_record.specs.Records.{vertexOf, linedefOf, sidedefOf, sectorOf, thingOf};
-use text_given as fields;
-use text_given::Places;
+ghost use Rattle.text_table.specs.Rows.{defaultAt};
+ghost use Rattle.text_record.specs.Records.{textVertexOf, textLinedefOf, textSidedefOf, textSectorOf, textThingOf};
+use given as fields;
 
 #[repr(C)]
 pub struct TextVertex {
@@ -111,7 +114,7 @@ pub struct TextThing {
 
 // Each of the five takes the places of a block's values, 0 for none; past their end there is none.
 pub fn vertex_of(text: &[u8], places: &[usize; 34]) -> TextVertex
-    ensures { λ r. ⌜ r ≡ vertexOf (now (text .entry)) (now (places .entry)) ⌝ }
+    ensures { λ r. ⌜ r ≡ textVertexOf (now (text .entry)) (now (places .entry)) ⌝ }
 {
     TextVertex {
         x: fields::decimal_field(text, places, 0),
@@ -122,7 +125,7 @@ pub fn vertex_of(text: &[u8], places: &[usize; 34]) -> TextVertex
 // The rest of the five take the rows of the kind too, for the defaults: past their end every default is 0. Of a linedef `id` is the default
 // of its id where the namespace decides. The whole numbers come first, since they are those that ask for the rows.
 pub fn linedef_of(text: &[u8], rows: &[u8], places: &[usize; 34], id: i32) -> TextLinedef
-    ensures { λ r. ⌜ r ≡ linedefOf (now (text .entry)) (now (places .entry)) (defaultAt (now (rows .entry))) id ⌝ }
+    ensures { λ r. ⌜ r ≡ textLinedefOf (now (text .entry)) (now (places .entry)) (defaultAt (now (rows .entry))) id ⌝ }
 {
     TextLinedef {
         id: fields::whole_field(text, rows, places, id, 0),
@@ -163,7 +166,7 @@ pub fn linedef_of(text: &[u8], rows: &[u8], places: &[usize; 34], id: i32) -> Te
 }
 
 pub fn sidedef_of(text: &[u8], rows: &[u8], places: &[usize; 34]) -> TextSidedef
-    ensures { λ r. ⌜ r ≡ sidedefOf (now (text .entry)) (now (places .entry)) (defaultAt (now (rows .entry))) ⌝ }
+    ensures { λ r. ⌜ r ≡ textSidedefOf (now (text .entry)) (now (places .entry)) (defaultAt (now (rows .entry))) ⌝ }
 {
     TextSidedef {
         offsetx: fields::whole_field(text, rows, places, 0, 0),
@@ -177,7 +180,7 @@ pub fn sidedef_of(text: &[u8], rows: &[u8], places: &[usize; 34]) -> TextSidedef
 }
 
 pub fn sector_of(text: &[u8], rows: &[u8], places: &[usize; 34]) -> TextSector
-    ensures { λ r. ⌜ r ≡ sectorOf (now (text .entry)) (now (places .entry)) (defaultAt (now (rows .entry))) ⌝ }
+    ensures { λ r. ⌜ r ≡ textSectorOf (now (text .entry)) (now (places .entry)) (defaultAt (now (rows .entry))) ⌝ }
 {
     TextSector {
         heightfloor: fields::whole_field(text, rows, places, 0, 0),
@@ -192,7 +195,7 @@ pub fn sector_of(text: &[u8], rows: &[u8], places: &[usize; 34]) -> TextSector
 }
 
 pub fn thing_of(text: &[u8], rows: &[u8], places: &[usize; 34]) -> TextThing
-    ensures { λ r. ⌜ r ≡ thingOf (now (text .entry)) (now (places .entry)) (defaultAt (now (rows .entry))) ⌝ }
+    ensures { λ r. ⌜ r ≡ textThingOf (now (text .entry)) (now (places .entry)) (defaultAt (now (rows .entry))) ⌝ }
 {
     TextThing {
         id: fields::whole_field(text, rows, places, 0, 0),

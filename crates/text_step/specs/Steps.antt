@@ -18,11 +18,11 @@ use Rattle.text_value.specs.declared.Value.the-variants.{Whole, Decimal, Text, 
 use Rattle.text_value.specs.declared.Reading.{Reading}
 use Rattle.text_value.specs.declared.Reading.the-variants.{Good, WholePast, DecimalPast, NoValue}
 use Rattle.text_value.specs.Values.{tokenRead}
-use Rattle.text_scope.specs.declared.Scope.{Scope}
-use Rattle.text_scope.specs.declared.Scope.the-variants.{Top}
+use Rattle.text_table.specs.declared.scope.Scope.{Scope}
+use Rattle.text_table.specs.declared.scope.Scope.the-variants.{Top}
 use Rattle.text_table.specs.Table.{whole, decimal, string, flag, fieldsOf, holdsOf}
-use Rattle.text_scope.specs.Scopes.{scopeNumber}
-use Rattle.text_field.specs.Names.{fieldNamed, kindNamed}
+use Rattle.text_table.specs.Scopes.{scopeNumber}
+use Rattle.text_table.specs.Names.{fieldNamed, kindNamed}
 use Rattle.text_block.specs.declared.Asked.{Asked}
 use Rattle.text_block.specs.declared.Wanted.{Wanted}
 use Rattle.text_block.specs.declared.Wanted.the-variants.{Statement, Equals, Value, Semicolon, NoMore}

@@ -5,7 +5,7 @@ ghost use Prim.Native.Nat.{_≤_};
 ghost use lib.ListN.{length};
 ghost use Rattle.refusal.specs.declared.Refusal.the-variants.{TextGrammar, TextNumber};
 ghost use Rattle.refusal.specs.declared.Check.the-variants.{Refused};
-ghost use Rattle.text_table.specs.Inner.{kindRows, rowsOf};
+ghost use Rattle.text_table.specs.Rows.{kindRows, rowsOf};
 ghost use Rattle.text_block.specs.Blocks.{isFull};
 ghost use Rattle.text_value.specs.Values.{tokenRead};
 ghost use Rattle.text_step.specs.Steps.{goesOn, refusedWith, misfit, isTop, isFound, notesAfter, wantedAfter, closedBlock, onEnd, wantedInside, openedBlock, onBrace};
@@ -16,7 +16,7 @@ use text_block::Asked;
 use text_block::Counts;
 use text_block::Wanted;
 use text_byte as bytes;
-use text_scope::Scope;
+use text_table::Scope;
 use text_token::Token;
 use text_value::Reading;
 use text_value::Value;
@@ -83,7 +83,7 @@ fn misfit(s: Parse, t: Token) -> Parse
 pub fn is_top(scope: Scope) -> bool
     ensures { λ r. ⌜ r ≡ isTop scope ⌝ }
 {
-    text_scope::scope_number(scope) == 0
+    text_table::scope_number(scope) == 0
 }
 
 // No statement: in a block a closing brace may come, and at the top the text's end. (The kind of the open block was not full where it
@@ -180,7 +180,7 @@ pub fn on_brace(kinds: &[u8], asked: Asked, s: Parse, t: Token, start: usize, na
 {
     let scope = s.scope;
     if is_top(scope) & (t.form == bytes::OPEN_BRACE) {
-        return opened_block(asked, s, t, start, text_field::kind_named(kinds, name));
+        return opened_block(asked, s, t, start, text_table::kind_named(kinds, name));
     }
     misfit(s, t)
 }

@@ -6,11 +6,11 @@ use native.Mathlib.Omega.{arith}
 use lib.Dec.{eqb}
 use lib.ListN.{length, getD, take, drop, replicate, length-append, length-replicate}
 use lib.Seq.{length-take-le, getD-append-add, take-append-seam}
-use Rattle.text_scope.specs.declared.Scope.{Scope}
-use Rattle.text_scope.specs.declared.Scope.the-variants.{Top, Vertex, Linedef, Sidedef, Sector, Thing, Unknown}
-use Rattle.text_scope.specs.Scopes.{rowCount}
+use Rattle.text_table.specs.declared.scope.Scope.{Scope}
+use Rattle.text_table.specs.declared.scope.Scope.the-variants.{Top, Vertex, Linedef, Sidedef, Sector, Thing, Unknown}
+use Rattle.text_table.specs.Scopes.{rowCount}
 use Rattle.text_table.specs.Table.{Row, required, kindNames, globalNames, vertexFields, linedefFields, sidedefFields, sectorFields, thingFields, zeroIdNames, fieldsOf, holdsOf, defaultOf, isRequired}
-use Rattle.text_table.specs.Inner.{rowSize, paddedName, padded, rowsOf, loaded, heldAt, defaultAt, requiredAt}
+use Rattle.text_table.specs.Rows.{rowSize, paddedName, padded, rowsOf, loaded, heldAt, defaultAt, requiredAt}
 
 pub length-name : (name : List ℕ) → length (paddedName name) ≡ 16
 length-name name =

@@ -1,47 +1,34 @@
--- What only contracts of inner functions cite: the table as the code holds it, in bytes. Assumes nothing.
-use Prim.Native.Nat.{ℕ, _+_, _*_}
-use mathlib.Core.Bool.{Bool}
-use mathlib.Core.List.{List, [], _∷_, _++_}
-use lib.Dec.{eqb}
-use lib.ListN.{getD, length, take, drop, replicate}
-use Rattle.text_scope.specs.declared.Scope.{Scope}
-use Rattle.text_table.specs.Table.{Row, required, kindNames, zeroIdNames, fieldsOf}
+-- What only contracts of inner functions cite: a word among padded rows, which are told apart by one letter. Assumes nothing.
+use Prim.Native.Nat.{ℕ, zero, suc, _+_, _-_, _*_, _≤_, _<_}
+use mathlib.Core.Bool.{Bool, false, not, _&&_, cond}
+use mathlib.Core.List.{List}
+use mathlib.Core.Path.{_≡_}
+use lib.Dec.{eqb, ltb}
+use lib.ListN.{length, getD}
+use Rattle.text_table.specs.Rows.{nameRoom, rowSize}
+use Rattle.text_table.specs.Names.{every, letterAt}
 
--- a name's room in a row, and the row's bytes
-abbrev pub nameRoom : ℕ
-nameRoom = 16
+-- byte `k` of the word is that of row `i`
+abbrev pub sameAt : List ℕ → Bool → List ℕ → ℕ → ℕ → Bool
+sameAt word exact rows i k = eqb (letterAt word exact k) (getD rows (rowSize * i + k) 0)
 
-abbrev pub rowSize : ℕ
-rowSize = 18
+-- the name of row `i` has `n` letters: a space stands behind them, and is not the last of them
+abbrev pub longAs : List ℕ → ℕ → ℕ → Bool
+longAs rows i n = (ltb n nameRoom && eqb (getD rows (rowSize * i + n) 0) 32) && not (eqb (getD rows (rowSize * i + (n - 1)) 0) 32)
 
--- a name, and spaces behind it up to its room
-abbrev pub paddedName : List ℕ → List ℕ
-paddedName name = take nameRoom (name ++ replicate nameRoom 32)
+-- the word is the name of row `i`
+abbrev pub isRow : List ℕ → Bool → List ℕ → ℕ → Bool
+isRow word exact rows i = longAs rows i (length word) && every (sameAt word exact rows i) (length word)
 
--- the rows one after the other: the padded name, what it holds, and its default
-abbrev pub padded : List Row → List ℕ
-padded [] = []
-padded (r ∷ rows) = paddedName (r .name) ++ (r .holds ∷ r .default ∷ padded rows)
+-- which of some rows has the word as its name, counted from 1, where `k` rows were passed and `n` are left; 0 for none
+unfoldable pub rowIn : List ℕ → Bool → List ℕ → ℕ → ℕ → ℕ
+rowIn word exact rows k zero = 0
+rowIn word exact rows k (suc n) = cond (isRow word exact rows k) (k + 1) (rowIn word exact rows (k + 1) n)
 
-abbrev pub kindRows : List ℕ
-kindRows = padded kindNames
+-- row `i` stands among the rows
+abbrev pub Among : ℕ → List ℕ → Type 0
+Among i rows = (i < 34) × (rowSize * (i + 1) ≤ length rows)
 
-abbrev pub namespaceRows : List ℕ
-namespaceRows = padded zeroIdNames
-
-abbrev pub rowsOf : Scope → List ℕ
-rowsOf scope = padded (fieldsOf scope)
-
--- the rows of a scope at the front, and what stood behind them
-abbrev pub loaded : Scope → List ℕ → List ℕ
-loaded scope bytes = rowsOf scope ++ drop (length (rowsOf scope)) bytes
-
--- what the field of row `i` holds, what it is by default, and whether it has no default; 0 past the last
-abbrev pub heldAt : List ℕ → ℕ → ℕ
-heldAt bytes i = getD bytes (rowSize * i + 16) 0
-
-abbrev pub defaultAt : List ℕ → ℕ → ℕ
-defaultAt bytes i = getD bytes (rowSize * i + 17) 0
-
-abbrev pub requiredAt : List ℕ → ℕ → Bool
-requiredAt bytes i = eqb (defaultAt bytes i) required
+-- the word is not the name of row `i` where another byte than `last` stands at `at`
+abbrev pub Tells : List ℕ → Bool → List ℕ → ℕ → ℕ → ℕ → Type 0
+Tells word exact rows last at i = eqb last (getD rows at 0) ≡ false → false ≡ isRow word exact rows i

@@ -1,13 +1,21 @@
 // The names that a text map knows, as constant rows, a table for each scope (W-206). The definitions are in specs/.
+mod field;
+mod scope;
+
+pub use field::field_named;
+pub use field::kind_named;
+pub use field::zero_ids;
+pub use scope::Scope;
+pub use scope::row_count;
+pub use scope::scope_number;
 ghost use mathlib.Core.Path.{_≡_};
 ghost use Prim.Native.Nat.{_*_, _≤_, _<_};
 ghost use mathlib.Core.List.{_++_};
 ghost use lib.ListN.{length, drop};
-ghost use Rattle.text_scope.specs.Scopes.{rowCount};
+ghost use Rattle.text_table.specs.Scopes.{rowCount};
 ghost use Rattle.text_table.specs.Table.{globalNames, vertexFields, linedefFields, sidedefFields, sectorFields, thingFields};
-ghost use Rattle.text_table.specs.Inner.{rowSize, padded, kindRows, namespaceRows, loaded, heldAt, defaultAt, requiredAt};
+ghost use Rattle.text_table.specs.Rows.{rowSize, padded, kindRows, namespaceRows, loaded, heldAt, defaultAt, requiredAt};
 use text_byte as bytes;
-use text_scope::Scope;
 
 // The bytes of a row, the room of a name in it, and the most rows of a scope.
 pub const ROW_SIZE: usize = 18;
@@ -204,7 +212,7 @@ pub fn load(scope: Scope, rows: &mut [u8; 612])
 pub fn size_of(scope: Scope) -> usize
     ensures { λ r. ⌜ (r ≡ rowSize * rowCount scope) × (r ≤ 612) ⌝ }
 {
-    ROW_SIZE * text_scope::row_count(scope)
+    ROW_SIZE * scope::row_count(scope)
 }
 
 fn put(from: &[u8], rows: &mut [u8; 612])

@@ -13,7 +13,7 @@ use Rattle.text_byte.proofs.Bytes.{unlike, mark-blank}
 use Rattle.text_byte.proofs.Spans.{cond-on, Reach, reach-step, span-reach}
 use Rattle.text_gap.specs.declared.Mode.the-variants.{Between}
 use Rattle.text_gap.specs.Gaps.{isOpen, gapFrom}
-use Rattle.text_gap.specs.Inner.{blankAt, startsToken}
+use Rattle.text_gap.specs.Passing.{blankAt, startsToken}
 use Rattle.text_gap.proofs.Scans.{gap-reach}
 use Rattle.text_gap.proofs.GapRuns.{blanks-same, token-starts}
 use Rattle.text_token.specs.declared.Token.{Token}

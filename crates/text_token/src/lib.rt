@@ -7,7 +7,7 @@ ghost use lib.ListN.{length};
 ghost use Rattle.text_byte.specs.Bytes.{isMark};
 ghost use Rattle.text_byte.specs.Spans.{spanEnd};
 ghost use Rattle.text_token.specs.Tokens.{inWord, quoteEnd, ended, stringTo, wordTo, tokenHere, tokenBehind, tokenAt, bytesOf, wordOf, Placed};
-ghost use Rattle.text_byte.specs.Inner.{Unseen};
+ghost use Rattle.text_byte.specs.WordBytes.{Unseen};
 ghost use Rattle.text_token.specs.Inner.{endsRun, PlainRun, StringRun};
 use text_byte as bytes;
 use text_gap::Gap;

@@ -6,8 +6,8 @@ use native.Mathlib.Nat.{min-eq-left, min-eq-right}
 use native.Mathlib.Omega.{arith}
 use borrow.Author.Tests.{leb-true, leb-false, lt-leb}
 use lib.Dec.{leb}
-use Rattle.text_number.specs.Numbers.{mostOf}
-use Rattle.text_number.proofs.Numbers.{cap}
+use Rattle.text_value.specs.Numbers.{mostOf}
+use Rattle.text_value.proofs.Numbers.{cap}
 use Rattle.text_value.specs.Values.{wholeRead}
 
 -- what is capped beyond the limits reads the same

@@ -9,13 +9,13 @@ use lib.Dec.{ltb, eqb}
 use lib.ListN.{length, getD}
 use Rattle.text_byte.specs.Bytes.{isDigit}
 use Rattle.text_byte.proofs.Spans.{span-more, span-stop}
-use Rattle.text_number.specs.Numbers.{zeroDigit, smallX, minusSign, digitsFrom, digitsEnd, hexOk, wholeOk, behindSign}
-use Rattle.text_number.specs.Inner.{isHex, isPoint}
-use Rattle.text_number.proofs.Numbers.{cap, hexOk-is, decimalOk-is, wholeOk-end}
+use Rattle.text_value.specs.Numbers.{zeroDigit, smallX, minusSign, digitsFrom, digitsEnd, hexOk, wholeOk, behindSign}
+use Rattle.text_value.specs.Inner.Digits.{isHex, isPoint}
+use Rattle.text_value.proofs.Numbers.{cap, hexOk-is, decimalOk-is, wholeOk-end}
 use Rattle.text_value.specs.declared.Reading.{Reading}
 use Rattle.text_value.specs.declared.Reading.the-variants.{NoValue}
 use Rattle.text_value.specs.Values.{wholeRead, digitsRead, numberRead}
-use Rattle.text_value.specs.Inner.{hexRead, pointRead}
+use Rattle.text_value.specs.Inner.Forms.{hexRead, pointRead}
 use Rattle.text_value.proofs.Capped.{wholeRead-capped}
 
 -- digits from `at` on up to the end, counted with a cap

@@ -11,7 +11,7 @@ use Rattle.text_value.specs.declared.Value.{Value}
 use Rattle.text_value.specs.declared.Value.the-variants.{Whole, Decimal, Text, Flag}
 use Rattle.text_value.specs.declared.Reading.{Reading}
 use Rattle.text_value.specs.declared.Reading.the-variants.{Good, WholePast, DecimalPast, NoValue}
-use Rattle.text_number.specs.Numbers.{digitsFrom, digitsEnd, hexOk, wholeOk, decimalOk, minusSign, behindSign, signed, mostOf, decimalFits, decimalDigits, quotient}
+use Rattle.text_value.specs.Numbers.{digitsFrom, digitsEnd, hexOk, wholeOk, decimalOk, minusSign, behindSign, signed, mostOf, decimalFits, decimalDigits, quotient}
 
 -- `true`, in any case of its letters
 abbrev pub isTrue : List ℕ → Bool

@@ -1,12 +1,14 @@
 // The values of a text map (W-206): a token as a whole number, a decimal, the places of a string or a flag. The definitions are in specs/.
+mod number;
+
 ghost use mathlib.Core.Path.{_≡_};
 ghost use Prim.Native.Nat.{_-_, _≤_, _<_, min};
 ghost use lib.ListN.{length};
-ghost use Rattle.text_number.specs.Numbers.{digitsFrom};
+ghost use Rattle.text_value.specs.Numbers.{digitsFrom};
 ghost use Rattle.text_value.specs.Values.{isTrue, isFalse, wholeRead, numberRead, wordRead, tokenRead};
-ghost use Rattle.text_value.specs.Inner.{hexRead, pointRead};
+ghost use Rattle.text_value.specs.Inner.Forms.{hexRead, pointRead};
+use number as numbers;
 use text_byte as bytes;
-use text_number as numbers;
 use text_token::Token;
 
 // A value: of a string the places after its opening quote and of its closing one.

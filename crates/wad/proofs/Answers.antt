@@ -22,12 +22,12 @@ use Rattle.wad.specs.declared.map.Marker.{Marker}
 use Rattle.wad.specs.declared.map.Marker.the-variants.{Entry as Marked, Refused as NoMarker}
 use Rattle.wad.specs.declared.map.MarkerSearch.{MarkerSearch}
 use Rattle.name.specs.Names.{nameOf, episodeName, lowName, highName, mapNameOk}
-use Rattle.directory.specs.Header.{headOf, entryCount, fileHeaderCheck}
-use Rattle.directory.specs.Entries.{directoryOf, offsetAt, sizeAt, insideOk, entryCheck, fileCheck}
+use Rattle.wad.specs.Header.{headOf, entryCount, fileHeaderCheck}
+use Rattle.wad.specs.Entries.{directoryOf, offsetAt, sizeAt, insideOk, entryCheck, fileCheck}
 use Rattle.wad.specs.Lump.{entrySize, entryOffset, placed, entryAnswer, partOf, HandedWhole}
 use Rattle.wad.specs.Map.{findMarker, counted, found, markerAnswer, searched, searchAnswer}
-use Rattle.directory.proofs.Slices.{length-part, partIf-inside}
-use Rattle.directory.proofs.Listing.{between-natural}
+use Rattle.wad.proofs.Slices.{length-part, partIf-inside}
+use Rattle.wad.proofs.Listing.{between-natural}
 
 module _ (wad : List ℕ) (i : ℕ) where
   abbrev pub answered : Check → Entry

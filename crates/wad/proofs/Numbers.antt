@@ -6,15 +6,15 @@ use mathlib.Core.Path.{_≡_, refl, ap, subst⁻¹}
 use native.Mathlib.Omega.{arith}
 use lib.ListN.{length}
 use Rattle.refusal.specs.declared.Refusal.{Refusal}
-use Rattle.refusal.specs.declared.Refusal.the-variants.{FileLength, Mark, LumpCount, DirectoryBounds, EntryBounds, EntryName, MapName, MapMissing}
+use Rattle.refusal.specs.declared.Refusal.the-variants.{FileLength, Mark, LumpCount, DirectoryBounds, EntryBounds, EntryName, MapName, EntryMissing}
 use Rattle.refusal.specs.declared.Check.{Check}
 use Rattle.refusal.specs.declared.Check.the-variants.{Pass, Refused}
 use Rattle.refusal.specs.Table.{numberOf}
 use Rattle.refusal.proofs.Numbers.{AtMost, unless-atMost, andThen-atMost, each-atMost}
 use Rattle.wad.specs.declared.map.Marker.{Marker}
 use Rattle.wad.specs.declared.map.Marker.the-variants.{Entry, Refused as NoMarker}
-use Rattle.directory.specs.Header.{lengthOk, markOk, entryCountOk, boundsOk, headOf, entryCount}
-use Rattle.directory.specs.Entries.{offsetAt, sizeAt, entryName, insideOk, entryCheck, directoryOf, directoryCheck}
+use Rattle.wad.specs.Header.{lengthOk, markOk, entryCountOk, boundsOk, headOf, entryCount}
+use Rattle.wad.specs.Entries.{offsetAt, sizeAt, entryName, insideOk, entryCheck, directoryOf, directoryCheck}
 use Rattle.name.specs.Names.{nameOk, sameName, mapNameOk}
 use Rattle.wad.proofs.Search.{findMarker-found, findMarker-on, findMarker-none}
 use Rattle.wad.specs.Map.{findMarker, found, markerAnswer}
@@ -40,7 +40,7 @@ module _ (dir name : List ℕ) where
   find-by n false e h = subst⁻¹ MarkerAtMost (findMarker-on dir name n (suc n) refl refl e) h
 
   find-atMost : (n : ℕ) → MarkerAtMost (findMarker dir name n)
-  find-atMost zero = subst⁻¹ MarkerAtMost (findMarker-none dir name) (none-atMost MapMissing (omega arith))
+  find-atMost zero = subst⁻¹ MarkerAtMost (findMarker-none dir name) (none-atMost EntryMissing (omega arith))
   find-atMost (suc n) = find-by n (sameName (entryName dir n) name) refl (find-atMost n)
 
 found-atMost : (c : Check) (m : Marker) → AtMost 11 c → MarkerAtMost m → MarkerAtMost (found c m)

@@ -3,9 +3,9 @@ use Prim.Native.Nat.{ℕ, suc}
 use mathlib.Core.Bool.{Bool, true, false, cond}
 use mathlib.Core.List.{List}
 use mathlib.Core.Path.{_≡_, refl, sym, ap, _∙_}
-use Rattle.refusal.specs.declared.Refusal.the-variants.{MapMissing}
+use Rattle.refusal.specs.declared.Refusal.the-variants.{EntryMissing}
 use Rattle.wad.specs.declared.map.Marker.the-variants.{Entry, Refused as NoMarker}
-use Rattle.directory.specs.Entries.{entryName}
+use Rattle.wad.specs.Entries.{entryName}
 use Rattle.name.specs.Names.{sameName}
 use Rattle.wad.specs.Map.{findMarker}
 
@@ -23,6 +23,6 @@ module _ (dir name : List ℕ) where
   findMarker-on n k e q t =
       ap (findMarker dir name) e ∙ ap (λ (x : Bool). cond x (Entry n) (findMarker dir name n)) (sym q ∙ t)
 
-  pub findMarker-none : findMarker dir name 0 ≡ NoMarker MapMissing
+  pub findMarker-none : findMarker dir name 0 ≡ NoMarker EntryMissing
   unfolding findMarker
   findMarker-none = refl

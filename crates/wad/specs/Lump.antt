@@ -12,9 +12,9 @@ use Rattle.refusal.specs.declared.Refusal.the-variants.{EntryNumber}
 use Rattle.refusal.specs.Checks.{unless, _andThen_}
 use Rattle.wad.specs.declared.lumps.Entry.{Entry}
 use Rattle.wad.specs.declared.lumps.Entry.the-variants.{At, Refused as NotThere}
-use Rattle.directory.specs.Slices.{part, partIf}
-use Rattle.directory.specs.Header.{headOf, entryCount}
-use Rattle.directory.specs.Entries.{directoryOf, offsetAt, sizeAt, fileCheck}
+use Rattle.wad.specs.Slices.{part, partIf}
+use Rattle.wad.specs.Header.{headOf, entryCount}
+use Rattle.wad.specs.Entries.{directoryOf, offsetAt, sizeAt, fileCheck}
 
 -- entry `i`'s size in bytes
 abbrev pub entrySize : List ℕ → ℕ → ℕ

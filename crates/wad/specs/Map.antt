@@ -5,18 +5,18 @@ use mathlib.Core.List.{List}
 use lib.ListN.{length}
 use Rattle.refusal.specs.declared.Check.{Check}
 use Rattle.refusal.specs.declared.Check.the-variants.{Pass, Refused}
-use Rattle.refusal.specs.declared.Refusal.the-variants.{MapName, MapMissing}
+use Rattle.refusal.specs.declared.Refusal.the-variants.{MapName, EntryMissing}
 use Rattle.refusal.specs.Checks.{unless, _andThen_}
 use Rattle.wad.specs.declared.map.Marker.{Marker}
 use Rattle.wad.specs.declared.map.Marker.the-variants.{Entry, Refused as NoMarker}
 use Rattle.wad.specs.declared.map.MarkerSearch.{MarkerSearch}
-use Rattle.directory.specs.Header.{headOf, entryCount}
-use Rattle.directory.specs.Entries.{entryName, directoryOf, directoryCheck, fileCheck}
+use Rattle.wad.specs.Header.{headOf, entryCount}
+use Rattle.wad.specs.Entries.{entryName, directoryOf, directoryCheck, fileCheck}
 use Rattle.name.specs.Names.{sameName, mapNameOk}
 
 -- the last of the first `n` entries that has the name
 unfoldable pub findMarker : List ℕ → List ℕ → ℕ → Marker
-findMarker dir name zero = NoMarker MapMissing
+findMarker dir name zero = NoMarker EntryMissing
 findMarker dir name (suc n) = cond (sameName (entryName dir n) name) (Entry n) (findMarker dir name n)
 
 -- how many names the search compared, from the last of `count` entries down: the count less the found entry's number, or the

@@ -3,10 +3,10 @@ ghost use mathlib.Core.Path.{_≡_};
 ghost use Prim.Native.Nat.{_+_, _*_, _<_, _≤_};
 ghost use lib.ListN.{length};
 ghost use Rattle.wad.specs.Lump.{entrySize, entryOffset, lumpAt, entryAnswer, entryLump};
-use directory::directory_of;
-use directory::entry_count;
-use directory::judge_file;
-use directory::part_if;
+use crate::entries::directory_of;
+use crate::entries::entry_count;
+use crate::entries::judge_file;
+use crate::parts::part_if;
 use refusal::Check;
 use refusal::Refusal;
 

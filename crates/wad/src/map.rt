@@ -4,10 +4,10 @@ ghost use Prim.Native.Nat.{_*_, _≤_};
 ghost use lib.ListN.{length};
 ghost use Rattle.wad.specs.Map.{findMarker, counted, markerAnswer, searchAnswer};
 ghost use Rattle.wad.specs.declared.map.Marker.the-variants.{Refused as NoMarker};
-use directory::directory_of;
-use directory::entry_count;
-use directory::judge_file;
-use directory::part;
+use crate::entries::directory_of;
+use crate::entries::entry_count;
+use crate::entries::judge_file;
+use crate::parts::part;
 use refusal::Check;
 use refusal::Refusal;
 
@@ -42,7 +42,7 @@ pub fn last_named(dir: &[u8], count: usize, name: &[u8]) -> MarkerSearch
         }
     }
     MarkerSearch {
-        marker: Marker::Refused(Refusal::MapMissing),
+        marker: Marker::Refused(Refusal::EntryMissing),
         compared,
     }
 }

@@ -12,7 +12,7 @@ use lib.Seq.{sets}
 use Rattle.refusal.specs.declared.Check.the-variants.{Pass}
 use Rattle.layout.specs.Rows.{sumOf}
 use Rattle.difference.specs.Differences.{changesIn, changeCounts, gameIn, lumpsIn, sameGame, changeList, neither}
-use Rattle.difference.specs.Inner.{Numbered}
+use Rattle.difference.specs.Inner.Lumps.{Numbered}
 use Rattle.difference.proofs.Answering.{same-game, counted-sum, other-games, no-room, all-listed}
 use Rattle.difference.proofs.compare_accepted.Statement.{statement}
 use Rattle.difference.proofs.compare_accepted.Tie as tie

@@ -2,8 +2,8 @@
 use mathlib.Core.Path.{_∙_}
 use borrow.Author.Needs.{needs}
 use denote.Ref.{now}
-use Rattle.directory.proofs.Listing.{file-header}
-use Rattle.run.specs.Games.{gameAt}
+use Rattle.wad.proofs.Listing.{file-header}
+use Rattle.map_lumps.specs.Games.{gameAt}
 use Rattle.difference.proofs.game_in.Statement.{statement}
 use Rattle.difference.proofs.game_in.Tie as tie
 

@@ -2,8 +2,8 @@
 use mathlib.Core.Path.{_≡_, sym, _∙_}
 use borrow.Author.Needs.{needs}
 use denote.Ref.{now}
-use Rattle.level.specs.declared.Verdict.the-variants.{Accepted}
-use Rattle.level.specs.Verdict.{verdict}
+use Rattle.map_check.specs.declared.Verdict.the-variants.{Accepted}
+use Rattle.map_check.specs.Verdict.{verdict}
 use Rattle.difference.proofs.Accepting.{accepted-map, accepted-numbered}
 use Rattle.difference.proofs.Answering.{then-refused, then-compared}
 use Rattle.difference.proofs.then_new.Statement.{statement}

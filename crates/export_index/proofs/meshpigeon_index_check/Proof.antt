@@ -1,6 +1,6 @@
 -- `export_index::meshpigeon_index_check` meets its contract, by the answer of the layer below. Assumes nothing.
 use mathlib.Core.Path.{ap, _∙_}
-use Rattle.status.specs.Status.{statusOf}
+use Rattle.refusal.specs.Status.{statusOf}
 use borrow.Author.Needs.{needs}
 use Rattle.export_index.proofs.meshpigeon_index_check.Statement.{statement}
 use Rattle.export_index.proofs.meshpigeon_index_check.Tie as tie

@@ -3,7 +3,7 @@ use mathlib.Core.Path.{_≡_, sym, ap, _∙_}
 use denote.Ref.{now}
 use mir.Syntax.{w16}
 use mir.ValLaws.{toZ-ofZ}
-use Rattle.bsp.specs.Walks.{descent}
+use Rattle.node_descent.specs.Walks.{descent}
 use Rattle.export_maps.specs.Maps.{descentOut}
 use borrow.Author.Needs.{needs}
 use Rattle.export_maps.proofs.meshpigeon_descend.Statement.{statement}

@@ -4,8 +4,8 @@ use denote.Ref.{now}
 use lib.ListN.{length}
 use mir.Syntax.{w16}
 use mir.ValLaws.{toZ-ofZ}
-use Rattle.draw.specs.Lists.{drawOrder}
-use Rattle.draw.specs.Promises.{answerOf, wordsDrawn, Drawn}
+use Rattle.draw_order.specs.Lists.{drawOrder}
+use Rattle.draw_order.specs.Promises.{orderAnswer, wordsDrawn, Drawn}
 use Rattle.export_maps.specs.Maps.{orderOut}
 use borrow.Author.Needs.{needs}
 use Rattle.export_maps.proofs.meshpigeon_draw_order.Statement.{statement}
@@ -22,7 +22,7 @@ asked c =
     let y = toZ-ofZ w16 (a .y) (e .fits .y) in
     let drawn = c .draw-order .ensures in
     record {
-      answers = drawn .answers ∙ (λ i. answerOf (drawOrder (now (a .nodes)) (a .subsectors) (x i) (y i) (length (now (a .words)))));
+      answers = drawn .answers ∙ (λ i. orderAnswer (drawOrder (now (a .nodes)) (a .subsectors) (x i) (y i) (length (now (a .words)))));
       leaves = drawn .leaves ∙ (λ i. wordsDrawn (now (a .nodes)) (a .subsectors) (x i) (y i) (now (a .words)));
     }
 

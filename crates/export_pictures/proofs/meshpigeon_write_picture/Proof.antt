@@ -2,7 +2,7 @@
 use mathlib.Core.Path.{_≡_, sym, ap, _∙_}
 use denote.Ref.{now}
 use lib.ListN.{length}
-use Rattle.encode.specs.Encoding.{Encoded}
+use Rattle.picture_write.specs.Encoding.{Encoded}
 use Rattle.export_pictures.specs.Pictures.{lengthOut}
 use borrow.Author.Needs.{needs}
 use Rattle.export_pictures.proofs.meshpigeon_write_picture.Statement.{statement}

@@ -1,6 +1,6 @@
 -- `export_records::meshpigeon_write_sidedef` meets its contract, by what the write answered. Assumes nothing.
 use mathlib.Core.Path.{sym, ap, _∙_}
-use Rattle.status.specs.Status.{statusOf}
+use Rattle.refusal.specs.Status.{statusOf}
 use borrow.Author.Needs.{needs}
 use Rattle.export_records.proofs.meshpigeon_write_sidedef.Statement.{statement}
 use Rattle.export_records.proofs.meshpigeon_write_sidedef.Tie as tie

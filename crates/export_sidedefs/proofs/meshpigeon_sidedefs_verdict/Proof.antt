@@ -1,7 +1,7 @@
 -- `export_sidedefs::meshpigeon_sidedefs_verdict` meets its contract, from those of the two functions that it calls.
 -- Assumes nothing.
 use mathlib.Core.Path.{ap, _∙_}
-use Rattle.status.specs.Status.{statusOf}
+use Rattle.refusal.specs.Status.{statusOf}
 use borrow.Author.Needs.{needs}
 use Rattle.export_sidedefs.proofs.meshpigeon_sidedefs_verdict.Statement.{statement}
 use Rattle.export_sidedefs.proofs.meshpigeon_sidedefs_verdict.Tie as tie

@@ -1,6 +1,6 @@
 -- `export_why::reason_out` meets its contract, by the verdict. Assumes nothing.
 use mathlib.Core.Path.{sym, ap, _∙_}
-use Rattle.level.specs.declared.Verdict.{Verdict}
+use Rattle.map_check.specs.declared.Verdict.{Verdict}
 use Rattle.export_why.specs.Reasons.{reasonOut}
 use borrow.Author.Needs.{needs}
 use Rattle.export_why.proofs.reason_out.Statement.{statement}

@@ -40,10 +40,10 @@ use denote.Triple.Spec.{Meets, tripleOf}
 use denote.Triple.Table.{entered, cited}
 use denote.Triple.Walked.{says, Stays, stay-slice, stay-none-slice, walkOf, goes-slice, goes-none-slice, Walks, ends-at, walked, walk-meets}
 use denote.Exit.{yes}
-use Rattle.directory.specs.Header.{headOf, entryCount}
-use Rattle.directory.specs.Entries.{directoryOf}
+use Rattle.wad.specs.Header.{headOf, entryCount}
+use Rattle.wad.specs.Entries.{directoryOf}
 use Rattle.index.specs.declared.IndexRecord.{IndexRecord}
-use Rattle.index.specs.Index.{recordPlace, indexRecordSize, indexHeadSize}
+use Rattle.index.specs.Index.{recordOffset, indexRecordSize, indexHeadSize}
 use Rattle.refusal.specs.declared.Check.{Check}
 use Rattle.index_build.specs.declared.Building.{Building}
 use Rattle.index_build.specs.Building.{buildCheck, buildingOf}
@@ -85,7 +85,7 @@ abbrev checkOf : List ℕ → ℕ → List ℕ → Check
 checkOf wad n out = buildCheck wad n (length out)
 
 abbrev answerOf : List ℕ → ℕ → List ℕ → Building
-answerOf wad n out = buildingOf (checkOf wad n out) (recordPlace (entryCount (headOf wad)))
+answerOf wad n out = buildingOf (checkOf wad n out) (recordOffset (entryCount (headOf wad)))
 
 -- ---- the callees, as what a call of each takes and gives
 module _ {M : Type 1} (𝓤 : URA M) (H : Heap 𝓤) (A : Atoms 𝓤) (W : Given 𝓤 H A) (mem : Memory → SProp 𝓤) (run : Routine → Fun 𝓤) (𝓣 : Tables 𝓤 H) where

@@ -9,8 +9,8 @@ use denote.Ref.{now}
 use Rattle.endian.specs.Unsigned.{Bytes}
 use Rattle.refusal.specs.declared.Check.the-variants.{Pass}
 use Rattle.refusal.proofs.Checks.{refused-then, pass-then}
-use Rattle.directory.specs.Entries.{directoryOf}
-use Rattle.directory.proofs.Listing.{file-header, file-sound}
+use Rattle.wad.specs.Entries.{directoryOf}
+use Rattle.wad.proofs.Listing.{file-header, file-sound}
 use Rattle.index_check.specs.Checking.{indexHeadCheck}
 use Rattle.index_check.specs.Inner.{recordsCheck}
 use Rattle.index_check.proofs.Heads.{passed}

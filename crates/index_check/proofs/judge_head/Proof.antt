@@ -11,9 +11,9 @@ use Rattle.refusal.specs.declared.Check.the-variants.{Pass}
 use Rattle.refusal.specs.declared.Refusal.the-variants.{IndexHead, IndexVersion}
 use Rattle.refusal.specs.Checks.{unless}
 use Rattle.refusal.proofs.Checks.{refused-then, pass-then}
-use Rattle.directory.specs.Header.{headOf, entryCount}
-use Rattle.directory.specs.Entries.{fileCheck}
-use Rattle.directory.proofs.Listing.{file-header, file-sound}
+use Rattle.wad.specs.Header.{headOf, entryCount}
+use Rattle.wad.specs.Entries.{fileCheck}
+use Rattle.wad.proofs.Listing.{file-header, file-sound}
 use Rattle.index_check.specs.Checking.{indexHeadOk}
 use Rattle.index_check.specs.Checking.{headOk}
 use Rattle.index_check.proofs.Heads.{headed}

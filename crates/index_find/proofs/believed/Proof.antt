@@ -7,7 +7,7 @@ use borrow.Author.Needs.{needs}
 use borrow.Author.Tests.{le-ltb, lt-ltb}
 use denote.Ref.{now}
 use Rattle.name.specs.Names.{sameName}
-use Rattle.directory.specs.Entries.{entryName}
+use Rattle.wad.specs.Entries.{entryName}
 use Rattle.index_find.proofs.believed.Statement.{statement}
 use Rattle.index_find.proofs.believed.Tie as tie
 

@@ -10,10 +10,10 @@ use lib.ListN.{length}
 use Rattle.refusal.specs.declared.Check.{Check}
 use Rattle.refusal.specs.declared.Check.the-variants.{Pass}
 use Rattle.wad.specs.declared.map.MarkerSearch.{MarkerSearch}
-use Rattle.directory.specs.Header.{headOf, entryCount}
-use Rattle.directory.specs.Entries.{directoryOf}
+use Rattle.wad.specs.Header.{headOf, entryCount}
+use Rattle.wad.specs.Entries.{directoryOf}
 use Rattle.wad.specs.Map.{searched}
-use Rattle.directory.proofs.Listing.{file-header, file-sound}
+use Rattle.wad.proofs.Listing.{file-header, file-sound}
 use Rattle.index_check.specs.Checking.{indexHeadCheck}
 use Rattle.index_check.proofs.Heads.{passed}
 use Rattle.index_find.specs.Finding.{lookup}

@@ -22,13 +22,13 @@ u16-at-requires c κs =
     let s = c .before .before .before .before .before .before in
     let a = s .args in
     let some = last-some (isEqual (now (a .index)) (now (a .name))) (a .gone .past) (sym (s .pre .1 .1) ∙ c .before .before .if1 .taken) in
-    omega (arith, some, c .record-place .ensures, s .pre .1 .0 .1)
+    omega (arith, some, c .record-offset .ensures, s .pre .1 .0 .1)
 
 returns : tie.Need-returns
 returns c =
     let s = c .before .before .before .before .before .before .before .before in
     let a = s .args in
-    let number = c .before .u16-at .ensures ∙ ap (λ (at : ℕ). u16At (now (a .index)) (at + 8)) (c .before .before .record-place .ensures) in
+    let number = c .before .u16-at .ensures ∙ ap (λ (at : ℕ). u16At (now (a .index)) (at + 8)) (c .before .before .record-offset .ensures) in
     c .believed .ensures ∙ ap (believed (now (a .dir)) (a .count) (now (a .name))) number
     ∙ last-equal (now (a .dir)) (a .count) (now (a .index)) (now (a .name)) (a .gone .past) (sym (s .pre .1 .1) ∙ c .before .before .before .before .if1 .taken)
 

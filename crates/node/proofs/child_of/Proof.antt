@@ -2,7 +2,7 @@
 use mathlib.Core.Path.{sym, ap, _∙_}
 use native.Mathlib.Omega.{arith}
 use denote.Ref.{now}
-use Rattle.field.proofs.Records.{u16At-recordBytes}
+use Rattle.record_field.proofs.Records.{u16At-recordBytes}
 use Rattle.node.specs.Nodes.{childOf}
 use borrow.Author.Needs.{needs}
 use Rattle.node.proofs.child_of.Statement.{statement}

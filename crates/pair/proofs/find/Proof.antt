@@ -7,11 +7,11 @@ use borrow.Author.Needs.{needs}
 use denote.Ref.{now}
 use Rattle.refusal.specs.declared.Check.the-variants.{Pass}
 use Rattle.wad.specs.declared.lumps.Entry.the-variants.{At}
-use Rattle.directory.specs.Header.{headOf, entryCount}
-use Rattle.directory.specs.Entries.{directoryOf, fileCheck}
+use Rattle.wad.specs.Header.{headOf, entryCount}
+use Rattle.wad.specs.Entries.{directoryOf, fileCheck}
 use Rattle.wad.specs.Lump.{entryOffset, entrySize}
-use Rattle.directory.proofs.Listing.{file-header}
-use Rattle.pair.proofs.Searching.{known-in}
+use Rattle.wad.proofs.Listing.{file-header}
+use Rattle.pair.proofs.Entries.{known-in}
 use Rattle.pair.proofs.Answering.{entry-is}
 use Rattle.pair.proofs.find.Statement.{statement}
 use Rattle.pair.proofs.find.Tie as tie

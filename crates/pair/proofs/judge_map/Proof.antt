@@ -4,7 +4,7 @@ use borrow.Author.Needs.{needs}
 use Rattle.refusal.specs.declared.Refusal.the-variants.{MapName}
 use Rattle.refusal.specs.Checks.{unless}
 use Rattle.name.specs.Names.{mapNameOk}
-use Rattle.pair.proofs.Searching.{known-in}
+use Rattle.pair.proofs.Entries.{known-in}
 use Rattle.pair.proofs.Answering.{pair-refused, pair-judged}
 use Rattle.pair.proofs.judge_map.Statement.{statement}
 use Rattle.pair.proofs.judge_map.Tie as tie

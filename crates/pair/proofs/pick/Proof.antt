@@ -4,9 +4,9 @@ use mathlib.Core.List.{List}
 use mathlib.Core.Path.{sym, ap, _∙_}
 use borrow.Author.Needs.{needs}
 use denote.Ref.{now}
-use Rattle.directory.specs.Slices.{partIf}
+use Rattle.wad.specs.Slices.{partIf}
 use Rattle.wad.specs.Lump.{partOf}
-use Rattle.pair_search.specs.Search.{fileOf}
+use Rattle.pair.specs.Search.{fileOf}
 use Rattle.pair.specs.Answers.{partBy}
 use Rattle.pair.proofs.pick.Statement.{statement}
 use Rattle.pair.proofs.pick.Tie as tie

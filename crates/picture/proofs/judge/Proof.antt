@@ -11,7 +11,7 @@ use Rattle.picture_header.specs.declared.Picture.{Picture}
 use Rattle.picture.specs.declared.PictureVerdict.the-variants.{Accepted}
 use Rattle.picture_header.specs.Layout.{tableEnd}
 use Rattle.picture_header.specs.Headers.{pictureHeaderCheck}
-use Rattle.picture.specs.Judging.{columnsCheck, columnCheck, answerOf}
+use Rattle.picture.specs.Judging.{columnsCheck, columnCheck, pictureAnswer}
 use Rattle.picture_header.proofs.Checks.{Header, header-of}
 use native.Mathlib.Omega.{arith}
 use borrow.Author.Needs.{needs}
@@ -21,7 +21,7 @@ use Rattle.picture.proofs.judge.Tie as tie
 returns : tie.Need-returns
 returns c =
     let l = now (c .before .before .before .before .before .args .lump) in
-    ap (λ (k : Check). answerOf k l) (refused-then (columnsCheck l) (sym (c .before .before .before .judge-header .ensures) ∙ c .before .r .given .1))
+    ap (λ (k : Check). pictureAnswer k l) (refused-then (columnsCheck l) (sym (c .before .before .before .judge-header .ensures) ∙ c .before .r .given .1))
 
 -- the header has passed
 passed : (c : tie.After-enum-told) → pictureHeaderCheck (now (c .before .before .before .before .args .lump)) ≡ Pass
@@ -50,14 +50,14 @@ returns-2 : tie.Need-returns-2
 returns-2 c =
     let asked = c .before .before .before in
     let l = now (asked .before .before .before .before .before .before .args .lump) in
-    ap (λ (k : Check). answerOf k l) (pass-then (passed (asked .before .before)) (sym (c .before .r2 .given .1) ∙ columns asked))
+    ap (λ (k : Check). pictureAnswer k l) (pass-then (passed (asked .before .before)) (sym (c .before .r2 .given .1) ∙ columns asked))
 
 returns-3 : tie.Need-returns-3
 returns-3 c =
     let asked = c .before .before in
     let l = now (asked .before .before .before .before .before .before .args .lump) in
     ap Accepted (asked .before .picture-of .ensures)
-    ∙ ap (λ (k : Check). answerOf k l) (pass-then (passed (asked .before .before)) (sym (c .enum-told2 .given .1) ∙ columns asked))
+    ∙ ap (λ (k : Check). pictureAnswer k l) (pass-then (passed (asked .before .before)) (sym (c .enum-told2 .given .1) ∙ columns asked))
 
 pub judge-spec : {M : Type 1} → statement M
 judge-spec =

@@ -1,7 +1,7 @@
 -- `renumber::renumber` meets its contract, by the search for the marker. Assumes nothing.
 use mathlib.Core.Path.{sym, _∙_}
 use denote.Ref.{now}
-use Rattle.level.proofs.Answers.{marker-known}
+use Rattle.map_check.proofs.Answers.{marker-known}
 use Rattle.renumber.proofs.Verdicts.{renumbers-nowhere, renumbers-at}
 use borrow.Author.Needs.{needs}
 use Rattle.renumber.proofs.renumber.Statement.{statement}

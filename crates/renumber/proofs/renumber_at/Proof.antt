@@ -7,18 +7,18 @@ use denote.Ref.{now}
 use lib.ListN.{length}
 use Rattle.refusal.specs.declared.Check.the-variants.{Pass}
 use Rattle.refusal.proofs.Checks.{andThen-pass}
-use Rattle.directory.specs.Header.{headOf, entryCount}
-use Rattle.directory.specs.Entries.{directoryOf}
-use Rattle.directory.proofs.Listing.{file-header}
-use Rattle.table.specs.Lumps.{NODES}
+use Rattle.wad.specs.Header.{headOf, entryCount}
+use Rattle.wad.specs.Entries.{directoryOf}
+use Rattle.wad.proofs.Listing.{file-header}
+use Rattle.record_table.specs.Lumps.{NODES}
 use Rattle.node.specs.Nodes.{nodesOf}
-use Rattle.graph.specs.Judging.{Judgeable, cleared}
-use Rattle.lump.specs.Lumps.{mapLumps, mapLump}
-use Rattle.run.specs.Run.{runCheck}
-use Rattle.run.specs.Games.{gameAt}
-use Rattle.lumps_check.specs.Lumps.{lumpsCheck}
-use Rattle.level.specs.Verdict.{mapCheck, checkAt, nodesAt}
-use Rattle.level.proofs.Passing.{run-long, judgeable}
+use Rattle.node_graph.specs.Judging.{Judgeable, cleared}
+use Rattle.map_lumps.specs.Lumps.{mapLumps, mapLump}
+use Rattle.map_lumps.specs.Run.{runCheck}
+use Rattle.map_lumps.specs.Games.{gameAt}
+use Rattle.map_check.specs.Lumps.{lumpsCheck}
+use Rattle.map_check.specs.Verdict.{mapCheck, checkAt, nodesAt}
+use Rattle.map_check.proofs.Passing.{run-long, judgeable}
 use Rattle.renumber.specs.Inner.{NodesRenumbered}
 use Rattle.renumber.proofs.Verdicts.{at-refused, at-nodes}
 use borrow.Author.Needs.{needs}

@@ -6,8 +6,8 @@ use borrow.Author.Needs.{needs}
 use denote.Ref.{now}
 use lib.Seq.{length-take-le}
 use Rattle.node.specs.Nodes.{nodesOf}
-use Rattle.graph.specs.Judging.{cleared}
-use Rattle.graph.proofs.Words.{cleared-front}
+use Rattle.node_graph.specs.Judging.{cleared}
+use Rattle.node_graph.proofs.Words.{cleared-front}
 use Rattle.renumber.proofs.Outcomes.{renumbered-none}
 use Rattle.renumber.proofs.renumber_nodes.Statement.{statement}
 use Rattle.renumber.proofs.renumber_nodes.Tie as tie

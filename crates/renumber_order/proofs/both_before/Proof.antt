@@ -7,7 +7,7 @@ use denote.Ref.{now}
 use lib.ListN.{length}
 use Rattle.node.specs.declared.Choice.the-variants.{Right, Left}
 use Rattle.node.specs.Nodes.{subsectorBit}
-use Rattle.renumber_order.specs.Inner.{beforeOk}
+use Rattle.renumber_order.specs.Judging.{beforeOk}
 use Rattle.renumber_order.proofs.both_before.Statement.{statement}
 use Rattle.renumber_order.proofs.both_before.Tie as tie
 

@@ -2,9 +2,9 @@
 use mathlib.Core.Path.{_≡_, sym, _∙_}
 use borrow.Author.Needs.{needs}
 use denote.Ref.{now}
-use Rattle.route.specs.Heights.{graphVerdict}
-use Rattle.route.specs.declared.Graph.{Graph}
-use Rattle.graph.proofs.Sharing.{answers-shared, answers-depth}
+use Rattle.node_route.specs.Heights.{graphVerdict}
+use Rattle.node_route.specs.declared.Graph.{Graph}
+use Rattle.node_graph.proofs.Sharing.{answers-shared, answers-depth}
 use Rattle.renumber_order.proofs.Marking.{marks-explored}
 use Rattle.renumber_order.proofs.Outcomes.{judged-shared, judged-order}
 use Rattle.renumber_order.proofs.judge_explored.Statement.{statement}

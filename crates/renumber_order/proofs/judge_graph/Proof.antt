@@ -2,9 +2,9 @@
 use mathlib.Core.Path.{subst}
 use borrow.Author.Needs.{needs}
 use denote.Ref.{now}
-use Rattle.graph.specs.declared.Search.{Search}
-use Rattle.graph.specs.Inner.Searching.{Searched}
-use Rattle.graph.proofs.Words.{searchable-long}
+use Rattle.node_graph.specs.declared.Search.{Search}
+use Rattle.node_graph.specs.Searching.{Searched}
+use Rattle.node_graph.proofs.Words.{searchable-long}
 use Rattle.renumber_order.proofs.Outcomes.{judged-loop}
 use Rattle.renumber_order.proofs.judge_graph.Statement.{statement}
 use Rattle.renumber_order.proofs.judge_graph.Tie as tie

@@ -6,7 +6,7 @@ use borrow.Author.Needs.{needs}
 use borrow.Author.Tests.{not-true, not-false}
 use denote.Ref.{now}
 use lib.ListN.{length}
-use Rattle.renumber_places.specs.Inner.{markedBelow, Filled}
+use Rattle.renumber_order.specs.Places.{markedBelow, Filled}
 use Rattle.renumber_order.proofs.Outcomes.{judged-length, order-few, held-none, judged-nodes, ordered-filled, judged-late}
 use Rattle.renumber_order.proofs.judge_order.Statement.{statement}
 use Rattle.renumber_order.proofs.judge_order.Tie as tie

@@ -3,9 +3,9 @@ use mathlib.Core.Path.{_∙_, sym}
 use borrow.Author.Needs.{needs}
 use denote.Ref.{now}
 use lib.ListN.{length}
-use Rattle.text_field.specs.Names.{every}
+use Rattle.text_table.specs.Names.{every}
 use Rattle.text_table.specs.Table.{fieldsOf}
-use Rattle.text_table.specs.Inner.{requiredAt}
+use Rattle.text_table.specs.Rows.{requiredAt}
 use Rattle.text_table.proofs.Table.{required-at, count-fields}
 use Rattle.text_block.specs.Blocks.{isGiven}
 use Rattle.text_block.proofs.all_given.Statement.{statement}

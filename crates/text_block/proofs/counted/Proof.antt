@@ -3,7 +3,7 @@ use Prim.Native.Nat.{_<_}
 use mathlib.Core.Path.{_≡_, subst}
 use native.Mathlib.Omega.{arith}
 use borrow.Author.Needs.{needs}
-use Rattle.text_scope.specs.declared.Scope.{Scope}
+use Rattle.text_table.specs.declared.scope.Scope.{Scope}
 use Rattle.text_block.proofs.Room.{isFull-few}
 use Rattle.text_block.specs.Blocks.{countOf}
 use Rattle.text_block.proofs.counted.Statement.{statement}

@@ -7,9 +7,9 @@ use borrow.Author.Needs.{needs}
 use denote.Ref.{now}
 use lib.Dec.{eqb}
 use lib.ListN.{getD}
-use Rattle.text_field.proofs.Names.{every-none, every-more, every-stop, every-done}
-use Rattle.text_field.specs.Names.{every}
-use Rattle.text_table.specs.Inner.{requiredAt}
+use Rattle.text_table.proofs.Names.{every-none, every-more, every-stop, every-done}
+use Rattle.text_table.specs.Names.{every}
+use Rattle.text_table.specs.Rows.{requiredAt}
 use Rattle.text_block.specs.Blocks.{isGiven}
 use Rattle.text_block.proofs.given_in.Statement.{statement}
 use Rattle.text_block.proofs.given_in.Tie as tie

@@ -4,7 +4,7 @@ use borrow.Author.Needs.{needs}
 use borrow.Author.Tests.{eqb-true}
 use lib.Dec.{eqb}
 use Rattle.text_byte.specs.Bytes.{semicolon}
-use Rattle.text_byte.specs.Inner.{stopsWord}
+use Rattle.text_byte.specs.WordBytes.{stopsWord}
 use Rattle.text_byte.proofs.Bytes.{either}
 use Rattle.text_byte.proofs.stops_word.Statement.{statement}
 use Rattle.text_byte.proofs.stops_word.Tie as tie

@@ -6,7 +6,7 @@ use borrow.Author.Needs.{needs}
 use borrow.Author.Tests.{not-true, not-false}
 use lib.ListN.{length}
 use Rattle.text_byte.specs.Spans.{spanEnd}
-use Rattle.text_gap.specs.Inner.{blankAt}
+use Rattle.text_gap.specs.Passing.{blankAt}
 use Rattle.text_byte.proofs.Spans.{span-more, span-stop, span-done}
 use Rattle.text_gap.proofs.blank_end.Statement.{statement}
 use Rattle.text_gap.proofs.blank_end.Tie as tie

@@ -5,7 +5,7 @@ use mathlib.Core.Path.{_≡_, refl, sym, ap, _∙_}
 use borrow.Author.Needs.{needs}
 use borrow.Author.Tests.{eq-eqb, ne-eqb}
 use lib.ListN.{length}
-use Rattle.text_gap.specs.Inner.{otherEnd}
+use Rattle.text_gap.specs.Passing.{otherEnd}
 use Rattle.text_byte.proofs.Spans.{span-more, span-stop, span-done}
 use Rattle.text_gap.proofs.byte_end.Statement.{statement}
 use Rattle.text_gap.proofs.byte_end.Tie as tie

@@ -4,9 +4,9 @@ use mathlib.Core.Path.{_≡_, subst}
 use native.Mathlib.Omega.{arith}
 use borrow.Author.Needs.{needs}
 use denote.Ref.{now}
-use Rattle.text_byte.specs.Inner.{Unseen}
+use Rattle.text_byte.specs.WordBytes.{Unseen}
 use Rattle.text_byte.proofs.Spans.{unseen-none, unseen-more}
-use Rattle.text_gap.specs.Inner.{byteIs}
+use Rattle.text_gap.specs.Passing.{byteIs}
 use Rattle.text_gap.proofs.has_byte.Statement.{statement}
 use Rattle.text_gap.proofs.has_byte.Tie as tie
 

@@ -7,7 +7,7 @@ use borrow.Author.Needs.{needs}
 use denote.Ref.{now}
 use lib.ListN.{length}
 use Rattle.text_byte.proofs.Spans.{span-more, unseen-over}
-use Rattle.text_gap.specs.Inner.{byteIs, otherAt, otherEnd}
+use Rattle.text_gap.specs.Passing.{byteIs, otherAt, otherEnd}
 use Rattle.text_gap.proofs.other_blocks.Statement.{statement}
 use Rattle.text_gap.proofs.other_blocks.Tie as tie
 

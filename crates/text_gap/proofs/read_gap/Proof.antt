@@ -11,7 +11,7 @@ use lib.ListN.{length}
 use Rattle.text_gap.specs.declared.Mode.{Mode}
 use Rattle.text_gap.specs.declared.Mode.the-variants.{Between}
 use Rattle.text_gap.specs.Gaps.{gapFrom}
-use Rattle.text_gap.specs.Inner.{blankAt}
+use Rattle.text_gap.specs.Passing.{blankAt}
 use Rattle.text_byte.proofs.Spans.{span-reach}
 use Rattle.text_gap.proofs.Scans.{gap-done}
 use Rattle.text_gap.proofs.GapRuns.{between-is, blanks-same}

@@ -6,8 +6,8 @@ use borrow.Author.Needs.{needs}
 use borrow.Author.Tests.{eq-eqb, ne-eqb}
 use denote.Ref.{now}
 use lib.Dec.{eqb}
-use Rattle.text_table.specs.Inner.{rowsOf}
-use Rattle.text_field.specs.Names.{fieldNamed}
+use Rattle.text_table.specs.Rows.{rowsOf}
+use Rattle.text_table.specs.Names.{fieldNamed}
 use Rattle.text_block.specs.Blocks.{noPlaces}
 use Rattle.text_block.specs.declared.Wanted.the-variants.{Value}
 use Rattle.text_step.specs.declared.Parse.{Parse}

@@ -4,10 +4,10 @@ use mathlib.Core.Path.{sym, ap, _∙_, subst}
 use borrow.Author.Needs.{needs}
 use denote.Ref.{now}
 use lib.ListN.{take}
-use Rattle.text_scope.specs.declared.Scope.{Scope}
-use Rattle.text_scope.specs.Scopes.{rowCount}
-use Rattle.text_scope.proofs.Scopes.{number-tells}
-use Rattle.text_table.specs.Inner.{rowSize}
+use Rattle.text_table.specs.declared.scope.Scope.{Scope}
+use Rattle.text_table.specs.Scopes.{rowCount}
+use Rattle.text_table.proofs.Scopes.{number-tells}
+use Rattle.text_table.specs.Rows.{rowSize}
 use Rattle.text_table.proofs.Table.{take-loaded}
 use Rattle.text_reader.specs.Inner.{Loaded}
 use Rattle.text_reader.proofs.reload.Statement.{statement}

@@ -3,7 +3,7 @@
 use mathlib.Core.Path.{_≡_, refl, sym, ap, _∙_, subst}
 use borrow.Author.Needs.{needs}
 use denote.Ref.{now}
-use Rattle.text_table.specs.Inner.{rowsOf}
+use Rattle.text_table.specs.Rows.{rowsOf}
 use Rattle.text_step.specs.declared.Parse.{Parse}
 use Rattle.text_step.specs.Steps.{onStatement}
 use Rattle.text_reader.specs.Texts.{isMore}

@@ -3,10 +3,10 @@ use denote.Ref.{now}
 use mir.Syntax.{w32}
 use mir.ValLaws.{toZ-ofZ}
 use borrow.Author.Needs.{needs}
-use Rattle.text_given.proofs.Whole.{whole-by}
+use Rattle.text_record.proofs.Whole.{whole-by}
 use Rattle.text_table.specs.Table.{linedefFields}
-use Rattle.text_table.specs.Inner.{defaultAt}
-use Rattle.text_field.specs.Names.{every, nameIn}
+use Rattle.text_table.specs.Rows.{defaultAt}
+use Rattle.text_table.specs.Names.{every, nameIn}
 use Rattle.text_record.proofs.linedef_of.Statement.{statement}
 use Rattle.text_record.proofs.linedef_of.Tie as tie
 

@@ -1,8 +1,8 @@
 -- `text_record::sector_of` meets its contract: field by field, each as what it holds. Assumes nothing.
 use borrow.Author.Needs.{needs}
-use Rattle.text_given.proofs.Whole.{whole}
+use Rattle.text_record.proofs.Whole.{whole}
 use Rattle.text_table.specs.Table.{sectorFields}
-use Rattle.text_field.specs.Names.{every, nameIn}
+use Rattle.text_table.specs.Names.{every, nameIn}
 use Rattle.text_record.proofs.sector_of.Statement.{statement}
 use Rattle.text_record.proofs.sector_of.Tie as tie
 

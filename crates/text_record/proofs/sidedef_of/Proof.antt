@@ -1,8 +1,8 @@
 -- `text_record::sidedef_of` meets its contract: field by field, each as what it holds. Assumes nothing.
 use borrow.Author.Needs.{needs}
-use Rattle.text_given.proofs.Whole.{whole}
+use Rattle.text_record.proofs.Whole.{whole}
 use Rattle.text_table.specs.Table.{sidedefFields}
-use Rattle.text_field.specs.Names.{every, nameIn}
+use Rattle.text_table.specs.Names.{every, nameIn}
 use Rattle.text_record.proofs.sidedef_of.Statement.{statement}
 use Rattle.text_record.proofs.sidedef_of.Tie as tie
 

@@ -1,7 +1,7 @@
 -- `text_record::vertex_of` meets its contract: field by field, each as what it holds. Assumes nothing.
 use borrow.Author.Needs.{needs}
 use Rattle.text_table.specs.Table.{vertexFields}
-use Rattle.text_field.specs.Names.{every, nameIn}
+use Rattle.text_table.specs.Names.{every, nameIn}
 use Rattle.text_record.proofs.vertex_of.Statement.{statement}
 use Rattle.text_record.proofs.vertex_of.Tie as tie
 

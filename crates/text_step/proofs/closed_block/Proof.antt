@@ -2,7 +2,7 @@
 use mathlib.Core.Path.{sym, _∙_}
 use borrow.Author.Needs.{needs}
 use Rattle.refusal.specs.declared.Check.the-variants.{Pass}
-use Rattle.text_scope.specs.declared.Scope.the-variants.{Top}
+use Rattle.text_table.specs.declared.scope.Scope.the-variants.{Top}
 use Rattle.text_step.specs.Steps.{parse}
 use Rattle.text_step.proofs.closed_block.Statement.{statement}
 use Rattle.text_step.proofs.closed_block.Tie as tie

@@ -7,7 +7,7 @@ use borrow.Author.Needs.{needs}
 use borrow.Author.Tests.{eq-eqb, ne-eqb}
 use lib.ListN.{List·getD-eq-default}
 use Rattle.text_table.specs.Table.{fieldsOf}
-use Rattle.text_table.specs.Inner.{rowsOf, heldAt}
+use Rattle.text_table.specs.Rows.{rowsOf, heldAt}
 use Rattle.text_table.proofs.Table.{rows-most, held-at}
 use Rattle.text_step.proofs.held_by.Statement.{statement}
 use Rattle.text_step.proofs.held_by.Tie as tie

@@ -4,7 +4,7 @@ use mathlib.Core.Path.{_≡_, subst}
 use native.Mathlib.Omega.{arith}
 use borrow.Author.Needs.{needs}
 use denote.Ref.{now}
-use Rattle.text_byte.specs.Inner.{Unseen}
+use Rattle.text_byte.specs.WordBytes.{Unseen}
 use Rattle.text_byte.proofs.Spans.{unseen-none, unseen-more}
 use Rattle.text_token.specs.Inner.{endsRun}
 use Rattle.text_token.proofs.block_ends.Statement.{statement}

@@ -7,8 +7,8 @@ use lib.Ieee.{Float}
 use lib.ListN.{length}
 use Rattle.text_value.specs.declared.Value.the-variants.{Decimal}
 use Rattle.text_value.specs.declared.Reading.the-variants.{Good}
-use Rattle.text_number.specs.Numbers.{digitsFrom, quotient}
-use Rattle.text_number.proofs.Numbers.{cap, fits-true, fifteen-capped}
+use Rattle.text_value.specs.Numbers.{digitsFrom, quotient}
+use Rattle.text_value.proofs.Numbers.{cap, fits-true, fifteen-capped}
 use borrow.Author.Needs.{needs}
 use borrow.Author.Tests.{eq-eqb, ne-eqb}
 use Rattle.text_value.proofs.decimal_read.Statement.{statement}

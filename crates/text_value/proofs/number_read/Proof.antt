@@ -5,8 +5,8 @@ use mathlib.Core.List.{List}
 use mathlib.Core.Path.{_≡_, sym, ap, _∙_}
 use denote.Ref.{now}
 use lib.Dec.{eqb}
-use Rattle.text_number.specs.Numbers.{minusSign, behindSign, digitsEnd}
-use Rattle.text_number.proofs.Numbers.{isPoint-true}
+use Rattle.text_value.specs.Numbers.{minusSign, behindSign, digitsEnd}
+use Rattle.text_value.proofs.Numbers.{isPoint-true}
 use Rattle.text_value.specs.Values.{digitsRead, numberRead}
 use Rattle.text_value.proofs.Forms.{whole-form, point-form, no-form}
 use borrow.Author.Needs.{needs}

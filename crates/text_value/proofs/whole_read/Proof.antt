@@ -7,7 +7,7 @@ use mir.Syntax.{w32}
 use mir.ValLaws.{toZ-ofZ}
 use Rattle.text_value.specs.declared.Value.the-variants.{Whole}
 use Rattle.text_value.specs.declared.Reading.the-variants.{Good}
-use Rattle.text_number.specs.Numbers.{mostOf}
+use Rattle.text_value.specs.Numbers.{mostOf}
 use borrow.Author.Needs.{needs}
 use Rattle.text_value.proofs.whole_read.Statement.{statement}
 use Rattle.text_value.proofs.whole_read.Tie as tie

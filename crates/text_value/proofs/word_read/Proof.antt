@@ -1,7 +1,7 @@
 -- `text_value::word_read` meets its contract. Assumes nothing.
 use mathlib.Core.Path.{sym, _∙_}
 use denote.Ref.{now}
-use Rattle.text_number.proofs.Numbers.{hexOk-is}
+use Rattle.text_value.proofs.Numbers.{hexOk-is}
 use Rattle.text_value.proofs.Forms.{hex-form}
 use borrow.Author.Needs.{needs}
 use Rattle.text_value.proofs.word_read.Statement.{statement}

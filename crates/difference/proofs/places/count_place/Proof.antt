@@ -3,8 +3,8 @@ use Prim.Native.Nat.{ℕ, _<_}
 use mathlib.Core.Path.{sym, _∙_, subst}
 use borrow.Author.Needs.{needs}
 use lib.ListN.{length}
-use Rattle.lump.proofs.Places.{recordSize-positive}
-use Rattle.change.specs.Records.{changes}
+use Rattle.map_lumps.proofs.Places.{recordSize-positive}
+use Rattle.difference.specs.Records.{changes}
 use Rattle.difference.proofs.places.count_place.Statement.{statement}
 use Rattle.difference.proofs.places.count_place.Tie as tie
 

@@ -4,8 +4,8 @@ use mathlib.Core.List.{List}
 use mathlib.Core.Path.{ap, _∙_}
 use borrow.Author.Needs.{needs}
 use denote.Ref.{now}
-use Rattle.directory.proofs.Listing.{file-header}
-use Rattle.lump.specs.Lumps.{mapLumps, mapLump}
+use Rattle.wad.proofs.Listing.{file-header}
+use Rattle.map_lumps.specs.Lumps.{mapLumps, mapLump}
 use Rattle.difference.proofs.places.lump_in.Statement.{statement}
 use Rattle.difference.proofs.places.lump_in.Tie as tie
 

@@ -10,7 +10,7 @@ use lib.Seq.{sets, length-sets}
 use Rattle.layout.specs.Rows.{laidOut}
 use Rattle.layout.proofs.LaidOut.{laid-none, length-laid-le}
 use Rattle.difference.specs.Differences.{lumpsIn, changesAt}
-use Rattle.change.proofs.Laying.{stores-none, length-more, stores-more}
+use Rattle.difference.proofs.Laying.{stores-none, length-more, stores-more}
 use Rattle.difference.proofs.places.write_all.Statement.{statement}
 use Rattle.difference.proofs.places.write_all.Tie as tie
 

@@ -6,8 +6,8 @@ use borrow.Author.Needs.{needs}
 use denote.Ref.{now}
 use lib.ListN.{length}
 use lib.Seq.{sets}
-use Rattle.lump.proofs.Places.{recordSize-positive}
-use Rattle.change.specs.Records.{countIn, changes}
+use Rattle.map_lumps.proofs.Places.{recordSize-positive}
+use Rattle.difference.specs.Records.{countIn, changes}
 use Rattle.difference.specs.Differences.{lumpsIn, changesAt}
 use Rattle.difference.proofs.places.write_place.Statement.{statement}
 use Rattle.difference.proofs.places.write_place.Tie as tie

@@ -7,9 +7,9 @@ use lib.ListN.{length}
 use lib.Seq.{length-take-le}
 use mir.Syntax.{w32}
 use mir.ValLaws.{toZ-ofZ}
-use Rattle.text_scope.specs.declared.Scope.the-variants.{Linedef}
+use Rattle.text_table.specs.declared.scope.Scope.the-variants.{Linedef}
 use Rattle.text_table.proofs.Table.{length-rows}
-use Rattle.text_record.specs.Records.{linedefOf}
+use Rattle.text_record.specs.Records.{textLinedefOf}
 use Rattle.export_texts.proofs.Lent.{lent-rows}
 use Rattle.export_texts.proofs.records.linedef_by.Statement.{statement}
 use Rattle.export_texts.proofs.records.linedef_by.Tie as tie
@@ -28,7 +28,7 @@ returns c =
     let l = ap length (rows .ensures) ∙ length-rows Linedef in
     let lent = lent-rows Linedef (rows .result) 612 (c .before .before .before .size-by .result) (a .f .check) (rows .ensures) (omega (arith, l)) (c .before .before .before .size-by .ensures .0) in
     let id = toZ-ofZ w32 (a .id) (s .fits .id) in
-    let read = c .linedef-of .ensures ∙ (λ i. linedefOf (now (a .text)) (now (a .places)) (lent i) (id i)) in
+    let read = c .linedef-of .ensures ∙ (λ i. textLinedefOf (now (a .text)) (now (a .places)) (lent i) (id i)) in
     λ i. record { status = c .before .before .status-of .ensures i; linedef = read i; next = a .f .next }
 
 pub linedef-by-spec : {M : Type 1} → statement M

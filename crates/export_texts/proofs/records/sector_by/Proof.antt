@@ -5,9 +5,9 @@ use borrow.Author.Needs.{needs}
 use denote.Ref.{now}
 use lib.ListN.{length}
 use lib.Seq.{length-take-le}
-use Rattle.text_scope.specs.declared.Scope.the-variants.{Sector}
+use Rattle.text_table.specs.declared.scope.Scope.the-variants.{Sector}
 use Rattle.text_table.proofs.Table.{length-rows}
-use Rattle.text_record.specs.Records.{sectorOf}
+use Rattle.text_record.specs.Records.{textSectorOf}
 use Rattle.export_texts.proofs.Lent.{lent-rows}
 use Rattle.export_texts.proofs.records.sector_by.Statement.{statement}
 use Rattle.export_texts.proofs.records.sector_by.Tie as tie
@@ -24,7 +24,7 @@ returns c =
     let rows = c .before .before .before .before .sector in
     let l = ap length (rows .ensures) ∙ length-rows Sector in
     let lent = lent-rows Sector (rows .result) 144 (c .before .before .before .size-by .result) (a .f .check) (rows .ensures) (omega (arith, l)) (c .before .before .before .size-by .ensures .0) in
-    let read = c .sector-of .ensures ∙ ap (sectorOf (now (a .text)) (now (a .places))) lent in
+    let read = c .sector-of .ensures ∙ ap (textSectorOf (now (a .text)) (now (a .places))) lent in
     λ i. record { status = c .before .before .status-of .ensures i; sector = read i; next = a .f .next }
 
 pub sector-by-spec : {M : Type 1} → statement M

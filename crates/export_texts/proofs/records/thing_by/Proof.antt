@@ -5,9 +5,9 @@ use borrow.Author.Needs.{needs}
 use denote.Ref.{now}
 use lib.ListN.{length}
 use lib.Seq.{length-take-le}
-use Rattle.text_scope.specs.declared.Scope.the-variants.{Thing}
+use Rattle.text_table.specs.declared.scope.Scope.the-variants.{Thing}
 use Rattle.text_table.proofs.Table.{length-rows}
-use Rattle.text_record.specs.Records.{thingOf}
+use Rattle.text_record.specs.Records.{textThingOf}
 use Rattle.export_texts.proofs.Lent.{lent-rows}
 use Rattle.export_texts.proofs.records.thing_by.Statement.{statement}
 use Rattle.export_texts.proofs.records.thing_by.Tie as tie
@@ -24,7 +24,7 @@ returns c =
     let rows = c .before .before .before .before .thing in
     let l = ap length (rows .ensures) ∙ length-rows Thing in
     let lent = lent-rows Thing (rows .result) 558 (c .before .before .before .size-by .result) (a .f .check) (rows .ensures) (omega (arith, l)) (c .before .before .before .size-by .ensures .0) in
-    let read = c .thing-of .ensures ∙ ap (thingOf (now (a .text)) (now (a .places))) lent in
+    let read = c .thing-of .ensures ∙ ap (textThingOf (now (a .text)) (now (a .places))) lent in
     λ i. record { status = c .before .before .status-of .ensures i; thing = read i; next = a .f .next }
 
 pub thing-by-spec : {M : Type 1} → statement M

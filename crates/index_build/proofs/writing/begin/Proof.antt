@@ -8,8 +8,8 @@ use denote.Ref.{now}
 use lib.ListN.{length}
 use Rattle.refusal.specs.declared.Check.{Check}
 use Rattle.refusal.specs.declared.Check.the-variants.{Pass}
-use Rattle.directory.specs.Header.{headOf, entryCount}
-use Rattle.index.specs.Index.{recordPlace}
+use Rattle.wad.specs.Header.{headOf, entryCount}
+use Rattle.index.specs.Index.{recordOffset}
 use Rattle.index_build.specs.declared.Building.the-variants.{Written}
 use Rattle.index_build.specs.Building.{buildCheck, buildingOf}
 use Rattle.index_build.specs.Inner.{begun}
@@ -40,7 +40,7 @@ returns : tie.Need-returns
 returns c =
     let a = c .before .before .before .before .before .before .args in
     let told = sym (c .before .before .before .judge .ensures) ∙ c .before .r .given .1 in
-    let count = recordPlace (entryCount (headOf (now (a .wad)))) in (
+    let count = recordOffset (entryCount (headOf (now (a .wad)))) in (
       sym (ap (λ (k : Check). buildingOf k count) told),
       sym (ap (λ (k : Check). begun k (now (a .wad)) (now (a .out))) told),
     )
@@ -50,7 +50,7 @@ returns-2 c =
     let headed = c .before .before .before in
     let told = headed .before .before in
     let a = told .before .before .before .before .before .args in
-    let count = recordPlace (entryCount (headOf (now (a .wad)))) in (
+    let count = recordOffset (entryCount (headOf (now (a .wad)))) in (
       ap (λ (n : ℕ). Written (11 + 10 * n)) (c .entry-count .ensures) ∙ sym (ap (λ (k : Check). buildingOf k count) (check told)),
       headed .put-head .ensures ∙ sym (ap (λ (k : Check). begun k (now (a .wad)) (now (a .out))) (check told)),
     )

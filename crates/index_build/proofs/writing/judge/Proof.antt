@@ -10,9 +10,9 @@ use Rattle.refusal.specs.declared.Check.the-variants.{Pass}
 use Rattle.refusal.specs.declared.Refusal.the-variants.{IndexRoom}
 use Rattle.refusal.specs.Checks.{unless}
 use Rattle.refusal.proofs.Checks.{refused-then, pass-then}
-use Rattle.directory.specs.Entries.{fileCheck}
-use Rattle.directory.proofs.Listing.{file-header, file-sound}
-use Rattle.index.specs.Index.{recordPlace}
+use Rattle.wad.specs.Entries.{fileCheck}
+use Rattle.wad.proofs.Listing.{file-header, file-sound}
+use Rattle.index.specs.Index.{recordOffset}
 use Rattle.index_build.proofs.writing.judge.Statement.{statement}
 use Rattle.index_build.proofs.writing.judge.Tie as tie
 
@@ -35,7 +35,7 @@ returns-2 c =
     let a = c .before .before .before .before .before .before .args in
     pass-then (passes (c .before .before))
     (c .pass-if .ensures
-    ∙ ap (λ (n : ℕ). unless (leb n (a .records) && leb (recordPlace n) (a .room)) IndexRoom) (c .before .entry-count .ensures))
+    ∙ ap (λ (n : ℕ). unless (leb n (a .records) && leb (recordOffset n) (a .room)) IndexRoom) (c .before .entry-count .ensures))
 
 pub judge-spec : {M : Type 1} → statement M
 judge-spec =

@@ -4,7 +4,7 @@ use native.Mathlib.Omega.{arith}
 use lib.ListN.{length, length-set}
 use borrow.Author.Needs.{needs}
 use denote.Ref.{now}
-use Rattle.directory.proofs.Listing.{file-header, file-sound}
+use Rattle.wad.proofs.Listing.{file-header, file-sound}
 use Rattle.index_build.proofs.writing.put_head.Statement.{statement}
 use Rattle.index_build.proofs.writing.put_head.Tie as tie
 

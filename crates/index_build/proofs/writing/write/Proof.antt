@@ -47,7 +47,7 @@ use denote.Triple.Table.{entered, cited}
 use denote.Triple.Walked.{says, needs, Stays, stay-slice, stay-none, stay-none-slice, walkOf, goes-slice, goes-none, goes-none-slice, Walks, ends-at, walked, walk-meets}
 use denote.Exit.{yes}
 use Rattle.index.specs.Records.{noRecord}
-use Rattle.index.specs.Index.{recordPlace, indexRecordSize, indexHeadSize}
+use Rattle.index.specs.Index.{recordOffset, indexRecordSize, indexHeadSize}
 use Rattle.index_build.specs.Inner.{putRecord, written}
 use Rattle.index.specs.declared.IndexRecord.{IndexRecord}
 use Rattle.index.proofs.IndexRecord as T
@@ -86,7 +86,7 @@ module _ {M : Type 1} (𝓤 : URA M) (H : Heap 𝓤) (A : Atoms 𝓤) (W : Given
   abbrev Back : ℕ → RefT (List ℕ) → List ℕ → Val → SProp 𝓤
   Back ν d l w = sep 𝓤 (A .lft (ν ∷ []) fullShare) (sep 𝓤 (sem 𝓤 H A (finally u8 (d .name) l)) (fact 𝓤 ((w ≡ vunit) × (length l ≡ length (d .now)))))
 
-  put-runs : (ν : ℕ) (d : RefT (List ℕ)) (s : Val) (at : ℕ) (r : IndexRecord) (v : Val) → at < 2 ^ 64 → Is R r (v ∷ []) → recordPlace at + 10 ≤ length (d .now) → Triple 𝓤 (𝓣 .C #put-record) PutRecord
+  put-runs : (ν : ℕ) (d : RefT (List ℕ)) (s : Val) (at : ℕ) (r : IndexRecord) (v : Val) → at < 2 ^ 64 → Is R r (v ∷ []) → recordOffset at + 10 ≤ length (d .now) → Triple 𝓤 (𝓣 .C #put-record) PutRecord
       → ent 𝓤 (sep 𝓤 (A .lft (ν ∷ []) fullShare) (sem 𝓤 H A (MutSlice (named 0) (ν ∷ []) u8 .own d (s ∷ []))))
       (𝓣 .C #put-record (s ∷ vint w64 at ∷ v ∷ []) (λ w. H .⇛ (Back ν d (putRecord (d .now) at r) w)))
   put-runs ν d s at r v at-fits v-is within known =
@@ -196,7 +196,7 @@ module _ {M : Type 1} (𝓤 : URA M) (H : Heap 𝓤) (A : Atoms 𝓤) (W : Given
           let here : z .i < length rs = omega (arith, less, in-rs) in
           let fits : z .i * 10 < 2 ^ 64 = offset-fits (rs-room .1) here in
           let i-fits : z .i < 2 ^ 64 = omega (arith, less, n-fits) in
-          let in-zs : recordPlace (z .i) + 10 ≤ length (z .zs) = omega (arith, less, in-out, z .long) in
+          let in-zs : recordOffset (z .i) + 10 ≤ length (z .zs) = omega (arith, less, in-out, z .long) in
           let e : IndexRecord = getD rs (z .i) noRecord in
           let zs′ : List ℕ = putRecord (z .zs) (z .i) e in
           assigns ! (addr ! (from ! (fld ! refl (hop ! (look-in ! 21 (sub ! 0 refl (whole !))) (stop !))))) (from ! (stop !)) (init ! 13 refl (tt, tt)) $

@@ -3,20 +3,20 @@ use borrow.Author.Needs.{needs}
 use borrow.Author.Tests.{le-leb, lt-leb}
 use denote.Ref.{now}
 use lib.ListN.{length}
-use Rattle.index.specs.Index.{recordPlace}
+use Rattle.index.specs.Index.{recordOffset}
 use Rattle.index_check.proofs.head.head_ok.Statement.{statement}
 use Rattle.index_check.proofs.head.head_ok.Tie as tie
 
 returns : tie.Need-returns
 returns c =
     let a = c .before .before .before .args in
-    rw (lt-leb (recordPlace (a .count)) (length (now (a .index))) (search needs))
+    rw (lt-leb (recordOffset (a .count)) (length (now (a .index))) (search needs))
 
 returns-2 : tie.Need-returns-2
 returns-2 c =
     let a = c .before .before .before .before .before .before .before .before .args in
     rw (
-      le-leb (recordPlace (a .count)) (length (now (a .index))) (search needs),
+      le-leb (recordOffset (a .count)) (length (now (a .index))) (search needs),
       c .u32-at .ensures,
       c .before .u16-at .ensures,
       c .before .before .same-bytes .ensures,

@@ -5,15 +5,15 @@ use borrow.Author.Needs.{needs}
 use borrow.Author.Tests.{le-ltb, lt-ltb}
 use denote.Ref.{now}
 use Rattle.endian.specs.Unsigned.{u16At}
-use Rattle.index.specs.Index.{recordPlace}
+use Rattle.index.specs.Index.{recordOffset}
 use Rattle.index_check.proofs.records.of_entry.Statement.{statement}
 use Rattle.index_check.proofs.records.of_entry.Tie as tie
 
 -- the number that is read
 reads : (c : tie.After-u16-at)
-    → c .u16-at .result ≡ u16At (now (c .before .before .before .before .args .index)) (recordPlace (c .before .before .before .before .args .i) + 8)
+    → c .u16-at .result ≡ u16At (now (c .before .before .before .before .args .index)) (recordOffset (c .before .before .before .before .args .i) + 8)
 reads c =
-    c .u16-at .ensures ∙ ap (λ (at : ℕ). u16At (now (c .before .before .before .before .args .index)) (at + 8)) (c .before .record-place .ensures)
+    c .u16-at .ensures ∙ ap (λ (at : ℕ). u16At (now (c .before .before .before .before .args .index)) (at + 8)) (c .before .record-offset .ensures)
 
 returns : tie.Need-returns
 returns c =
@@ -32,7 +32,7 @@ returns-2 c =
       c .before .before .part2 .ensures .0,
       c .before .before .before .padded .ensures,
       c .before .before .before .before .part .ensures .0,
-      t .before .record-place .ensures,
+      t .before .record-offset .ensures,
     )
 
 pub of-entry-spec : {M : Type 1} → statement M

@@ -4,8 +4,8 @@ use mathlib.Core.Path.{ap, _∙_}
 use borrow.Author.Needs.{needs}
 use denote.Ref.{now}
 use Rattle.endian.specs.Unsigned.{u16At}
-use Rattle.field.specs.Fields.{nameAt}
-use Rattle.index.specs.Index.{recordPlace}
+use Rattle.record_field.specs.Fields.{nameAt}
+use Rattle.index.specs.Index.{recordOffset}
 use Rattle.index_check.proofs.Reading.{name-part}
 use Rattle.index_check.proofs.records.record_in.Statement.{statement}
 use Rattle.index_check.proofs.records.record_in.Tie as tie
@@ -13,8 +13,8 @@ use Rattle.index_check.proofs.records.record_in.Tie as tie
 returns : tie.Need-returns
 returns c =
     let a = c .before .before .before .before .args in
-    let place = c .before .before .record-place .ensures in
-    let name = c .before .name-at .ensures ∙ ap (nameAt (now (a .index))) place ∙ name-part (now (a .index)) (recordPlace (a .i)) (search needs) in
+    let place = c .before .before .record-offset .ensures in
+    let name = c .before .name-at .ensures ∙ ap (nameAt (now (a .index))) place ∙ name-part (now (a .index)) (recordOffset (a .i)) (search needs) in
     let number = c .u16-at .ensures ∙ ap (λ (at : ℕ). u16At (now (a .index)) (at + 8)) place in
     λ i. record { name = name i; number = number i }
 

@@ -6,7 +6,7 @@ use borrow.Author.Needs.{needs}
 use lib.ListN.{length}
 use Rattle.refusal.proofs.Scans.{Scanned, scanned-none, scanned-more, scanned-stop, scanned-done}
 use Rattle.picture.specs.Judging.{columnCheck}
-use Rattle.posts.specs.Inner.{Notes}
+use Rattle.picture.specs.Stepping.{Notes}
 use Rattle.picture.specs.Inner.{Good}
 use Rattle.picture.proofs.columns.judge_each.Statement.{statement}
 use Rattle.picture.proofs.columns.judge_each.Tie as tie

@@ -11,7 +11,7 @@ use lib.ListN.{length}
 use Rattle.refusal.proofs.Checks.{both}
 use Rattle.picture.specs.Judging.{postsCheck}
 use Rattle.picture_header.specs.Layout.{startAt, endRow, postEnd}
-use Rattle.posts.proofs.Inner.{past-on}
+use Rattle.picture.proofs.Inner.{past-on}
 use Rattle.picture.proofs.Posts.{rest-first, rest-ended, rest-cut, rest-rows, rest-more, rest-off, rest-past}
 use Rattle.picture.proofs.Ends.{Judging, judging-first, judging-notes, judging-met, judging-more}
 use Rattle.picture.proofs.columns.judge_posts.Statement.{statement}

@@ -2,7 +2,7 @@
 use borrow.Author.Needs.{needs}
 use denote.Ref.{now}
 use Rattle.picture.specs.Inner.{Good}
-use Rattle.posts.proofs.Slots.{notes-none}
+use Rattle.picture.proofs.Slots.{notes-none}
 use Rattle.picture.proofs.columns.judge_short.Statement.{statement}
 use Rattle.picture.proofs.columns.judge_short.Tie as tie
 

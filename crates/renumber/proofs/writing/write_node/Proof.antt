@@ -7,8 +7,8 @@ use denote.Ref.{now}
 use lib.ListN.{length, take}
 use lib.Seq.{sets}
 use Rattle.endian.specs.Unsigned.{u16Bytes}
-use Rattle.field.specs.Records.{recordBytes}
-use Rattle.built.specs.Nodes.{nodeSize}
+use Rattle.record_field.specs.Records.{recordBytes}
+use Rattle.record.specs.Nodes.{nodeSize}
 use Rattle.node.specs.declared.Choice.the-variants.{Right, Left}
 use Rattle.node.specs.Nodes.{subsectorBit}
 use Rattle.renumber.specs.Inner.{renamedBy}

@@ -3,8 +3,8 @@ use mathlib.Core.Path.{_≡_, sym, _∙_}
 use native.Mathlib.Omega.{arith}
 use denote.Ref.{now}
 use Rattle.refusal.specs.declared.Check.the-variants.{Pass}
-use Rattle.directory.specs.Entries.{fileCheck}
-use Rattle.directory.proofs.Listing.{file-header}
+use Rattle.wad.specs.Entries.{fileCheck}
+use Rattle.wad.proofs.Listing.{file-header}
 use Rattle.wad.proofs.Answers.{entry-refused, entry-past, entry-at}
 use borrow.Author.Needs.{needs}
 use Rattle.wad.proofs.lumps.find_entry.Statement.{statement}

@@ -6,7 +6,7 @@ use mathlib.Core.Path.{_≡_, sym, ap, _∙_}
 use native.Mathlib.Omega.{arith}
 use borrow.Author.Needs.{needs}
 use denote.Ref.{now}
-use Rattle.refusal.specs.declared.Refusal.the-variants.{MapMissing}
+use Rattle.refusal.specs.declared.Refusal.the-variants.{EntryMissing}
 use Rattle.name.specs.Names.{sameName}
 use Rattle.wad.specs.declared.map.Marker.the-variants.{Entry, Refused as NoMarker}
 use Rattle.wad.specs.Map.{findMarker, counted}
@@ -49,7 +49,7 @@ returns-2 c =
     let z : l .left ≡ 0 = omega arith in
     let none = ap (findMarker (now (a .dir)) (now (a .name))) z ∙ findMarker-none (now (a .dir)) (now (a .name)) in
     let n : l .compared ≡ a .count = omega (arith, l .inv .1) in
-    (λ i. record { marker = NoMarker MapMissing; compared = n i }) ∙ ap (counted (a .count)) (sym (l .inv .2 ∙ none))
+    (λ i. record { marker = NoMarker EntryMissing; compared = n i }) ∙ ap (counted (a .count)) (sym (l .inv .2 ∙ none))
 
 pub last-named-spec : {M : Type 1} → statement M
 last-named-spec =

@@ -6,9 +6,9 @@ use mathlib.Core.List.{List}
 use denote.Ref.{now}
 use Rattle.refusal.specs.declared.Check.the-variants.{Pass}
 use Rattle.wad.specs.declared.map.MarkerSearch.{MarkerSearch}
-use Rattle.directory.specs.Entries.{directoryOf, fileCheck}
+use Rattle.wad.specs.Entries.{directoryOf, fileCheck}
 use Rattle.wad.specs.Map.{findMarker, counted}
-use Rattle.directory.proofs.Listing.{file-header}
+use Rattle.wad.proofs.Listing.{file-header}
 use Rattle.wad.proofs.Answers.{search-refused, search-named, mapNameOk-length}
 use borrow.Author.Needs.{needs}
 use Rattle.wad.proofs.map.search_map.Statement.{statement}

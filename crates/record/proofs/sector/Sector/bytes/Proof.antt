@@ -2,7 +2,7 @@
 use mathlib.Core.Path.{refl}
 use borrow.Author.Needs.{needs}
 use lib.ListN.{replicate}
-use Rattle.field.proofs.Fields.{then-i16, then-name, then-u16}
+use Rattle.record_field.proofs.Fields.{then-i16, then-name, then-u16}
 use Rattle.record.proofs.sector.Sector.bytes.Statement.{statement}
 use Rattle.record.proofs.sector.Sector.bytes.Tie as tie
 

@@ -1,6 +1,6 @@
 -- `record::sector::Sector::parse` meets its contract, field by field. Assumes nothing.
 use borrow.Author.Needs.{needs}
-use Rattle.field.proofs.Fields.{signed-field}
+use Rattle.record_field.proofs.Fields.{signed-field}
 use Rattle.record.proofs.sector.Sector.parse.Statement.{statement}
 use Rattle.record.proofs.sector.Sector.parse.Tie as tie
 

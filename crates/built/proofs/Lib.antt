@@ -1,3 +1,0 @@
--- The laws of the kinds that a node builder makes. Assumes nothing.
-
-pub mod Codecs

@@ -1,4 +1,0 @@
--- The laws of changed records. Assumes nothing.
-
-pub mod Laying
-pub mod Comparing

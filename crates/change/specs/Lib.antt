@@ -1,4 +1,0 @@
--- Which records of a lump changed. Assumes nothing.
-
-pub mod Records
-pub mod Inner

@@ -1,3 +1,0 @@
--- Pixels to be written, judged. Assumes nothing.
-
-pub mod Given

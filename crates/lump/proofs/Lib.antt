@@ -1,3 +1,0 @@
--- The laws of a map's lumps by their places. Assumes nothing.
-
-pub mod Places

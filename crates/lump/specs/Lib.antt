@@ -1,3 +1,0 @@
--- A map's ten lumps. Assumes nothing.
-
-pub mod Lumps

@@ -1,3 +1,0 @@
--- The laws of the checks of a map's lumps. Assumes nothing.
-
-pub mod Passing

@@ -1,0 +1,5 @@
+-- The laws of the checks of a map's lumps. The laws of the map check. Assumes nothing.
+
+pub mod CountsPassing
+pub mod Passing
+pub mod Answers

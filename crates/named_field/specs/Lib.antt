@@ -1,4 +1,0 @@
--- The field that a refusal names. Assumes nothing.
-
-pub mod Named
-pub mod Inner

@@ -1,3 +1,0 @@
--- The laws of the search of two files. Assumes nothing.
-
-pub mod Searching

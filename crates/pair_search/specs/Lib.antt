@@ -1,3 +1,0 @@
--- Which of two files has a name. Assumes nothing.
-
-pub mod Search

@@ -1,3 +1,0 @@
--- Posts that are stepped over. Assumes nothing.
-
-pub mod Inner

@@ -1,0 +1,34 @@
+-- `reason::judge_map` meets its contract, by the search for the marker. Assumes nothing.
+use mathlib.Core.Path.{sym, _∙_}
+use denote.Ref.{now}
+use Rattle.map_check.proofs.Answers.{marker-known}
+use Rattle.reason.proofs.Printing.{told-nowhere, told-at}
+use borrow.Author.Needs.{needs}
+use Rattle.reason.proofs.judge_map.Statement.{statement}
+use Rattle.reason.proofs.judge_map.Tie as tie
+
+judge-at-requires : tie.Need-judge-at-requires
+judge-at-requires c κs =
+    let m = c .before .before .before in
+    let e = m .before .before .before .before .before .before .before in
+    marker-known (now (e .args .wad)) (now (e .args .name)) (sym (m .before .before .find-map .ensures) ∙ m .marker .given .1)
+
+returns : tie.Need-returns
+returns c =
+    let m = c .before in
+    let e = m .before .before .before .before .before .before .before in
+    told-nowhere (now (e .args .wad)) (now (e .args .name)) (now (e .args .words)) (now (e .args .out))
+    (sym (m .before .before .find-map .ensures) ∙ m .r .given .1)
+
+returns-2 : tie.Need-returns-2
+returns-2 c =
+    let g = c .before .before .before .before in
+    let m = g .before .before .before .before in
+    let e = m .before .before .before .before .before .before .before in
+    told-at (now (e .args .wad)) (now (e .args .name)) (now (e .args .words)) (now (e .args .out))
+    (sym (m .before .before .find-map .ensures) ∙ m .marker .given .1) (g .judge-at .ensures)
+
+pub judge-map-spec : {M : Type 1} → statement M
+judge-map-spec =
+    tie.close
+    (tie.spec (λ c κs. search needs) (λ c. search needs) (λ c. search needs) judge-at-requires returns (λ c. search needs) (λ c. search needs) returns-2)

@@ -1,0 +1,4 @@
+-- The field that a refusal names. Assumes nothing.
+
+pub mod Named
+pub mod Naming

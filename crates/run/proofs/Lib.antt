@@ -1,3 +1,0 @@
--- The laws of a map's game. Assumes nothing.
-
-pub mod Telling

@@ -1,3 +1,0 @@
--- The laws of coordinates. Assumes nothing.
-
-pub mod Coordinates

@@ -1,3 +1,0 @@
--- The side of a point. Assumes nothing.
-
-pub mod Side

@@ -1,3 +1,0 @@
--- The sizes of a map's lumps. Assumes nothing.
-
-pub mod Sizes

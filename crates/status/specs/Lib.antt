@@ -1,3 +1,0 @@
--- What every answer begins with. Assumes nothing.
-
-pub mod Status

@@ -1,4 +1,0 @@
--- Laws of the names that a text map knows. Assumes nothing.
-
-pub mod Names
-pub mod Padded

@@ -1,3 +1,0 @@
--- The value of one field of a text map. Assumes nothing.
-
-pub mod Fields

@@ -1,3 +1,0 @@
--- Laws of the scopes of names. Assumes nothing.
-
-pub mod Scopes

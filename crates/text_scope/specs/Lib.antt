@@ -1,3 +1,0 @@
--- The scopes of names. Assumes nothing.
-
-pub mod Scopes

@@ -1,3 +1,0 @@
--- The laws of reasons. Assumes nothing.
-
-pub mod Printing
