@@ -1,0 +1,75 @@
+//! Lumps of a map that stand behind a name which no map has: nobody judges them, and nobody may take that for an accepted map.
+
+use crate::count::counted;
+use crate::json::Object;
+use crate::map_lumps::{self, TEXTMAP};
+use crate::name;
+use crate::wad::{self, Wad};
+
+/// So many lumps stand behind a marker.
+const LUMPS: usize = 10;
+
+/// So many names of a map's lumps, in order, are the lumps of a map.
+const LEAST: usize = 2;
+
+/// What such maps may be called.
+const NAMES: &str = "Maps are called MAP01 to MAP99, or E1M1 to E9M9.";
+
+/// Lumps of a map that nobody judged.
+#[derive(Clone, Debug, PartialEq, Eq)]
+pub struct Unnamed {
+    /// The entry before them, and its name; none where they begin the directory.
+    marker: Option<(usize, String)>,
+    /// How many lumps there are.
+    lumps: usize,
+    /// Whether it is a text map.
+    is_text: bool,
+}
+
+impl Unnamed {
+    /// All of a file, in the order of its directory.
+    pub fn all(wad: &Wad) -> Vec<Self> {
+        let names: Vec<&[u8]> = wad.entries().map(|entry| entry.name).collect();
+        let (mut all, mut at) = (Vec::new(), 0);
+        while at < names.len() {
+            let is_text = names[at] == TEXTMAP;
+            let here = names[at..].iter().copied();
+            let lumps = if is_text { map_lumps::text(here) } else { map_lumps::ten(here) };
+            let marker = at.checked_sub(1).map(|before| (before, names[before]));
+            if (is_text || lumps >= LEAST) && !is_judged(wad, &names, at) {
+                let marker = marker.map(|(entry, name)| (entry, name::text(name)));
+                all.push(Self { marker, lumps, is_text });
+            }
+            at += lumps.max(1);
+        }
+        all
+    }
+
+    /// That nothing was judged, and why.
+    pub fn words(&self) -> String {
+        let lumps = if self.is_text { "a text map" } else { "map lumps" };
+        match &self.marker {
+            Some((entry, name)) => {
+                format!("entry {entry}, {name}, has {lumps} behind it but is no map name: nothing of it was judged. {NAMES}")
+            }
+            None => {
+                format!("{} of a map have no name before them: nothing of them was judged. {NAMES}", counted(self.lumps, "lump"))
+            }
+        }
+    }
+
+    /// The entry before the lumps, its name, and how many lumps there are.
+    pub fn json(&self) -> Object {
+        let (entry, name) = self.marker.as_ref().map_or((None, None), |(entry, name)| (Some(*entry), Some(name.as_str())));
+        Object::new().count("entry", entry).text("name", name).count("lumps", self.lumps)
+    }
+}
+
+/// Whether an entry stands among the ten behind a marker that is judged, so that the verdict on that map speaks of it. Behind an earlier
+/// map of the same name, only the first may.
+fn is_judged(wad: &Wad, names: &[&[u8]], at: usize) -> bool {
+    let is_map = |entry: usize| wad::is_map(&name::padded(names[entry]));
+    let is_last = |entry: usize| wad.last(names[entry]) == Some(entry);
+    let covers = |entry: usize| is_map(entry) && (entry + 1 == at || is_last(entry));
+    (at.saturating_sub(LUMPS)..at).any(covers)
+}
