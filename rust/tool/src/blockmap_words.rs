@@ -15,11 +15,16 @@ pub fn words(cell: usize, name: &str, field: Field, look: &Look) -> String {
             format!("BLOCKMAP has {} {name} by its header, and {least} to {most} are allowed", grouped(field.number.into()))
         }
         "offset" if field.least > field.most => {
-            format!("{} has offset {}, and there are no lists behind the offsets", of_cell(cell, look), field.number)
+            format!(
+                "{} has offset {}, and there are no lists behind the offsets",
+                of_cell(cell, look),
+                grouped(field.number.into())
+            )
         }
         "offset" => {
-            let there = range("word", "words", field.least, field.most);
-            format!("{} has offset {}, and all lists are in {there}", of_cell(cell, look), field.number)
+            let [number, least, most] = [field.number, field.least, field.most].map(|word| grouped(word.into()));
+            let there = if least == most { format!("word {least} alone") } else { format!("words {least} to {most}") };
+            format!("{} has offset {number}, and all lists are in {there}", of_cell(cell, look))
         }
         "zero" => format!("the list of {} begins with {}, and it must begin with 0", of_cell(cell, look), field.number),
         _ => {

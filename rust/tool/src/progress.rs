@@ -1,5 +1,6 @@
 //! A line that shows how far the tool has come: on a terminal, when more than a second has passed, and nowhere else.
 
+use crate::count::grouped;
 use std::io::{self, IsTerminal, Write};
 use std::time::{Duration, Instant};
 
@@ -32,11 +33,12 @@ impl Progress {
         let now = Instant::now();
         if self.is_on && is_due(now - self.begun, self.shown.map(|shown| now - shown)) {
             (self.shown, self.is_visible) = (Some(now), true);
-            let _ = write!(io::stderr(), "{ERASE}{done} of {all} files judged").and_then(|()| io::stderr().flush());
+            let _ = write!(io::stderr(), "{ERASE}{} of {} files judged", grouped(done as i128), grouped(all as i128))
+                .and_then(|()| io::stderr().flush());
         }
     }
 
-    /// Takes the line away, before anything else is said.
+    /// Takes the line away, before anything else is said on a terminal.
     pub fn hide(&mut self) {
         if self.is_visible {
             self.is_visible = false;

@@ -30,6 +30,8 @@ pub struct Report {
     quiet: bool,
     colour: bool,
     output: io::Stdout,
+    /// Whether standard output is a terminal.
+    is_terminal: bool,
     broken: Option<io::Error>,
     status: u8,
     /// The status of a refusal.
@@ -57,9 +59,11 @@ impl Report {
     /// A report with nothing said. Colour is for terminals, and never with NO_COLOR, whatever it holds.
     pub fn new(json: bool, quiet: bool) -> Self {
         let output = io::stdout();
-        let colour = output.is_terminal() && std::env::var_os("NO_COLOR").is_none();
+        let is_terminal = output.is_terminal();
+        let colour = is_terminal && std::env::var_os("NO_COLOR").is_none();
         let (tally, progress) = (Tally::default(), Progress::new());
-        Self { json, quiet, colour, output, broken: None, status: 0, refused: REFUSED, requires_map: false, tally, progress }
+        let (broken, status, refused, requires_map) = (None, 0, REFUSED, false);
+        Self { json, quiet, colour, output, is_terminal, broken, status, refused, requires_map, tally, progress }
     }
 
     /// Whether the answers are objects.
@@ -169,7 +173,9 @@ impl Report {
     /// Bytes of standard output. After the first that cannot be written nothing more is tried, but judging goes on: the exit
     /// status speaks of everything that was asked.
     pub fn bytes(&mut self, bytes: &[u8]) {
-        self.progress.hide();
+        if self.is_terminal {
+            self.progress.hide();
+        }
         if self.broken.is_none() {
             self.broken = self.output.write_all(bytes).and_then(|()| self.output.flush()).err();
         }

@@ -19,6 +19,7 @@ mod list;
 mod node_kinds;
 mod numbers;
 mod order;
+mod pages;
 mod pair;
 mod picture;
 mod png_reader;

@@ -204,7 +204,7 @@ fn of_orders_and_comparisons_70_to_76() {
     order(b"1 0 2 2", "73: the order is too short or too long: it must have as many numbers as there are nodes that the root reaches; here that is 3, and it has 4");
     order(b"1 2 0", "72: the order does not end with the root: the root, the last of the old nodes, must come last; here it ends with 0, and the root is 2");
     let chain = changed(|map| {
-        (map.nodes[2].right, map.nodes[0].left) = (SUBSECTOR_BIT | 0, 1);
+        (map.nodes[2].right, map.nodes[0].left) = (SUBSECTOR_BIT, 1);
         map.subsectors.truncate(4);
     });
     let folder = folder.and("c.wad", &chain);
