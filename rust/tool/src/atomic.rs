@@ -1,6 +1,8 @@
 //! Files that are replaced whole. The bytes go to a temporary file beside the target and from there to the disk; then the temporary file
 //! takes the target's name. A crash, a full disk or any other error leaves the old file as it was, and no temporary one.
 
+use crate::input::words;
+use std::fmt;
 use std::fs::{self, File, OpenOptions};
 use std::io::{self, ErrorKind, Write};
 use std::os::unix::fs::{fchown, FileTypeExt, MetadataExt};
@@ -16,11 +18,35 @@ const MOST_TRIED: usize = 1_000;
 /// What is said of a file that the system does not let this process write.
 const TOO_LARGE: &str = "it is larger than the files that this process may write (ulimit -f)";
 
+/// Why a file is not replaced, or may not be after a crash.
+#[derive(Debug)]
+pub enum Failure {
+    /// The old file is as it was.
+    Unwritten(io::Error),
+    /// The new file is in its place, and the disk may not know it yet.
+    Unflushed(io::Error),
+}
+
+impl From<io::Error> for Failure {
+    fn from(error: io::Error) -> Self {
+        Self::Unwritten(error)
+    }
+}
+
+impl fmt::Display for Failure {
+    fn fmt(&self, out: &mut fmt::Formatter<'_>) -> fmt::Result {
+        match self {
+            Self::Unwritten(error) => write!(out, "it is not written: {}", words(error)),
+            Self::Unflushed(error) => write!(out, "it is written, and its folder is not flushed to the disk: {}", words(error)),
+        }
+    }
+}
+
 /// Puts these bytes into a file, in place of what it held. A link is followed, and stays. A device, a pipe or an open descriptor cannot
 /// be replaced: it is written to as it is.
-pub fn write(target: &Path, bytes: &[u8]) -> io::Result<()> {
+pub fn write(target: &Path, bytes: &[u8]) -> Result<(), Failure> {
     if is_stream(target) {
-        return OpenOptions::new().write(true).open(target)?.write_all(bytes);
+        return Ok(OpenOptions::new().write(true).open(target)?.write_all(bytes)?);
     }
     let target = followed(target)?;
     let old = old(&target)?;
@@ -31,7 +57,8 @@ pub fn write(target: &Path, bytes: &[u8]) -> io::Result<()> {
         temporary.take_after(&old)?;
     }
     temporary.file.sync_all()?;
-    temporary.becomes(&target)
+    temporary.becomes(&target)?;
+    flush(folder_of(&target)).map_err(Failure::Unflushed)
 }
 
 /// Whether something other than a file has this name: a device, a pipe, a socket, or a descriptor of the program's own.
@@ -112,13 +139,13 @@ impl Temporary {
         self.file.set_permissions(old.permissions())
     }
 
-    /// Takes the target's name; then the folder goes to the disk, which holds that name.
+    /// Takes the target's name.
     fn becomes(mut self, target: &Path) -> io::Result<()> {
         if let Some(path) = &self.path {
             fs::rename(path, target)?;
-            self.path = None;
         }
-        flush(folder_of(target))
+        self.path = None;
+        Ok(())
     }
 }
 
@@ -130,10 +157,12 @@ impl Drop for Temporary {
     }
 }
 
-/// Has a folder written to the disk. Some file systems cannot be asked for that.
+/// Has a folder, which holds the file's name, written to the disk. Some file systems cannot be asked for that, and some folders not be
+/// opened, though files may be made in them.
 fn flush(folder: &Path) -> io::Result<()> {
-    match File::open(folder)?.sync_all() {
-        Err(error) if !matches!(error.kind(), ErrorKind::InvalidInput | ErrorKind::Unsupported) => Err(error),
+    use ErrorKind::{InvalidInput, PermissionDenied, Unsupported};
+    match File::open(folder).and_then(|folder| folder.sync_all()) {
+        Err(error) if !matches!(error.kind(), InvalidInput | PermissionDenied | Unsupported) => Err(error),
         _ => Ok(()),
     }
 }

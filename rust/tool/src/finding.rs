@@ -4,8 +4,10 @@ use crate::count::{counted, grouped, listed};
 use crate::file_finding::FileFinding;
 use crate::index_finding::IndexFinding;
 use crate::json::Object;
+use crate::look::Look;
 use crate::lump_finding::LumpFinding;
 use crate::name;
+use crate::node_kind::NodeKind;
 use crate::renumber::post_order;
 use crate::verdict::NOT_THERE;
 use crate::wad::Wad;
@@ -27,6 +29,8 @@ pub enum Finding {
     Maps(Vec<String>),
     /// 12 and 20 to 22: what is wrong with a map's lumps; whether it is Hexen's.
     Lumps(LumpFinding, bool),
+    /// 40 to 46: nodes of another kind than a walk can take.
+    Nodes(NodeKind),
     /// 20 of a SIDEDEFS by itself: its size in bytes.
     Size(usize),
     /// 21 of a SIDEDEFS by itself: how many records it has.
@@ -50,7 +54,7 @@ pub enum Finding {
 }
 
 impl Finding {
-    /// What is wrong with a map by its name or its lumps: 11, 12, 20 to 22.
+    /// What is wrong with a map by its name or its lumps: 11, 12, 20 to 22, and of a walk down its nodes 40 to 46.
     pub fn in_map(refusal: Refusal, wad: &Wad, map: &[u8]) -> Option<Self> {
         match refusal.number {
             NOT_THERE => Some(Self::maps(&wad.maps())),
@@ -58,6 +62,7 @@ impl Finding {
                 let hexen = wad.marker(map).and_then(|marker| meshpigeon::map_game(wad.bytes(), marker).ok());
                 LumpFinding::of(refusal, wad, map).map(|found| Self::Lumps(found, hexen.unwrap_or_default()))
             }
+            40..=46 => Look::of(wad, map).and_then(|look| NodeKind::marked(&look)).map(Self::Nodes),
             _ => None,
         }
     }
@@ -112,6 +117,7 @@ impl Finding {
         match self {
             Self::File(found) => found.words(refusal),
             Self::Lumps(found, hexen) => found.words(refusal, *hexen),
+            Self::Nodes(kind) => kind.words(),
             _ => format!("{rule}; {}", self.clause()),
         }
     }
@@ -119,7 +125,7 @@ impl Finding {
     /// What was found, to stand behind the refusal's sentence, which ends with the rule.
     fn clause(&self) -> String {
         match self {
-            Self::File(_) | Self::Lumps(..) => String::new(),
+            Self::File(_) | Self::Lumps(..) | Self::Nodes(_) => String::new(),
             Self::Maps(maps) => match &maps[..] {
                 [] => "there is no map at all".to_string(),
                 [only] => format!("the only map is {only}"),
@@ -148,6 +154,7 @@ impl Finding {
         match self {
             Self::File(found) => found.json(),
             Self::Lumps(found, _) => found.json(),
+            Self::Nodes(kind) => object.text("nodes", kind.name()),
             Self::Maps(maps) => object.texts("maps", maps),
             Self::Size(size) => object.count("size", *size),
             Self::Records(count) => object.count("count", *count),

@@ -11,6 +11,7 @@ mod advice;
 mod args;
 mod atomic;
 mod blockmap_words;
+mod copy;
 mod count;
 mod crc;
 mod descend;

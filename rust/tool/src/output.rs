@@ -1,7 +1,6 @@
 //! Files that the tool writes: what `-o` names, and never a file that it reads.
 
 use crate::atomic;
-use crate::input;
 use crate::report::Report;
 use std::ffi::OsStr;
 use std::fs;
@@ -24,6 +23,6 @@ pub fn put(bytes: &[u8], output: &OsStr, report: &mut Report, tell: impl FnOnce(
     }
     match atomic::write(Path::new(output), bytes) {
         Ok(()) => tell(report),
-        Err(error) => report.trouble(output, &format!("it is not written: {}", input::words(&error))),
+        Err(failure) => report.trouble(output, &failure.to_string()),
     }
 }

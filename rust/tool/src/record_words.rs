@@ -91,7 +91,7 @@ fn of_subsector(index: usize, subsector: Subsector, name: &str, look: &Look) -> 
 fn of_node(index: usize, side: &str, field: Field, look: &Look) -> String {
     let line = look.node(index).map(|node| {
         let [x, y, dx, dy] = [node.x, node.y, node.dx, node.dy].map(i32::from);
-        format!(", with the line {},", from_to((x, y), (x + dx, y + dy)))
+        format!(", with the partition line {},", from_to((x, y), (x + dx, y + dy)))
     });
     let who = format!("node {index}{}", line.unwrap_or_default());
     let (one, many, bit) = match field.number {

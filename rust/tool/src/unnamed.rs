@@ -45,15 +45,19 @@ impl Unnamed {
         all
     }
 
-    /// That nothing was judged, and why.
-    pub fn words(&self) -> String {
+    /// That nothing was judged, and why; of a pair also whose they are.
+    pub fn words(&self, file: Option<&str>) -> String {
+        let of = file.map_or(String::new(), |file| format!(" of the {file}"));
         let lumps = if self.is_text { "a text map" } else { "map lumps" };
         match &self.marker {
             Some((entry, name)) => {
-                format!("entry {entry}, {name}, has {lumps} behind it but is no map name: nothing of it was judged. {NAMES}")
+                format!("entry {entry}{of}, {name}, has {lumps} behind it but is no map name: nothing of it was judged. {NAMES}")
             }
             None => {
-                format!("{} of a map have no name before them: nothing of them was judged. {NAMES}", counted(self.lumps, "lump"))
+                format!(
+                    "{} of a map{of} have no name before them: nothing of them was judged. {NAMES}",
+                    counted(self.lumps, "lump")
+                )
             }
         }
     }

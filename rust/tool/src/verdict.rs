@@ -1,6 +1,7 @@
 //! A verdict on a map, a picture or a whole file, as a line of text and as a JSON object.
 
 use crate::about::About;
+use crate::advice::build_again;
 use crate::count::{counted, grouped};
 use crate::finding::Finding;
 use crate::further::Further;
@@ -107,6 +108,9 @@ pub const NOT_THERE: u32 = 11;
 
 /// The first refusal that leaves a map's ten lumps where they should be.
 pub const LUMPS_ARE_THERE: u32 = 20;
+
+/// The refusals of a walk down the nodes that are the nodes' own fault.
+const BAD_NODES: [u32; 5] = [40, 41, 42, 43, 46];
 
 impl Outcome {
     /// Whether the map's ten lumps are there.
@@ -255,11 +259,14 @@ impl Verdict {
             Outcome::Refused(refusal, found) => match (self.why.as_ref().and_then(Why::words), found) {
                 (Some(said), _) => said,
                 (None, Some(found)) => found.words(*refusal, &self.rule(*refusal)),
+                (None, None) if BAD_NODES.contains(&refusal.number) => {
+                    format!("{}. {}", self.rule(*refusal), build_again("NODES"))
+                }
                 (None, None) => self.rule(*refusal),
             },
             Outcome::Text(summary) => format!("{}{}", summary.words(), self.notes()),
             Outcome::NoMap(said) => format!("{said}{}", self.notes()),
-            Outcome::Unnamed(unnamed) => format!("{}{}", unnamed.words(), self.notes()),
+            Outcome::Unnamed(unnamed) => unnamed.words(self.source.name()),
             Outcome::Unread(said) => said.clone(),
         }
     }

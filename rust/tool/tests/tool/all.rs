@@ -2,7 +2,7 @@
 
 use crate::json_reader::{object, Value};
 use crate::support::{changed, good, Folder};
-use generator::{hexen_rooms, MapSpec, Plan};
+use generator::{hexen_rooms, rooms, Content, MapSpec, Plan, MAP_NAME};
 use reader::{NO_SIDEDEF, SUBSECTOR_BIT, TWO_SIDED};
 
 const ALSO: &str = "(in a copy in which the records above are good)";
@@ -105,6 +105,22 @@ fn a_blockmap_without_cells_is_passed_over() {
     assert_eq!(lines, ["refused 28 at BLOCKMAP header", &also("32 at NODES"), "there may be more"]);
     let all_bad = |map: &mut MapSpec| map.blockmap.offsets.iter_mut().for_each(|offset| *offset = 0);
     assert_eq!(places(&changed(all_bad)), ["refused 28 at BLOCKMAP cell 0", "there may be more"]);
+}
+
+#[test]
+fn a_map_whose_lumps_share_bytes_may_be_too_long_to_be_copied() {
+    let mut map = rooms();
+    map.linedefs[5].right = 99;
+    map.sectors.resize(8_600, map.sectors[0]);
+    let mut plan = Plan::new(map, MAP_NAME);
+    let mut shared = plan.map.lump(10);
+    shared.resize((8_600 * 8_600) / 8, 0);
+    plan.entry_at(9).content = Content::Bytes(shared.clone());
+    plan.entry_at(10).content = Content::Bytes(shared);
+    plan.overlap = true;
+    let said = Folder::with("a.wad", &plan.wad()).run(&["judge", "--all", "a.wad"]);
+    let words = "there may be more: the map's lumps share bytes, and a copy of it is too long to be judged";
+    assert_eq!((said.out.lines().nth(1), said.status), (Some(format!("a.wad:MAP01: {words}").as_str()), 1), "{said:?}");
 }
 
 #[test]

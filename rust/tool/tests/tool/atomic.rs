@@ -1,8 +1,9 @@
 //! Files that the tool writes: an old one stays as it is until the new one is whole, and nothing is left beside it.
 
 use crate::support::{good, said, Folder, Said};
-use std::fs::{self, File};
-use std::os::unix::fs::{symlink, PermissionsExt};
+use std::fs;
+use std::os::unix::fs::{symlink, MetadataExt, PermissionsExt};
+use std::os::unix::process::CommandExt;
 use std::process::{Command, Stdio};
 
 /// A file that is larger than any limit of these tests.
@@ -51,22 +52,30 @@ fn a_folder_that_cannot_be_written_leaves_the_old_file() {
     fs::remove_dir(folder.file("way.wix")).expect("nothing was left in it");
 }
 
+/// Nobody: a user whom permissions stop, where the tests run as root.
+const NOBODY: u32 = 65_534;
+
 #[test]
 fn a_read_only_folder_leaves_the_old_file() {
     let folder = Folder::with("a.wad", &good());
     fs::create_dir(folder.file("kept")).expect("a folder");
     fs::write(folder.file("kept/out.wix"), b"old").expect("a file");
-    let mode = |mode| fs::set_permissions(folder.file("kept"), fs::Permissions::from_mode(mode)).expect("its rights change");
-    mode(0o555);
-    let is_root = File::create(folder.file("kept/probe")).is_ok();
-    let said = folder.run(&["index", "a.wad", "-o", "kept/out.wix"]);
-    mode(0o755);
-    if is_root {
-        fs::remove_file(folder.file("kept/probe")).expect("the probe");
-        assert_eq!(said.status, 0, "{said:?}");
-    } else {
-        assert_eq!((said.status, fs::read(folder.file("kept/out.wix")).expect("it is there")), (2, b"old".to_vec()));
+    let mode =
+        |name: &str, mode| fs::set_permissions(folder.file(name), fs::Permissions::from_mode(mode)).expect("its rights change");
+    mode("kept/out.wix", 0o666);
+    mode("kept", 0o555);
+    let mut command = folder.command(&["index", "a.wad", "-o", "kept/out.wix"]);
+    if fs::metadata(folder.file(".")).expect("it is there").uid() == 0 {
+        command.uid(NOBODY).gid(NOBODY);
     }
+    let output = command.output();
+    mode("kept", 0o755);
+    // Where nobody may not run the tool at all, there is nothing to see.
+    if let Some(said) = output.ok().map(said).filter(|said| !said.err.contains("a.wad: ")) {
+        assert_eq!(said.err, "meshpigeon: kept/out.wix: it is not written: Permission denied\n");
+        assert_eq!((said.status, said.out.as_str()), (2, ""));
+    }
+    assert_eq!(fs::read(folder.file("kept/out.wix")).expect("it is there"), b"old");
     let names: Vec<_> =
         fs::read_dir(folder.file("kept")).expect("the folder").map(|it| it.expect("an entry").file_name()).collect();
     assert_eq!(names, ["out.wix"]);

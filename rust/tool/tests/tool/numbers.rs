@@ -113,7 +113,7 @@ fn of_records_23_to_28() {
     judged(&changed(|map| map.segs[0].linedef = 13), &format!("{words} {BUILD}"));
     let words = "26 at SSECTORS 1: subsector 1, whose first seg runs from (256, 0) to (256, 256), has no segs, and it must have at least 1.";
     judged(&changed(|map| map.subsectors[1].number = 0), &format!("{words} {BUILD}"));
-    let words = "27 at NODES 2: node 2, with the line from (512, 0) to (512, 256), has subsector 9 as its left child, and this map has subsectors 0 to 3.";
+    let words = "27 at NODES 2: node 2, with the partition line from (512, 0) to (512, 256), has subsector 9 as its left child, and this map has subsectors 0 to 3.";
     judged(&changed(|map| map.nodes[2].left = SUBSECTOR_BIT | 9), &format!("{words} {BUILD}"));
     let words = "28 at BLOCKMAP cell 1: cell 1, the square from (120, -8) to (248, 120), has offset 5, and all lists are in words 31 to 123. \
                  Nothing is wrong in your drawing: BLOCKMAP is damaged. Build the nodes again.";
@@ -141,17 +141,33 @@ fn of_walks_40_to_46() {
         plan.entry_at(7).content = Content::Bytes(nodes);
         Folder::with("a.wad", &plan.wad())
     };
+    let bad = |words: &str| format!("{words}. {BUILD}");
     let (descend, order) = (["descend", "a.wad", "MAP01", "0", "0"], ["order", "a.wad", "MAP01", "0", "0"]);
-    told_of(&folder(vec![0; 29]), &descend, &[], "40: these are no nodes: a multiple of 28 bytes, and at most 32,767 nodes");
-    told_of(&folder(vec![]), &descend, &[], "41: the count of subsectors is not 1 to 32,767, or not 1 where there are no nodes");
+    told_of(
+        &folder(vec![0; 29]),
+        &descend,
+        &[],
+        &bad("40: these are no nodes: a multiple of 28 bytes, and at most 32,767 nodes"),
+    );
+    told_of(
+        &folder(vec![]),
+        &descend,
+        &[],
+        &bad("41: the count of subsectors is not 1 to 32,767, or not 1 where there are no nodes"),
+    );
+    let marked = [&b"XNOD"[..], &[0; 99]].concat();
+    let words =
+        "NODES are of the extended kind (XNOD), which the box cannot read: build plain nodes (zdbsp without -X, -x and -z)";
+    told_of(&folder(marked), &descend, &[], &format!("40: {words}"));
     let walk = |change: fn(&mut Vec<Node>)| Folder::with("a.wad", &changed(|map| change(&mut map.nodes)));
-    let words = "42 at node 2: the way down came to node 2, one of whose children is not there";
-    told_of(&walk(|nodes| nodes[2].left = 99), &descend, &[], words);
-    let words = "43: the descent passed as many nodes as there are and is still on a node: the nodes turn back on themselves";
-    told_of(&walk(|nodes| nodes[2].left = 2), &descend, &[], words);
+    let words = bad("42 at node 2: the way down came to node 2, one of whose children is not there");
+    told_of(&walk(|nodes| nodes[2].left = 99), &descend, &[], &words);
+    let words =
+        bad("43: the descent passed as many nodes as there are and is still on a node: the nodes turn back on themselves");
+    told_of(&walk(|nodes| nodes[2].left = 2), &descend, &[], &words);
     let words = "44: a way down passes more than 256 nodes: a draw order follows ways of at most 256";
     told_of(&walk(|nodes| nodes[2].left = 2), &order, &[], words);
-    let words = "46: the draw order grows too long: it lists at most one subsector more than there are nodes, each reached by one way only";
+    let words = bad("46: the draw order grows too long: it lists at most one subsector more than there are nodes, each reached by one way only");
     let doubled = |nodes: &mut Vec<Node>| {
         let root = nodes[2];
         *nodes = (0..20_u16)
@@ -159,7 +175,7 @@ fn of_walks_40_to_46() {
             .map(|it| Node { right: it, left: it, ..root })
             .collect();
     };
-    told_of(&walk(doubled), &order, &[], words);
+    told_of(&walk(doubled), &order, &[], &words);
 }
 
 #[test]

@@ -85,7 +85,7 @@ fn a_text_map_of_another_name_is_said_too() {
 #[test]
 fn of_a_pair_it_is_said_whose_it_is() {
     let folder = Folder::with("base.wad", &good()).and("patch.wad", &called(*b"MYMAP\0\0\0"));
-    let line = format!("patch.wad: entry 0, MYMAP, has map lumps behind it but is no map name: {RULE} (of the patch)");
+    let line = format!("patch.wad: entry 0 of the patch, MYMAP, has map lumps behind it but is no map name: {RULE}");
     let said = folder.run(&["judge", "--base", "base.wad", "patch.wad"]);
     said.is(
         1,

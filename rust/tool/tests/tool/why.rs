@@ -151,19 +151,19 @@ fn a_subsectors_segs_are_named() {
 #[test]
 fn a_nodes_children_are_named_by_their_kind() {
     let at = "27 at NODES 1";
-    let words = "node 1, with the line from (768, 0) to (768, 256), has node 3 as its right child, and this map has nodes 0 to 2. Nothing is wrong in your drawing: the nodes are damaged. Build the nodes again.";
+    let words = "node 1, with the partition line from (768, 0) to (768, 256), has node 3 as its right child, and this map has nodes 0 to 2. Nothing is wrong in your drawing: the nodes are damaged. Build the nodes again.";
     named_alike(|map| map.nodes[1].right = 3, at, words, ("right", [24, 3, 0, 2]));
-    let words = "node 1, with the line from (768, 0) to (768, 256), has node 32767 as its left child, and this map has nodes 0 to 2. Nothing is wrong in your drawing: the nodes are damaged. Build the nodes again.";
+    let words = "node 1, with the partition line from (768, 0) to (768, 256), has node 32767 as its left child, and this map has nodes 0 to 2. Nothing is wrong in your drawing: the nodes are damaged. Build the nodes again.";
     named_alike(|map| map.nodes[1].left = 32_767, at, words, ("left", [26, 32_767, 0, 2]));
-    let words = "node 1, with the line from (768, 0) to (768, 256), has subsector 4 as its right child, and this map has subsectors 0 to 3. Nothing is wrong in your drawing: the nodes are damaged. Build the nodes again.";
+    let words = "node 1, with the partition line from (768, 0) to (768, 256), has subsector 4 as its right child, and this map has subsectors 0 to 3. Nothing is wrong in your drawing: the nodes are damaged. Build the nodes again.";
     named_alike(|map| map.nodes[1].right = SUBSECTOR_BIT | 4, at, words, ("right", [24, 32_772, 32_768, 32_771]));
-    let words = "node 1, with the line from (768, 0) to (768, 256), has subsector 32767 as its left child, and this map has subsectors 0 to 3. Nothing is wrong in your drawing: the nodes are damaged. Build the nodes again.";
+    let words = "node 1, with the partition line from (768, 0) to (768, 256), has subsector 32767 as its left child, and this map has subsectors 0 to 3. Nothing is wrong in your drawing: the nodes are damaged. Build the nodes again.";
     named_alike(|map| map.nodes[1].left = 65_535, at, words, ("left", [26, 65_535, 32_768, 32_771]));
     let alone = |map: &mut MapSpec| {
         map.nodes.truncate(1);
         map.nodes[0].left = 1;
     };
-    let words = "node 0, with the line from (256, 0) to (256, 256), has node 1 as its left child, and this map has node 0 alone. Nothing is wrong in your drawing: the nodes are damaged. Build the nodes again.";
+    let words = "node 0, with the partition line from (256, 0) to (256, 256), has node 1 as its left child, and this map has node 0 alone. Nothing is wrong in your drawing: the nodes are damaged. Build the nodes again.";
     named_alike(alone, "27 at NODES 0", words, ("left", [26, 1, 0, 0]));
 }
 
@@ -281,7 +281,7 @@ fn the_request_has_two_examples() {
         map.nodes[17].left = 40;
     });
     let words =
-        "27 at NODES 17: node 17, with the line from (256, 0) to (256, 256), has node 40 as its left child, and this map has \
+        "27 at NODES 17: node 17, with the partition line from (256, 0) to (256, 256), has node 40 as its left child, and this map has \
                  nodes 0 to 31. Nothing is wrong in your drawing: the nodes are damaged. Build the nodes again.";
     refused(&child, words, &field(("left", [26, 40, 0, 31])));
 }
