@@ -6,6 +6,14 @@ pub fn counted(count: usize, thing: &str) -> String {
     format!("{} {thing}{}", grouped(count as i128), if count == 1 { "" } else { "s" })
 }
 
+/// `1 entry`, `4,096 entries`.
+pub fn entries(count: usize) -> String {
+    match count {
+        1 => "1 entry".to_string(),
+        _ => format!("{} entries", grouped(count as i128)),
+    }
+}
+
 /// A number with a comma before every three digits.
 pub fn grouped(number: i128) -> String {
     let digits = number.unsigned_abs().to_string();

@@ -1,7 +1,7 @@
 //! `extract`: one map, or one lump, cut out of a file of any size into a file of its own. The large file is not read as a whole: its header
 //! and directory are, and the lumps that are wanted.
 
-use crate::count::{counted, grouped, listed};
+use crate::count::{counted, entries, grouped, listed};
 use crate::crc::crc32;
 use crate::input::{self, MOST_BYTES};
 use crate::json::Object;
@@ -172,9 +172,8 @@ fn tell(file: &OsStr, asked: &[u8], cut: &Cut, bytes: &[u8], output: &OsStr, rep
     let (map, lump) = if wad::is_map(asked) { (Some(name.as_str()), None) } else { (None, Some(name.as_str())) };
     report.answer(
         || {
-            let entries = if count == 1 { "1 entry".to_string() } else { format!("{count} entries") };
             let (file, name, output) = (name::file(file), shown(&name), name::file(output));
-            format!("{file}:{name}: {entries}, {}, written to {output}", counted(bytes.len(), "byte"))
+            format!("{file}:{name}: {}, {}, written to {output}", entries(count), counted(bytes.len(), "byte"))
         },
         || {
             let object = Object::about(file).text("map", map).text("lump", lump).number("number", 0).count("count", count);

@@ -1,7 +1,7 @@
 //! `index`: a file's name index, written or checked.
 
 use crate::about::About;
-use crate::count::{counted, grouped};
+use crate::count::{counted, entries};
 use crate::finding::Finding;
 use crate::index_finding::IndexFinding;
 use crate::input::{self, Digest};
@@ -54,11 +54,10 @@ pub fn refuse(index: &OsStr, bytes: &[u8], refusal: Refusal, found: Option<Index
 
 fn tell_written(file: &OsStr, wad: &Wad, length: usize, output: &OsStr, report: &mut Report) {
     let count = wad.entries().len();
-    let entries = if count == 1 { "1 entry".to_string() } else { format!("{} entries", grouped(count as i128)) };
     report.answer(
         || {
             let (file, output) = (name::file(file), name::file(output));
-            format!("{file}: {entries} indexed, {}, written to {output}", counted(length, "byte"))
+            format!("{file}: {} indexed, {}, written to {output}", entries(count), counted(length, "byte"))
         },
         || {
             let object = Object::about(file).number("number", 0).count("count", count);

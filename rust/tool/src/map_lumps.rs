@@ -27,9 +27,13 @@ pub fn all<'a>(names: impl Iterator<Item = &'a [u8]> + Clone) -> usize {
     }
 }
 
-/// From TEXTMAP to ENDMAP, or TEXTMAP alone.
-pub fn text<'a>(mut names: impl Iterator<Item = &'a [u8]>) -> usize {
-    names.position(|name| name == ENDMAP).map_or(1, |end| end + 1)
+/// From TEXTMAP to ENDMAP; or TEXTMAP alone, where another one comes before that, or it never comes.
+pub fn text<'a>(names: impl Iterator<Item = &'a [u8]>) -> usize {
+    let ends = |(_, name): &(usize, &[u8])| matches!(*name, ENDMAP | TEXTMAP);
+    match names.enumerate().skip(1).find(ends) {
+        Some((end, ENDMAP)) => end + 1,
+        _ => 1,
+    }
 }
 
 fn in_order<'a>(names: impl Iterator<Item = &'a [u8]>, lumps: &[&[u8]]) -> usize {
@@ -64,5 +68,6 @@ mod tests {
     fn a_text_map_goes_up_to_its_end() {
         assert_eq!(all(names("TEXTMAP ZNODES REJECT ENDMAP MAP02")), 4);
         assert_eq!(all(names("TEXTMAP ZNODES")), 1);
+        assert_eq!(all(names("TEXTMAP ZNODES MAP02 TEXTMAP ENDMAP")), 1);
     }
 }

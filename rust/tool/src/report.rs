@@ -148,7 +148,8 @@ impl Report {
     pub fn trouble(&mut self, file: &OsStr, words: &str) {
         self.worsen(UNREAD);
         self.progress.hide();
-        complain(&format!("{}: {words}", name::file(file)));
+        let name = if file.is_empty() { "a file without a name".to_string() } else { name::file(file) };
+        complain(&format!("{name}: {words}"));
     }
 
     /// A command that was understood and must not be done.

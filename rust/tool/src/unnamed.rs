@@ -69,11 +69,10 @@ impl Unnamed {
     }
 }
 
-/// Whether an entry stands among the ten behind a marker that is judged, so that the verdict on that map speaks of it. Behind an earlier
-/// map of the same name, only the first may.
+/// Whether a map's verdict speaks of the lumps from an entry on: they stand right behind its marker, or are among the ten there. The ten
+/// count only behind the last marker of a name, which is the one that is judged, and not behind that of a text map.
 fn is_judged(wad: &Wad, names: &[&[u8]], at: usize) -> bool {
     let is_map = |entry: usize| wad::is_map(&name::padded(names[entry]));
-    let is_last = |entry: usize| wad.last(names[entry]) == Some(entry);
-    let covers = |entry: usize| is_map(entry) && (entry + 1 == at || is_last(entry));
-    (at.saturating_sub(LUMPS)..at).any(covers)
+    let has_ten = |entry: usize| wad.last(names[entry]) == Some(entry) && names[entry + 1] != TEXTMAP;
+    (at.saturating_sub(LUMPS)..at).any(|entry| is_map(entry) && (entry + 1 == at || has_ten(entry)))
 }

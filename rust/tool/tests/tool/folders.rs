@@ -99,5 +99,5 @@ fn a_name_of_no_bytes_is_no_file() {
     let folder = maps().and("list", b"maps/z.wad\0\0maps/a.WAD\0");
     let said = folder.run(&["judge", "--files0-from", "list"]);
     assert_eq!((files(&said), said.status), (vec!["maps/z.wad", "maps/a.WAD"], 2));
-    assert_eq!(said.err, "meshpigeon: : No such file or directory\n");
+    assert_eq!(said.err, "meshpigeon: a file without a name: No such file or directory\n");
 }

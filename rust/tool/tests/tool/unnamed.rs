@@ -83,6 +83,18 @@ fn a_text_map_of_another_name_is_said_too() {
 }
 
 #[test]
+fn it_is_said_behind_a_text_map_and_behind_an_earlier_map_of_a_name() {
+    let lumps = |names: &[&[u8; 8]]| lumps(&names.iter().map(|name| (*name, vec![])).collect::<Vec<_>>());
+    let line = |entry: usize| format!("a.wad: entry {entry}, MYMAP, has map lumps behind it but is no map name: {RULE}");
+    let text = lumps(&[b"MAP01\0\0\0", b"TEXTMAP\0", b"ENDMAP\0\0", b"MYMAP\0\0\0", b"THINGS\0\0", b"LINEDEFS"]);
+    let said = Folder::with("a.wad", &text).run(&["judge", "a.wad"]);
+    assert_eq!((said.out.lines().nth(1), said.status), (Some(line(3).as_str()), 1), "{said:?}");
+    let twice = lumps(&[b"MAP01\0\0\0", b"MYMAP\0\0\0", b"THINGS\0\0", b"LINEDEFS", b"MAP01\0\0\0"]);
+    let said = Folder::with("a.wad", &twice).run(&["judge", "a.wad"]);
+    assert_eq!((said.out.lines().nth(1), said.status), (Some(line(1).as_str()), 1), "{said:?}");
+}
+
+#[test]
 fn of_a_pair_it_is_said_whose_it_is() {
     let folder = Folder::with("base.wad", &good()).and("patch.wad", &called(*b"MYMAP\0\0\0"));
     let line = format!("patch.wad: entry 0 of the patch, MYMAP, has map lumps behind it but is no map name: {RULE}");
