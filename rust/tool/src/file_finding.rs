@@ -174,10 +174,16 @@ fn of_directory(start: i32, count: i32, length: usize) -> String {
     match () {
         () if start < HEADER as i32 => {
             let starts = grouped(start.into());
-            format!("the directory starts at byte {starts} by the header: byte 12 or later is allowed. The header is damaged. {SEND_AGAIN}")
+            format!(
+                "the directory starts at byte {starts} by the header: byte 12 or later is allowed. The header is \
+                 damaged. {SEND_AGAIN}"
+            )
         }
         () if end as u64 > MOST_BYTES => {
-            format!("the directory should end at byte {ends} by the header, and the file has {has}. The header is damaged. {SEND_AGAIN}")
+            format!(
+                "the directory should end at byte {ends} by the header, and the file has {has}. The header is \
+                 damaged. {SEND_AGAIN}"
+            )
         }
         () => format!("the file is cut off: its directory should end at byte {ends}, and it has {has}. {SEND_AGAIN}"),
     }

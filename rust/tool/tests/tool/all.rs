@@ -51,9 +51,17 @@ fn the_lines_say_what_the_map_holds_and_not_the_copy() {
     });
     let said = Folder::with("a.wad", &wad).run(&["judge", "--all", "a.wad"]);
     let lines = [
-        "a.wad:MAP01: refused 23 at LINEDEFS 5: linedef 5, from (512, 256) to (512, 0), has right sidedef 99, and this map has sidedefs 0 to 15: give it a new right side".to_string(),
-        format!("a.wad:MAP01: also 24 at SIDEDEFS 0 {ALSO}: sidedef 0, the right side of linedef 0, from (0, 0) to (0, 256), faces sector 4, and this map has sectors 0 to 3: give it a sector that is there"),
-        format!("a.wad:MAP01: also 25 at SEGS 3 {ALSO}: seg 3, from (256, 0) to (0, 0) along linedef 3, is on the left side of a linedef that has none. Build the nodes again."),
+        "a.wad:MAP01: refused 23 at LINEDEFS 5: linedef 5, from (512, 256) to (512, 0), has right sidedef 99, and \
+         this map has sidedefs 0 to 15: give it a new right side"
+            .to_string(),
+        format!(
+            "a.wad:MAP01: also 24 at SIDEDEFS 0 {ALSO}: sidedef 0, the right side of linedef 0, from (0, 0) to \
+             (0, 256), faces sector 4, and this map has sectors 0 to 3: give it a sector that is there"
+        ),
+        format!(
+            "a.wad:MAP01: also 25 at SEGS 3 {ALSO}: seg 3, from (256, 0) to (0, 0) along linedef 3, is on the \
+             left side of a linedef that has none. Build the nodes again."
+        ),
     ];
     said.is(1, &[&lines[0], &lines[1], &lines[2]]);
 }

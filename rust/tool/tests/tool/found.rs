@@ -72,7 +72,10 @@ fn a_base_or_a_palette_that_is_too_long_is_to_be_cut() {
     let folder = Folder::with("a.wad", &good()).and("in.pam", b"");
     File::create(folder.file("big.wad")).and_then(|file| file.set_len(MOST_BYTES + 1)).expect("a sparse file");
     let cut = |what: &str| {
-        format!("the file has 16,777,217 bytes, and at most 16,777,216 are allowed. Cut what you need out of it: meshpigeon extract FILE {what} -o OUT.wad")
+        format!(
+            "the file has 16,777,217 bytes, and at most 16,777,216 are allowed. Cut what you need out of it: \
+             meshpigeon extract FILE {what} -o OUT.wad"
+        )
     };
     let said = folder.run(&["judge", "--base", "big.wad", "a.wad"]);
     said.is(1, &[&format!("a.wad: refused 1 (of the base): {}", cut("MAP"))]);
@@ -142,7 +145,11 @@ fn a_directory_outside_the_file_is_told_with_its_end() {
         "the directory starts at byte 5 by the header: byte 12 or later is allowed. The header is damaged. Send it again.";
     judged(&Folder::with("a.wad", &plan.wad()), words, &[("start", 5), ("count", 11), ("length", end as i64)]);
     plan.start = Some(i32::MAX);
-    let words = format!("the directory should end at byte 2,147,483,823 by the header, and the file has 1,{} bytes. The header is damaged. Send it again.", end - 1_000);
+    let words = format!(
+        "the directory should end at byte 2,147,483,823 by the header, and the file has 1,{} bytes. \
+         The header is damaged. Send it again.",
+        end - 1_000
+    );
     judged(&Folder::with("a.wad", &plan.wad()), &words, &[("start", i64::from(i32::MAX)), ("count", 11), ("length", end as i64)]);
 }
 
@@ -160,13 +167,16 @@ fn an_entry_is_told_with_its_name_offset_and_size() {
         assert!(said.out.contains(&format!(r#""found":{{{members},"length":{length}}}"#)), "{said:?}");
     };
     let folder = with(|entry| entry.size = Some(999_999));
-    let words = "5 at entry 3: entry 3, SIDEDEFS, has offset 204 and size 999,999, and the file has 1,546 bytes. The file is cut off or damaged. Send it again.";
+    let words = "5 at entry 3: entry 3, SIDEDEFS, has offset 204 and size 999,999, and the file has 1,546 bytes. The \
+                 file is cut off or damaged. Send it again.";
     told(&folder, words, r#""name":"SIDEDEFS","offset":204,"size":999999"#);
     let folder = with(|entry| entry.size = Some(-7));
-    let words = "5 at entry 3: entry 3, SIDEDEFS, has offset 204 and size -7: no size is below 0. The directory is damaged. Send it again.";
+    let words = "5 at entry 3: entry 3, SIDEDEFS, has offset 204 and size -7: no size is below 0. The directory is \
+                 damaged. Send it again.";
     told(&folder, words, r#""name":"SIDEDEFS","offset":204,"size":-7"#);
     let folder = with(|entry| entry.offset = Some(11));
-    let words = "5 at entry 3: entry 3, SIDEDEFS, has offset 11 and size 480: a lump starts at byte 12 or later. The directory is damaged. Send it again.";
+    let words = "5 at entry 3: entry 3, SIDEDEFS, has offset 11 and size 480: a lump starts at byte 12 or later. The \
+                 directory is damaged. Send it again.";
     told(&folder, words, r#""name":"SIDEDEFS","offset":11,"size":480"#);
     let rule = r"a name has one to eight of A-Z, 0-9, [ ] - _ and \";
     let folder = with(|entry| entry.name = *b"sidedefs");
@@ -200,7 +210,8 @@ fn a_lump_that_is_cut_off_has_its_size() {
     judged(&with_lump(7, vec![0; 85]), &words, &[("size", 85)]);
     let words = format!("SSECTORS is cut off inside a record: it has 1 byte, which is no multiple of 4. {BUILD}");
     judged(&with_lump(6, vec![0]), &words, &[("size", 1)]);
-    let words = "VERTEXES is cut off inside a record: it has 41 bytes, which is no multiple of 4. The lump is damaged: save the map again.";
+    let words = "VERTEXES is cut off inside a record: it has 41 bytes, which is no multiple of 4. The lump is \
+                 damaged: save the map again.";
     judged(&with_lump(4, vec![0; 41]), words, &[("size", 41)]);
 }
 

@@ -46,7 +46,10 @@ fn a_refused_map_of_hexen_is_said_to_be_one() {
 #[test]
 fn sizes_and_counts_are_those_of_the_game() {
     let cut = |lump: &str, size: usize, record: usize| {
-        format!("{lump} is cut off inside a record: it has {size} bytes, which is no multiple of {record}. The lump is damaged: save the map again.")
+        format!(
+            "{lump} is cut off inside a record: it has {size} bytes, which is no multiple of {record}. The lump \
+             is damaged: save the map again."
+        )
     };
     let said = changed(|plan| plan.entry_at(1).padding = vec![0; 7]).run(&["judge", "a.wad"]);
     said.is(1, &[&format!("a.wad:MAP01: refused 20 at THINGS (Hexen): {}", cut("THINGS", 47, 20))]);

@@ -46,7 +46,11 @@ fn a_shared_child_is_refused_with_its_number_and_lump() {
 fn a_reference_is_refused_with_its_record() {
     let folder = Folder::with("a.wad", &changed(|map| map.sidedefs[7].sector = 4));
     let said = folder.run(&["judge", "a.wad"]);
-    said.is(1, &["a.wad:MAP01: refused 24 at SIDEDEFS 7: sidedef 7, the left side of linedef 5, from (512, 256) to (512, 0), faces sector 4, and this map has sectors 0 to 3: give it a sector that is there"]);
+    said.is(
+        1,
+        &["a.wad:MAP01: refused 24 at SIDEDEFS 7: sidedef 7, the left side of linedef 5, from (512, 256) to \
+           (512, 0), faces sector 4, and this map has sectors 0 to 3: give it a sector that is there"],
+    );
 }
 
 #[test]

@@ -81,7 +81,8 @@ fn gl_nodes_alone_are_named_by_their_marker() {
 fn a_map_that_was_saved_without_nodes_is_told_so() {
     let mut plan = Plan::new(rooms(), MAP_NAME);
     plan.entries.drain(5..8);
-    let words = "the map was saved without nodes: SEGS is missing, and entry 5 is called SECTORS. Save the map with a node builder switched on.";
+    let words = "the map was saved without nodes: SEGS is missing, and entry 5 is called SECTORS. Save the map with a \
+                 node builder switched on.";
     judged(&plan.wad(), "12 at SEGS", words, None);
     let words =
         "the map was saved without nodes: SEGS, SSECTORS and NODES are empty. Save the map with a node builder switched on.";
@@ -90,7 +91,8 @@ fn a_map_that_was_saved_without_nodes_is_told_so() {
 
 #[test]
 fn a_missing_lump_is_told_with_what_was_found() {
-    let order = "Behind the marker come THINGS, LINEDEFS, SIDEDEFS, VERTEXES, SEGS, SSECTORS, NODES, SECTORS, REJECT and BLOCKMAP, in this order.";
+    let order = "Behind the marker come THINGS, LINEDEFS, SIDEDEFS, VERTEXES, SEGS, SSECTORS, NODES, SECTORS, REJECT \
+                 and BLOCKMAP, in this order.";
     let mut plan = Plan::new(rooms(), MAP_NAME);
     plan.entry_at(2).name = *b"OTHER\0\0\0";
     judged(&plan.wad(), "12 at LINEDEFS", &format!("LINEDEFS is missing: entry 2 is called OTHER. {order}"), None);

@@ -103,19 +103,23 @@ fn of_lumps_20_to_22() {
 
 #[test]
 fn of_records_23_to_28() {
-    let words = "23 at LINEDEFS 0: linedef 0, from (0, 0) to (0, 256), is marked two-sided but has no left side: give it one, or clear the flag";
+    let words = "23 at LINEDEFS 0: linedef 0, from (0, 0) to (0, 256), is marked two-sided but has no left side: give \
+                 it one, or clear the flag";
     judged(&changed(|map| map.linedefs[0].flags |= 4), words);
     let words =
         "24 at SIDEDEFS 0: sidedef 0, the right side of linedef 0, from (0, 0) to (0, 256), faces sector 4, and this map has \
-                 sectors 0 to 3: give it a sector that is there";
+         sectors 0 to 3: give it a sector that is there";
     judged(&changed(|map| map.sidedefs[0].sector = 4), words);
     let words = "25 at SEGS 0: seg 0, from (0, 0) to (0, 256), belongs to linedef 13, and this map has linedefs 0 to 12.";
     judged(&changed(|map| map.segs[0].linedef = 13), &format!("{words} {BUILD}"));
-    let words = "26 at SSECTORS 1: subsector 1, whose first seg runs from (256, 0) to (256, 256), has no segs, and it must have at least 1.";
+    let words = "26 at SSECTORS 1: subsector 1, whose first seg runs from (256, 0) to (256, 256), has no segs, and it \
+                 must have at least 1.";
     judged(&changed(|map| map.subsectors[1].number = 0), &format!("{words} {BUILD}"));
-    let words = "27 at NODES 2: node 2, with the partition line from (512, 0) to (512, 256), has subsector 9 as its left child, and this map has subsectors 0 to 3.";
+    let words = "27 at NODES 2: node 2, with the partition line from (512, 0) to (512, 256), has subsector 9 as its \
+                 left child, and this map has subsectors 0 to 3.";
     judged(&changed(|map| map.nodes[2].left = SUBSECTOR_BIT | 9), &format!("{words} {BUILD}"));
-    let words = "28 at BLOCKMAP cell 1: cell 1, the square from (120, -8) to (248, 120), has offset 5, and all lists are in words 31 to 123. \
+    let words = "28 at BLOCKMAP cell 1: cell 1, the square from (120, -8) to (248, 120), has offset 5, and all lists \
+                 are in words 31 to 123. \
                  Nothing is wrong in your drawing: BLOCKMAP is damaged. Build the nodes again.";
     judged(&changed(|map| map.blockmap.offsets[1] = 5), words);
     let words = "28 at BLOCKMAP header: BLOCKMAP has 513 rows by its header, and 1 to 512 are allowed. \
@@ -167,7 +171,8 @@ fn of_walks_40_to_46() {
     told_of(&walk(|nodes| nodes[2].left = 2), &descend, &[], &words);
     let words = "44: a way down passes more than 256 nodes: a draw order follows ways of at most 256";
     told_of(&walk(|nodes| nodes[2].left = 2), &order, &[], words);
-    let words = bad("46: the draw order grows too long: it lists at most one subsector more than there are nodes, each reached by one way only");
+    let words = bad("46: the draw order grows too long: it lists at most one subsector more than there are nodes, \
+                     each reached by one way only");
     let doubled = |nodes: &mut Vec<Node>| {
         let root = nodes[2];
         *nodes = (0..20_u16)
@@ -189,24 +194,31 @@ fn of_pictures_50_to_56() {
     let words =
         "51: the picture's size is wrong: 1 to 320 across and 1 to 200 down are allowed; this one is 321 across and 1 down";
     of(wide.encode(), words);
-    of(vec![106; 4_096], "51: the picture's size is wrong: 1 to 320 across and 1 to 200 down are allowed; its 4,096 bytes look like a flat, which is no picture");
+    of(
+        vec![106; 4_096],
+        "51: the picture's size is wrong: 1 to 320 across and 1 to 200 down are allowed; its 4,096 \
+         bytes look like a flat, which is no picture",
+    );
     of(
         PictureSpec::blank(9, 9).encode()[..20].to_vec(),
         "52: the picture's column offsets run past its end: there are four bytes for each column",
     );
     let mut low = PictureSpec::blank(3, 3);
     low.offsets[2] = 0;
-    let words = "53 at column 2: column 2 starts before the end of the column offsets, or runs past the picture's end: a column is posts \
+    let words = "53 at column 2: column 2 starts before the end of the column offsets, or runs past the picture's \
+                 end: a column is posts \
                  and then the byte 255, all of them inside";
     of(low.encode(), words);
     let mut deep = PictureSpec::blank(2, 3);
     deep.give_column(1, &[Post { start: 2, pixels: vec![1, 2], ignored: [0, 0] }]);
     deep.data.push(255);
-    let words = "54 at column 1: column 1 has a post that starts above the end of the one before it, or ends below the picture's last row: \
+    let words = "54 at column 1: column 1 has a post that starts above the end of the one before it, or ends below \
+                 the picture's last row: \
                  posts go downward and do not overlap";
     of(deep.encode(), words);
     let folder = Folder::with("a.pgm", &[&b"P5 321 1 255\n"[..], &[0; 321]].concat());
-    let words = "56: a picture of that size cannot be written: 1 to 320 across and 1 to 200 down are allowed; this one is 321 across and 1 down";
+    let words = "56: a picture of that size cannot be written: 1 to 320 across and 1 to 200 down are allowed; this \
+                 one is 321 across and 1 down";
     told_of(&folder, &["encode", "a.pgm", "-o", "p.lmp"], &[], words);
 }
 
@@ -216,9 +228,21 @@ fn of_orders_and_comparisons_70_to_76() {
     let order = |list: &[u8], words: &str| {
         told_of(&folder, &["renumber", "a.wad", "MAP01", "-o", "out.wad", "--order", "-"], list, words);
     };
-    order(b"0 0 2", "70: the order lists a node twice, or one that the root does not reach: it must hold each reached node once; here 0 is such a number");
-    order(b"1 0 2 2", "73: the order is too short or too long: it must have as many numbers as there are nodes that the root reaches; here that is 3, and it has 4");
-    order(b"1 2 0", "72: the order does not end with the root: the root, the last of the old nodes, must come last; here it ends with 0, and the root is 2");
+    order(
+        b"0 0 2",
+        "70: the order lists a node twice, or one that the root does not reach: it must hold each reached \
+         node once; here 0 is such a number",
+    );
+    order(
+        b"1 0 2 2",
+        "73: the order is too short or too long: it must have as many numbers as there are nodes that \
+         the root reaches; here that is 3, and it has 4",
+    );
+    order(
+        b"1 2 0",
+        "72: the order does not end with the root: the root, the last of the old nodes, must come last; \
+         here it ends with 0, and the root is 2",
+    );
     let chain = changed(|map| {
         (map.nodes[2].right, map.nodes[0].left) = (SUBSECTOR_BIT, 1);
         map.subsectors.truncate(4);
@@ -243,13 +267,15 @@ fn of_sidedefs_and_indexes_80_to_84() {
     told_of(&folder, &["sidedefs", "4"], &bytes, words);
     let index = meshpigeon::index_build(&good()).expect("an index");
     let check = ["index", "a.wad", "--check", "-"];
-    let words = "82: the index is not of this file: it begins with WIX, has the file's count of entries and its length, and is at least 11 \
+    let words = "82: the index is not of this file: it begins with WIX, has the file's count of entries and its \
+                 length, and is at least 11 \
                  bytes long and 10 for each entry; for this file that is 121 bytes, and it has 120";
     told_of(&folder, &check, &index[..120], words);
     let mut other = index.clone();
     other[3] = 2;
     told_of(&folder, &check, &other, "83: the index has another version: only version 1 is known; this one is of version 2");
-    let words = "84: the index is not the one of this directory: it holds the name and number of each entry once, sorted by name and then by \
+    let words = "84: the index is not the one of this directory: it holds the name and number of each entry once, \
+                 sorted by name and then by \
                  number, with zeros after a name's first zero, and nothing behind them; it has 1 byte too many";
     told_of(&folder, &check, &[&index[..], b"x"].concat(), words);
 }

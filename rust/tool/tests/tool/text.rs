@@ -5,12 +5,12 @@ use crate::support::{good, lumps, Folder, GOOD};
 
 /// A small map of all five kinds.
 const SQUARE: &str = "namespace = \"Doom\";\n\
-    vertex { x = -0.5; y = 64; }\n\
-    Vertex { X = 0.; Y = -0.0; ours = 7; }\n\
-    linedef { v1 = 0; v2 = 1; sidefront = 0; blocking = true; comment = \"a \\\"b\\\"\"; }\n\
-    sidedef { sector = 0; texturemiddle = \"STARTAN3\"; }\n\
-    sector { texturefloor = \"FLOOR4_8\"; textureceiling = \"\"; heightceiling = 0x80; }\n\
-    thing { x = 1.25; y = 2; type = 1; friend = TRUE; }\n";
+                      vertex { x = -0.5; y = 64; }\n\
+                      Vertex { X = 0.; Y = -0.0; ours = 7; }\n\
+                      linedef { v1 = 0; v2 = 1; sidefront = 0; blocking = true; comment = \"a \\\"b\\\"\"; }\n\
+                      sidedef { sector = 0; texturemiddle = \"STARTAN3\"; }\n\
+                      sector { texturefloor = \"FLOOR4_8\"; textureceiling = \"\"; heightceiling = 0x80; }\n\
+                      thing { x = 1.25; y = 2; type = 1; friend = TRUE; }\n";
 
 /// A folder whose a.wad has this text as MAP01.
 fn with(text: impl AsRef<[u8]>) -> Folder {
@@ -21,7 +21,7 @@ fn with(text: impl AsRef<[u8]>) -> Folder {
 
 const SUMMARY: &str =
     "a.wad:MAP01: a text map: its grammar is good, 2 vertices, 1 linedef, 1 sidedef, 1 sector, 1 thing, namespace \"Doom\"; \
-                       its geometry is not judged";
+     its geometry is not judged";
 
 #[test]
 fn a_text_map_is_summed_up_and_its_blocks_told() {
@@ -34,7 +34,8 @@ fn a_text_map_is_summed_up_and_its_blocks_told() {
             "linedef 0: id 0, v1 0, v2 1, blocking, special 0, arg0 0, arg1 0, arg2 0, arg3 0, arg4 0, sidefront 0, sideback -1, \
              comment \"a \\\\\\\"b\\\\\\\"\"",
             "sidedef 0: offsetx 0, offsety 0, texturemiddle \"STARTAN3\", sector 0",
-            "sector 0: heightfloor 0, heightceiling 128, texturefloor \"FLOOR4_8\", textureceiling \"\", lightlevel 160, special 0, id 0",
+            "sector 0: heightfloor 0, heightceiling 128, texturefloor \"FLOOR4_8\", textureceiling \"\", lightlevel \
+             160, special 0, id 0",
             "thing 0: id 0, x 1.25, y 2, height 0, angle 0, type 1, friend, special 0, arg0 0, arg1 0, arg2 0, arg3 0, arg4 0",
         ],
     );
@@ -42,7 +43,8 @@ fn a_text_map_is_summed_up_and_its_blocks_told() {
 
 #[test]
 fn a_text_without_blocks_or_namespace_says_so() {
-    let said = "a.wad:MAP01: a text map: its grammar is good, 0 vertices, 0 linedefs, 0 sidedefs, 0 sectors, 0 things, no namespace; its \
+    let said = "a.wad:MAP01: a text map: its grammar is good, 0 vertices, 0 linedefs, 0 sidedefs, 0 sectors, 0 \
+                things, no namespace; its \
                 geometry is not judged";
     for text in ["", "// nothing\n", "vertex = 1;"] {
         with(text).run(&["text", "a.wad", "MAP01"]).is(0, &[said]);

@@ -85,7 +85,8 @@ fn long_and_hostile_words_are_shown_safely() {
 fn what_is_not_closed_is_shown_where_it_opened() {
     let folder = with("a = 1;\nb = \"open;\nc = 2;\n");
     let lines = [
-        "a.wad:MAP01: refused 90 at TEXTMAP 4:1: the string that opens at 2:5 is not closed: expected `\"`, found the end of the text",
+        "a.wad:MAP01: refused 90 at TEXTMAP 4:1: the string that opens at 2:5 is not closed: expected `\"`, found the \
+         end of the text",
         "    ",
         "    ^",
         "    the string opens at 2:5:",

@@ -41,6 +41,11 @@ fn refused(wad: &[u8], words: &str, reason: &Value) {
     assert_eq!(value(&said, "text"), text(sentence));
 }
 
+/// What is said where the nodes are at fault.
+fn nodes(words: &str) -> String {
+    format!("{words}. Nothing is wrong in your drawing: the nodes are damaged. Build the nodes again.")
+}
+
 /// The same of the four rooms after a change, in both games; `at` is the place with its number, and the offset may be another in Hexen.
 fn named(change: fn(&mut MapSpec), at: &str, sentence: &str, (name, numbers): Field, hexen_offset: i64) {
     let spoilt = |mut map: MapSpec| {
@@ -70,11 +75,13 @@ fn a_linedefs_vertices_are_named() {
 #[test]
 fn a_linedefs_sidedefs_are_named() {
     let at = "23 at LINEDEFS 5";
-    let words = "linedef 5, from (512, 256) to (512, 0), has right sidedef 16, and this map has sidedefs 0 to 15: give it a new right side";
+    let words = "linedef 5, from (512, 256) to (512, 0), has right sidedef 16, and this map has sidedefs 0 to 15: \
+                 give it a new right side";
     named(|map| map.linedefs[5].right = 16, at, words, ("right", [10, 16, 0, 15]), 12);
     let words = "linedef 5, from (512, 256) to (512, 0), has a left side but no right side: flip it, or give it a right side";
     named(|map| map.linedefs[5].right = NO_SIDEDEF, at, words, ("right", [10, 65_535, 0, 15]), 12);
-    let words = "linedef 5, from (512, 256) to (512, 0), has left sidedef 812, and this map has sidedefs 0 to 15: give it a new left side, or none";
+    let words = "linedef 5, from (512, 256) to (512, 0), has left sidedef 812, and this map has sidedefs 0 to 15: \
+                 give it a new left side, or none";
     named(|map| map.linedefs[5].left = 812, at, words, ("left", [12, 812, 0, 15]), 14);
 }
 
@@ -105,65 +112,91 @@ fn the_first_field_in_byte_order_is_named() {
 
 #[test]
 fn a_sidedefs_sector_is_named() {
-    let words = "sidedef 7, the left side of linedef 5, from (512, 256) to (512, 0), faces sector 4, and this map has sectors 0 to 3: give it a sector that is there";
+    let words = "sidedef 7, the left side of linedef 5, from (512, 256) to (512, 0), faces sector 4, and this map has \
+                 sectors 0 to 3: give it a sector that is there";
     named_alike(|map| map.sidedefs[7].sector = 4, "24 at SIDEDEFS 7", words, ("sector", [28, 4, 0, 3]));
     let one = |map: &mut MapSpec| {
         (map.sectors, map.reject) = (vec![map.sectors[0]], vec![0]);
     };
-    let words = "sidedef 3, the left side of linedef 2, from (256, 256) to (256, 0), faces sector 1, and this map has sector 0 alone: give it a sector that is there";
+    let words = "sidedef 3, the left side of linedef 2, from (256, 256) to (256, 0), faces sector 1, and this map has \
+                 sector 0 alone: give it a sector that is there";
     named_alike(one, "24 at SIDEDEFS 3", words, ("sector", [28, 1, 0, 0]));
 }
 
 #[test]
 fn a_segs_fields_are_named() {
     let at = "25 at SEGS 3";
-    let words = "seg 3, which ends at (0, 0) along linedef 3, starts at vertex 10, and this map has vertices 0 to 9. Nothing is wrong in your drawing: the nodes are damaged. Build the nodes again.";
+    let words = &nodes("seg 3, which ends at (0, 0) along linedef 3, starts at vertex 10, and this map has vertices 0 to 9");
     named_alike(|map| map.segs[3].start = 10, at, words, ("start", [0, 10, 0, 9]));
-    let words = "seg 3, which starts at (256, 0) along linedef 3, ends at vertex 11, and this map has vertices 0 to 9. Nothing is wrong in your drawing: the nodes are damaged. Build the nodes again.";
+    let words = &nodes("seg 3, which starts at (256, 0) along linedef 3, ends at vertex 11, and this map has vertices 0 to 9");
     named_alike(|map| map.segs[3].end = 11, at, words, ("end", [2, 11, 0, 9]));
-    let words = "seg 3, from (256, 0) to (0, 0), belongs to linedef 13, and this map has linedefs 0 to 12. Nothing is wrong in your drawing: the nodes are damaged. Build the nodes again.";
+    let words = &nodes("seg 3, from (256, 0) to (0, 0), belongs to linedef 13, and this map has linedefs 0 to 12");
     named_alike(|map| map.segs[3].linedef = 13, at, words, ("linedef", [6, 13, 0, 12]));
 }
 
 #[test]
 fn a_segs_direction_is_named_by_its_linedefs_sides() {
-    let words = "seg 2, from (256, 256) to (256, 0) along linedef 2, has direction 2, and it must be 0 or 1. Nothing is wrong in your drawing: the nodes are damaged. Build the nodes again.";
+    let words = &nodes("seg 2, from (256, 256) to (256, 0) along linedef 2, has direction 2, and it must be 0 or 1");
     named_alike(|map| map.segs[2].direction = 2, "25 at SEGS 2", words, ("direction", [8, 2, 0, 1]));
-    let words = "seg 3, from (256, 0) to (0, 0) along linedef 3, is on the left side of a linedef that has none. Nothing is wrong in your drawing: the nodes are damaged. Build the nodes again.";
+    let words = &nodes("seg 3, from (256, 0) to (0, 0) along linedef 3, is on the left side of a linedef that has none");
     named_alike(|map| map.segs[3].direction = 1, "25 at SEGS 3", words, ("direction", [8, 1, 0, 0]));
-    let words = "seg 3, from (256, 0) to (0, 0) along linedef 3, has direction 65535, and along a linedef without a left side it must be 0. Nothing is wrong in your drawing: the nodes are damaged. Build the nodes again.";
+    let words = &nodes(
+        "seg 3, from (256, 0) to (0, 0) along linedef 3, has direction 65535, and along a linedef \
+         without a left side it must be 0",
+    );
     named_alike(|map| map.segs[3].direction = 65_535, "25 at SEGS 3", words, ("direction", [8, 65_535, 0, 0]));
 }
 
 #[test]
 fn a_subsectors_segs_are_named() {
     let at = "26 at SSECTORS 2";
-    let words = "subsector 2, whose first seg runs from (512, 0) to (512, 256), has no segs, and it must have at least 1. Nothing is wrong in your drawing: the nodes are damaged. Build the nodes again.";
+    let words = &nodes("subsector 2, whose first seg runs from (512, 0) to (512, 256), has no segs, and it must have at least 1");
     named_alike(|map| map.subsectors[2].number = 0, at, words, ("number", [0, 0, 1, 16]));
-    let words = "subsector 2, whose first seg runs from (512, 0) to (512, 256), has 65,535 segs, and this map has 16. Nothing is wrong in your drawing: the nodes are damaged. Build the nodes again.";
+    let words = &nodes("subsector 2, whose first seg runs from (512, 0) to (512, 256), has 65,535 segs, and this map has 16");
     named_alike(|map| map.subsectors[2].number = 65_535, at, words, ("number", [0, 65_535, 1, 16]));
-    let words = "subsector 2, whose first seg runs from (768, 256) to (1024, 256), has 4 segs from seg 13 on, and this map has segs 0 to 15. Nothing is wrong in your drawing: the nodes are damaged. Build the nodes again.";
+    let words = &nodes(
+        "subsector 2, whose first seg runs from (768, 256) to (1024, 256), has 4 segs from seg 13 on, \
+         and this map has segs 0 to 15",
+    );
     named_alike(|map| map.subsectors[2].first = 13, at, words, ("first", [2, 13, 0, 12]));
-    let words = "subsector 2, whose first seg runs from (512, 0) to (512, 256), has 16 segs from seg 8 on, and this map has segs 0 to 15. Nothing is wrong in your drawing: the nodes are damaged. Build the nodes again.";
+    let words = &nodes(
+        "subsector 2, whose first seg runs from (512, 0) to (512, 256), has 16 segs from seg 8 on, and \
+         this map has segs 0 to 15",
+    );
     named_alike(|map| map.subsectors[2].number = 16, at, words, ("first", [2, 8, 0, 0]));
 }
 
 #[test]
 fn a_nodes_children_are_named_by_their_kind() {
     let at = "27 at NODES 1";
-    let words = "node 1, with the partition line from (768, 0) to (768, 256), has node 3 as its right child, and this map has nodes 0 to 2. Nothing is wrong in your drawing: the nodes are damaged. Build the nodes again.";
+    let words = &nodes(
+        "node 1, with the partition line from (768, 0) to (768, 256), has node 3 as its right child, \
+         and this map has nodes 0 to 2",
+    );
     named_alike(|map| map.nodes[1].right = 3, at, words, ("right", [24, 3, 0, 2]));
-    let words = "node 1, with the partition line from (768, 0) to (768, 256), has node 32767 as its left child, and this map has nodes 0 to 2. Nothing is wrong in your drawing: the nodes are damaged. Build the nodes again.";
+    let words = &nodes(
+        "node 1, with the partition line from (768, 0) to (768, 256), has node 32767 as its left \
+         child, and this map has nodes 0 to 2",
+    );
     named_alike(|map| map.nodes[1].left = 32_767, at, words, ("left", [26, 32_767, 0, 2]));
-    let words = "node 1, with the partition line from (768, 0) to (768, 256), has subsector 4 as its right child, and this map has subsectors 0 to 3. Nothing is wrong in your drawing: the nodes are damaged. Build the nodes again.";
+    let words = &nodes(
+        "node 1, with the partition line from (768, 0) to (768, 256), has subsector 4 as its right \
+         child, and this map has subsectors 0 to 3",
+    );
     named_alike(|map| map.nodes[1].right = SUBSECTOR_BIT | 4, at, words, ("right", [24, 32_772, 32_768, 32_771]));
-    let words = "node 1, with the partition line from (768, 0) to (768, 256), has subsector 32767 as its left child, and this map has subsectors 0 to 3. Nothing is wrong in your drawing: the nodes are damaged. Build the nodes again.";
+    let words = &nodes(
+        "node 1, with the partition line from (768, 0) to (768, 256), has subsector 32767 as its left \
+         child, and this map has subsectors 0 to 3",
+    );
     named_alike(|map| map.nodes[1].left = 65_535, at, words, ("left", [26, 65_535, 32_768, 32_771]));
     let alone = |map: &mut MapSpec| {
         map.nodes.truncate(1);
         map.nodes[0].left = 1;
     };
-    let words = "node 0, with the partition line from (256, 0) to (256, 256), has node 1 as its left child, and this map has node 0 alone. Nothing is wrong in your drawing: the nodes are damaged. Build the nodes again.";
+    let words = &nodes(
+        "node 0, with the partition line from (256, 0) to (256, 256), has node 1 as its left child, \
+         and this map has node 0 alone",
+    );
     named_alike(alone, "27 at NODES 0", words, ("left", [26, 1, 0, 0]));
 }
 
@@ -274,14 +307,14 @@ fn the_request_has_two_examples() {
     });
     let words =
         "23 at LINEDEFS 5: linedef 5, from (512, 256) to (512, 0), has left sidedef 812, and this map has sidedefs 0 to 640: \
-                 give it a new left side, or none";
+         give it a new left side, or none";
     refused(&left, words, &field(("left", [12, 812, 0, 640])));
     let child = changed(|map| {
         map.nodes.resize(32, map.nodes[0]);
         map.nodes[17].left = 40;
     });
-    let words =
-        "27 at NODES 17: node 17, with the partition line from (256, 0) to (256, 256), has node 40 as its left child, and this map has \
+    let words = "27 at NODES 17: node 17, with the partition line from (256, 0) to (256, 256), has node 40 as its left child, \
+                 and this map has \
                  nodes 0 to 31. Nothing is wrong in your drawing: the nodes are damaged. Build the nodes again.";
     refused(&child, words, &field(("left", [26, 40, 0, 31])));
 }
@@ -289,7 +322,7 @@ fn the_request_has_two_examples() {
 /// What is said of every loop before its way.
 const LOOP: &str =
     "31 at NODES: the nodes turn back on themselves: some way down from the root never ends. Nothing is wrong in your \
-                    drawing: the nodes are damaged. Build the nodes again. From the root go";
+     drawing: the nodes are damaged. Build the nodes again. From the root go";
 
 fn way(letters: &str, node: i64) -> Value {
     members([("way", text(letters)), ("node", Value::Number(node))])
@@ -379,7 +412,8 @@ fn the_reason_is_that_of_the_maps_own_file() {
         .and("good.wad", &good())
         .and("empty.wad", &lumps(&[]))
         .and("loop.wad", &changed(|map| map.nodes[1].right = 2));
-    let words = "linedef 5, from (512, 256) to (512, 0), has left sidedef 812, and this map has sidedefs 0 to 15: give it a new left side, or none";
+    let words = "linedef 5, from (512, 256) to (512, 0), has left sidedef 812, and this map has sidedefs 0 to 15: \
+                 give it a new left side, or none";
     let line = |patch: &str, of: &str| format!("{patch}:MAP01: refused 23 at LINEDEFS 5 (of the {of}): {words}");
     folder.run(&["judge", "--base", "good.wad", "bad.wad"]).is(1, &[&line("bad.wad", "patch")]);
     folder.run(&["judge", "--base", "bad.wad", "empty.wad"]).is(1, &[&line("empty.wad", "base")]);
