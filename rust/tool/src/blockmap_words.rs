@@ -29,8 +29,7 @@ pub fn words(cell: usize, name: &str, field: Field, look: &Look) -> String {
         "zero" => format!("the list of {} begins with {}, and it must begin with 0", of_cell(cell, look), field.number),
         _ => {
             let there = range("linedef", "linedefs", field.least, field.most);
-            let byte = grouped(field.offset.into());
-            format!("the list of {} has linedef {} at byte {byte}, and this map has {there}", of_cell(cell, look), field.number)
+            format!("the list of {} has linedef {}, and this map has {there}", of_cell(cell, look), field.number)
         }
     }
 }

@@ -77,13 +77,13 @@ fn of_subsector(index: usize, subsector: Subsector, name: &str, look: &Look) -> 
         Some((start, end)) => format!("subsector {index}, whose first seg runs {},", from_to(start, end)),
         None => format!("subsector {index}"),
     };
-    let segs = counted(usize::from(subsector.number), "seg");
-    match (name, subsector.number) {
+    let [number, first] = [subsector.number, subsector.first].map(usize::from);
+    match (name, number) {
         (_, 0) => format!("{who} has no segs, and it must have at least 1"),
-        ("number", _) => format!("{who} has {segs}, and this map has {}", grouped(look.segs() as i128)),
+        ("number", _) => format!("{who} has {}, and this map has {}", counted(number, "seg"), grouped(look.segs() as i128)),
         _ => {
-            let last = look.segs().saturating_sub(1);
-            format!("{who} has {segs} from seg {} on, and this map has segs 0 to {last}", subsector.first)
+            let (last, most) = (first + number - 1, look.segs().saturating_sub(1));
+            format!("{who} has segs {first} to {last}, and this map has segs 0 to {most}")
         }
     }
 }

@@ -155,12 +155,11 @@ fn a_subsectors_segs_are_named() {
     let words = &nodes("subsector 2, whose first seg runs from (512, 0) to (512, 256), has 65,535 segs, and this map has 16");
     named_alike(|map| map.subsectors[2].number = 65_535, at, words, ("number", [0, 65_535, 1, 16]));
     let words = &nodes(
-        "subsector 2, whose first seg runs from (768, 256) to (1024, 256), has 4 segs from seg 13 on, \
-         and this map has segs 0 to 15",
+        "subsector 2, whose first seg runs from (768, 256) to (1024, 256), has segs 13 to 16, and this map has segs 0 to 15",
     );
     named_alike(|map| map.subsectors[2].first = 13, at, words, ("first", [2, 13, 0, 12]));
     let words = &nodes(
-        "subsector 2, whose first seg runs from (512, 0) to (512, 256), has 16 segs from seg 8 on, and \
+        "subsector 2, whose first seg runs from (512, 0) to (512, 256), has segs 8 to 23, and \
          this map has segs 0 to 15",
     );
     named_alike(|map| map.subsectors[2].number = 16, at, words, ("first", [2, 8, 0, 0]));
@@ -266,15 +265,14 @@ fn a_cells_list_is_named() {
     let words = format!("{at} begins with 12, and it must begin with 0. {BUILD}");
     let bytes = blockmap(2, &[6, 8, 0, 65_535, 12, 65_535]);
     refused(&with_blockmap(bytes), &words, &field(("zero", [16, 12, 0, 0])));
-    let words = format!("{at} has linedef 13 at byte 20, and this map has linedefs 0 to 12. {BUILD}");
+    let words = format!("{at} has linedef 13, and this map has linedefs 0 to 12. {BUILD}");
     let bytes = blockmap(2, &[6, 8, 0, 65_535, 0, 12, 13, 14, 65_535]);
     refused(&with_blockmap(bytes), &words, &field(("linedef", [20, 13, 0, 12])));
-    let words =
-        "28 at BLOCKMAP cell 2 (Hexen): the list of cell 2, the square from (248, -8) to (376, 120), has linedef 13 at byte ";
+    let words = "28 at BLOCKMAP cell 2 (Hexen): the list of cell 2, the square from (248, -8) to (376, 120), has linedef 13";
     let mut map = hexen_rooms();
     map.blockmap.give_list(2, &[0, 13, 65_535]);
     let byte = 2 * i64::from(map.blockmap.offsets[2]) + 2;
-    let words = format!("{words}{byte}, and this map has linedefs 0 to 12. {BUILD}");
+    let words = format!("{words}, and this map has linedefs 0 to 12. {BUILD}");
     refused(&Plan::wad_of(map), &words, &field(("linedef", [byte, 13, 0, 12])));
 }
 
@@ -295,7 +293,7 @@ fn the_leading_0_is_told_from_the_only_linedef() {
     let words = format!("{at} begins with 3, and it must begin with 0. {BUILD}");
     refused(&one(&[3, 65_535]), &words, &field(("zero", [start, 3, 0, 0])));
     let byte = start + 2;
-    let words = format!("{at} has linedef 3 at byte {byte}, and this map has linedef 0 alone. {BUILD}");
+    let words = format!("{at} has linedef 3, and this map has linedef 0 alone. {BUILD}");
     refused(&one(&[0, 3, 65_535]), &words, &field(("linedef", [byte, 3, 0, 0])));
 }
 
