@@ -70,8 +70,9 @@ fn unfit<T>(words: impl Into<String>) -> Result<T, Flaw> {
 }
 
 fn cut(mut file: File, asked: &[u8]) -> Result<Cut, Flaw> {
+    let header = header(&mut file)?;
     let length = file.seek(SeekFrom::End(0))?;
-    let entries = directory(&mut file, length)?;
+    let entries = directory(&mut file, &header, length)?;
     let Some(first) = entries.iter().rposition(|entry| name::cut(&entry.name) == name::cut(asked)) else {
         return unfit(lacks(&entries, asked));
     };
@@ -83,16 +84,19 @@ fn cut(mut file: File, asked: &[u8]) -> Result<Cut, Flaw> {
     Ok(Cut { names: wanted.iter().map(|entry| padded(name::cut(&entry.name))).collect(), lumps })
 }
 
-/// All entries. A directory that the file has no room for is not looked at.
-fn directory(file: &mut File, length: u64) -> Result<Vec<Entry>, Flaw> {
+/// The header of a WAD file.
+fn header(file: &mut File) -> Result<[u8; HEADER as usize], Flaw> {
     let mut header = [0; HEADER as usize];
-    file.seek(SeekFrom::Start(0))?;
     match file.read_exact(&mut header) {
-        Err(error) if error.kind() != io::ErrorKind::UnexpectedEof => return Err(error.into()),
-        Ok(()) if matches!(&header[..4], b"IWAD" | b"PWAD") => {}
-        _ => return unfit("this is no WAD file: a WAD file begins with IWAD or PWAD"),
+        Err(error) if error.kind() != io::ErrorKind::UnexpectedEof => Err(error.into()),
+        Ok(()) if matches!(&header[..4], b"IWAD" | b"PWAD") => Ok(header),
+        _ => unfit("this is no WAD file: a WAD file begins with IWAD or PWAD"),
     }
-    let [count, start] = [4, 8].map(|at| number_at(&header, at));
+}
+
+/// All entries. A directory that the file has no room for is not looked at.
+fn directory(file: &mut File, header: &[u8], length: u64) -> Result<Vec<Entry>, Flaw> {
+    let [count, start] = [4, 8].map(|at| number_at(header, at));
     let end = i64::from(start) + ENTRY as i64 * i64::from(count);
     if count < 0 || start < HEADER as i32 || end > length as i64 {
         let (end, length) = (grouped(end.into()), grouped(length.into()));
