@@ -175,11 +175,14 @@ impl Refusal {
         match self.number {
             70 => write!(
                 out,
-                "the order names a node twice, or a number that is no node which the root reaches: it must hold each reached node once"
+                "the order lists a node twice, or one that the root does not reach: it must hold each reached node once"
             ),
             71 => write!(out, "the order has a child behind its parent: every child that is a node must come before its parent"),
             72 => write!(out, "the order does not end with the root: the root, the last of the old nodes, must come last"),
-            73 => write!(out, "the order is too short or too long: it must have as many numbers as there are nodes that the root reaches"),
+            73 => write!(
+                out,
+                "the order is too short or too long: it must have as many numbers as there are nodes that the root reaches"
+            ),
             _ => write!(out, "the output is too short for the new NODES: they have 28 bytes for each node of the order"),
         }
     }
