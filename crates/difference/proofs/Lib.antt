@@ -1,4 +1,4 @@
--- The laws of changed records. The laws of differences. Assumes nothing.
+-- The laws of changed records and of differences between maps. Assumes nothing.
 
 pub mod Laying
 pub mod Comparing

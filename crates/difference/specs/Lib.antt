@@ -1,4 +1,4 @@
--- Which records of a lump changed. What changed between two maps. Assumes nothing.
+-- Which records of a lump changed, and what changed between two maps. Assumes nothing.
 
 pub mod Records
 pub mod Inner

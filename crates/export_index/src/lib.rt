@@ -1,4 +1,4 @@
-// A name index beside a file: its full check, and the lookup by it.
+// A name index beside a file: its full check, the lookup by it, and (`build`) the index built.
 mod build;
 
 ghost use mathlib.Core.Path.{_≡_};

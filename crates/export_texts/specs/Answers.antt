@@ -5,20 +5,15 @@ use mathlib.Core.List.{List}
 use mathlib.Core.Path.{_≡_}
 use lib.IntN.{ℤ}
 use Rattle.text_token.specs.Tokens.{bytesOf}
-use Rattle.text_table.specs.declared.scope.Scope.{Scope}
 use Rattle.text_table.specs.declared.scope.Scope.the-variants.{Vertex, Linedef, Sidedef, Sector, Thing}
 use Rattle.text_table.specs.Table.{defaultOf}
-use Rattle.text_block.specs.declared.Counts.{Counts}
 use Rattle.text_record.specs.Records.{textVertexOf, textLinedefOf, textSidedefOf, textSectorOf, textThingOf}
-use Rattle.text_map.specs.declared.TextSummary.{TextSummary}
 use Rattle.text_map.specs.declared.TextAnswer.{TextAnswer}
 use Rattle.text_map.specs.declared.TextAnswer.the-variants.{Summary, Refused as NoSummary}
-use Rattle.text_map.specs.declared.TextBlock.{TextBlock}
 use Rattle.text_map.specs.declared.BlockAnswer.{BlockAnswer}
 use Rattle.text_map.specs.declared.BlockAnswer.the-variants.{Block, Refused as NoBlock}
 use Rattle.text_map.specs.declared.BlockFields.{BlockFields}
 use Rattle.text_map.specs.Answers.{textAnswer, blockAnswer, nextFrom, blockFields, blockPlaces, rowsBy, numbered, firstFrom, idBy, idOf}
-use Rattle.refusal.specs.declared.status.Status.{Status}
 use Rattle.refusal.specs.Status.{accepted, refused, statusOf}
 use Rattle.export_texts.specs.declared.TextMapAnswer.{TextMapAnswer}
 use Rattle.export_texts.specs.declared.TextBlockAnswer.{TextBlockAnswer}

@@ -1,8 +1,7 @@
 -- What stands where in an index. Assumes nothing.
-use Prim.Native.Nat.{ℕ, _+_, _*_, _/_, _%_, _≤_, _<_}
-use mathlib.Core.List.{List, [], _∷_, _++_}
+use Prim.Native.Nat.{ℕ, _+_, _*_, _/_, _%_, _<_}
+use mathlib.Core.List.{List}
 use mathlib.Core.Path.{_≡_, refl, sym, ap, _∙_}
-use native.Mathlib.Nat.{mul-suc, mul-le-mul-left}
 use native.Mathlib.Omega.{arith}
 use lib.ListN.{length, getD, take, drop, length-append}
 use lib.Seq.{take-take, take-at, drop-append-add, getD-take, getD-drop, getD-append-add}
@@ -14,7 +13,7 @@ use Rattle.wad.specs.Slices.{part}
 use Rattle.wad.specs.Header.{headOf, entryCount}
 use Rattle.wad.specs.Entries.{directoryOf, entryName}
 use Rattle.index.specs.declared.IndexRecord.{IndexRecord}
-use Rattle.index.specs.Records.{noRecord, recordAt, padded, indexOf}
+use Rattle.index.specs.Records.{noRecord}
 use Rattle.index.specs.Index.{indexMark, countPlace, lengthPlace, versionPlace, indexRecordSize, recordOffset, indexHead, indexRecordBytes, sortedRecords, indexBytes}
 use Rattle.index.proofs.Padded.{padded-length}
 use Rattle.index.proofs.Holds.{index-holds}

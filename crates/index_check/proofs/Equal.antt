@@ -4,20 +4,20 @@ use mathlib.Core.Bool.{Bool, true, false, cond}
 use mathlib.Core.List.{List, [], _∷_, _++_}
 use mathlib.Core.Path.{_≡_, refl, sym, ap, _∙_, subst}
 use native.Mathlib.Nat.{le-of-suc-le-suc, mul-suc}
-use native.Mathlib.Numerals.{add-one}
 use native.Mathlib.Omega.{arith}
 use borrow.Author.Tests.{ltb-true, lt-ltb, eqb-true, eq-eqb, ne-eqb}
 use lib.Dec.{ltb, eqb}
 use lib.ListN.{length, getD, take, drop, length-drop, take-append-drop}
 use lib.Seq.{take-all, take-add, drop-drop}
+use Rattle.index.proofs.Sorting.{precedes-trans}
 use Rattle.endian.specs.Unsigned.{Bytes, u16At, u16Bytes, u32Bytes}
 use Rattle.endian.proofs.Unsigned.{u16At-fits}
 use Rattle.refusal.specs.declared.Check.{Check}
 use Rattle.refusal.specs.declared.Check.the-variants.{Pass, Refused}
 use Rattle.refusal.specs.declared.Refusal.{Refusal}
 use Rattle.refusal.specs.declared.Refusal.the-variants.{IndexEntries}
-use Rattle.refusal.specs.Checks.{unless, each}
-use Rattle.refusal.proofs.Checks.{both, andThen-pass, andThen-by, unless-pass, unless-named, each-none, each-more, each-pass, each-by}
+use Rattle.refusal.specs.Checks.{unless}
+use Rattle.refusal.proofs.Checks.{both, andThen-pass, andThen-by, unless-pass, unless-named, each-pass, each-by, each-all}
 use Rattle.layout.specs.Rows.{laidOut}
 use Rattle.layout.proofs.LaidOut.{laid-none, laid-suc, laid-same}
 use Rattle.name.specs.Names.{sameBytes}
@@ -29,7 +29,7 @@ use Rattle.index.specs.declared.IndexRecord.{IndexRecord}
 use Rattle.index.specs.Records.{noRecord, padded, precedes, indexOf}
 use Rattle.index.specs.Index.{versionPlace, recordOffset, indexHead, indexRecordBytes, sortedRecords, indexBytes}
 use Rattle.index.specs.Promises.{Ascending, OfEntries}
-use Rattle.index.proofs.Orders.{not-both, precedes-asym, precedes-between}
+use Rattle.index.proofs.Orders.{not-both}
 use Rattle.index.proofs.Holds.{index-holds}
 use Rattle.index.proofs.Bytes.{index-size, name-at, number-at}
 use Rattle.index_check.specs.Inner.{recordIn, entryOk, orderOk, recordOk, eachRecord, recordsCheck}
@@ -43,13 +43,6 @@ laid-take f size (suc n) xs h =
     let first = laid-take f size n xs (λ i l. h i (omega arith)) in
     let last = h n (omega arith) in
     ap (λ (k : ℕ). take k xs) (mul-suc size n) ∙ take-add (size * n) size xs ∙ (λ i. first i ++ last i) ∙ sym (laid-suc f n)
-
-precedes-trans : (a b c : IndexRecord) → precedes a b ≡ true → precedes b c ≡ true → precedes a c ≡ true
-precedes-trans a b c p q = precedes-between a c b p (precedes-asym b c q)
-
-each-all : (f : ℕ → Check) (n : ℕ) → ((i : ℕ) → i < n → f i ≡ Pass) → each f n ≡ Pass
-each-all f zero h = each-none f
-each-all f (suc n) h = subst (λ (k : ℕ). each f k ≡ Pass) (add-one n) (each-more f n (each-all f n (λ i l. h i (omega arith))) refl (h n (omega arith)))
 
 order-suc : (index : List ℕ) (i : ℕ) → orderOk index (suc i) ≡ precedes (recordIn index i) (recordIn index (suc i))
 order-suc index i =

@@ -16,8 +16,7 @@ use Rattle.name.proofs.Bytes.{same-equal}
 use Rattle.wad.specs.Header.{headOf, entryCount}
 use Rattle.wad.specs.Entries.{fileCheck}
 use Rattle.index.specs.Index.{indexMark, versionPlace, countPlace, lengthPlace, recordOffset}
-use Rattle.index_check.specs.Checking.{indexHeadOk, versionOk, indexHeadCheck}
-use Rattle.index_check.specs.Checking.{headOk}
+use Rattle.index_check.specs.Checking.{indexHeadOk, versionOk, indexHeadCheck, headOk}
 
 -- the four tests of 82
 pub record Headed (count len : ℕ) (index : List ℕ) : Type 0 where

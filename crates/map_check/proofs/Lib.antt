@@ -1,4 +1,4 @@
--- The laws of the checks of a map's lumps. The laws of the map check. Assumes nothing.
+-- The laws of the map check. Assumes nothing.
 
 pub mod CountsPassing
 pub mod Passing

@@ -1,5 +1,4 @@
--- The checks of a map's lumps: sizes, references, BLOCKMAP and work words. The map check: the node graph behind the checks
--- of a map's lumps. Assumes nothing.
+-- The map check: sizes, references, BLOCKMAP, work words, and then the node graph. Assumes nothing.
 
 pub mod References
 pub mod Lumps

@@ -1,4 +1,4 @@
--- The laws of a map's lumps by their places. The laws of a map's game. Assumes nothing.
+-- The laws of a map's lumps by their places, and of its game. Assumes nothing.
 
 pub mod Places
 pub mod Telling

@@ -1,4 +1,4 @@
--- A map's ten lumps. The order of a map's lumps, and its game. The sizes of a map's lumps. Assumes nothing.
+-- A map's ten lumps: their order, the map's game, and their sizes. Assumes nothing.
 
 pub mod Lumps
 pub mod Run

@@ -1,4 +1,5 @@
-// The ten lumps of a map, as parts of the file. The definitions are in specs/.
+// The ten lumps of a map as parts of the file; their names and the map's game (`run`); their sizes and counts (`size`). The
+// definitions are in specs/.
 mod run;
 mod size;
 

@@ -1,5 +1,5 @@
 -- A NODES lump as a graph: each node's two children, and the root (01, "The node graph"; a node's fields are those of
--- `built`). A child is a 16-bit word. Past the lump's end a byte reads as 0. Assumes nothing.
+-- `record`). A child is a 16-bit word. Past the lump's end a byte reads as 0. Assumes nothing.
 use Prim.Native.Nat.{ℕ, zero, suc, _-_, _/_}
 use mathlib.Core.Bool.{Bool, _&&_, cond}
 use mathlib.Core.List.{List}

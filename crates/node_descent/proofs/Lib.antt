@@ -1,4 +1,4 @@
--- The laws of coordinates. The laws of the descent. Assumes nothing.
+-- The laws of coordinates and of the descent. Assumes nothing.
 
 pub mod Coordinates
 pub mod Walks

@@ -1,4 +1,4 @@
--- The side of a point. The plain walk and the descent. Assumes nothing.
+-- The side of a point by a line, the plain walk and the descent. Assumes nothing.
 
 pub mod Side
 pub mod Walks

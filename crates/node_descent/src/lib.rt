@@ -1,4 +1,4 @@
-// The descent of a point to its subsector. The definitions are in specs/.
+// The descent of a point to its subsector; `side` says on which side of a line the point is. The definitions are in specs/.
 mod side;
 
 use node::Choice;

@@ -9,6 +9,7 @@ use mathlib.Core.Path.{_≡_, refl, sym, ap, _∙_}
 use native.Mathlib.Omega.{arith}
 use borrow.Author.Tests.{ltb-false}
 use lib.ListN.{length}
+use Rattle.refusal.proofs.Checks.{not-both}
 use Rattle.node.specs.declared.Choice.{Choice}
 use Rattle.node.specs.declared.Choice.the-variants.{Right, Left}
 use Rattle.node.specs.Nodes.{nodesOf, subsectorBit, childOf, root}
@@ -24,10 +25,6 @@ use Rattle.node_graph.specs.Ways.{loopChoice}
 use Rattle.node_graph.proofs.Ways.{loop-right, loop-left}
 use Rattle.node_path.specs.Ways.{loopFrom, loopWay}
 use Rattle.node_path.specs.Promises.{madeAt, endOf, ByRule, LoopWayHolds}
-
--- a test is not both
-pub not-both : (b : Bool) → b ≡ true → b ≡ false → ⊥
-not-both b t f = let z : _≡_ {A = ℕ} 0 1 = cc in omega arith
 
 pub none-in : (v : ℕ) → member v [] ≡ true → ⊥
 none-in v e = not-both false e refl

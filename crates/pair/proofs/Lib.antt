@@ -1,4 +1,4 @@
--- The laws of the search of two files. The laws of the pair of files. Assumes nothing.
+-- The laws of the pair of files and of its search. Assumes nothing.
 
 pub mod Searching
 pub mod Entries

@@ -1,13 +1,12 @@
 -- What a search of both files answers, by the checks and the searches that led there. Assumes nothing.
 use Prim.Native.Nat.{ℕ}
-use mathlib.Core.Path.{_≡_, refl, sym, ap, _∙_}
+use mathlib.Core.Path.{_≡_, sym, ap, _∙_}
 use Rattle.refusal.specs.declared.Refusal.{Refusal}
 use Rattle.refusal.specs.declared.Refusal.the-variants.{EntryMissing}
 use Rattle.refusal.specs.declared.Check.{Check}
 use Rattle.refusal.specs.declared.Check.the-variants.{Pass, Refused}
 use Rattle.wad.specs.declared.map.Marker.{Marker}
 use Rattle.wad.specs.declared.map.Marker.the-variants.{Entry, Refused as NoMarker}
-use Rattle.wad.specs.Map.{counted}
 use Rattle.pair.specs.declared.search.PairSearch.{PairSearch}
 use Rattle.pair.specs.Search.{noFile, afterCheck, orElse}
 
@@ -28,8 +27,3 @@ else-found file next e = sym (ap (λ (m : Marker). orElse file m next) e)
 pub else-none : (file : ℕ) (next : PairSearch) {m : Marker} {r : Refusal} {x : PairSearch} → m ≡ NoMarker r → x ≡ next
     → x ≡ orElse file m next
 else-none file next e q = q ∙ sym (ap (λ (m : Marker). orElse file m next) e)
-
--- the count of names compared is not asked for
-pub counted-marker : (count : ℕ) (m : Marker) → counted count m .marker ≡ m
-counted-marker count (Entry i) = refl
-counted-marker count (NoMarker r) = refl

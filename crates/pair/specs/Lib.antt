@@ -1,4 +1,4 @@
--- Which of two files has a name. The pair of files that the box opens: a patch over a base (W-207). Assumes nothing.
+-- The pair of files that the box opens, a patch over a base (W-207), and which of them has a name. Assumes nothing.
 
 pub mod Search
 pub mod Answers

@@ -1,4 +1,4 @@
--- The laws of posts that are stepped over, and of notes. The laws of judging a picture. Assumes nothing.
+-- The laws of judging a picture, of posts that are stepped over, and of notes. Assumes nothing.
 
 pub mod Inner
 pub mod Slots

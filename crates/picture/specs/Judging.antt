@@ -11,9 +11,8 @@ use Rattle.refusal.specs.declared.Check.the-variants.{Pass, Refused}
 use Rattle.refusal.specs.Checks.{unless, _andThen_, each}
 use Rattle.picture.specs.declared.PictureVerdict.{PictureVerdict}
 use Rattle.picture.specs.declared.PictureVerdict.the-variants.{Accepted, Refused as NotAccepted}
-use Rattle.picture_header.specs.Layout.{widthOf, heightOf, pictureOf, tableEnd}
+use Rattle.picture_header.specs.Layout.{widthOf, heightOf, pictureOf, tableEnd, columnOffset, startAt, endAt, endRow, postEnd}
 use Rattle.picture_header.specs.Headers.{pictureHeaderCheck}
-use Rattle.picture_header.specs.Layout.{columnOffset, startAt, endAt, endRow, postEnd}
 
 -- the post at `at` starts at `row` or below, where the post before it ended, and ends at the height or above it
 abbrev pub rowsOk : List ℕ → ℕ → ℕ → ℕ → Bool

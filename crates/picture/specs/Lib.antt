@@ -1,4 +1,4 @@
--- Posts that are stepped over. The judging of a picture. Assumes nothing.
+-- The judging of a picture, and the posts that it steps over. Assumes nothing.
 
 pub mod Stepping
 pub mod Judging

@@ -1,4 +1,4 @@
-// Pictures: judged. The format and the order of the refusals are in specs/.
+// Pictures, judged. The format and the order of the refusals are in specs/.
 ghost use mathlib.Core.Path.{_≡_};
 ghost use Rattle.picture.specs.Judging.{pictureCheck, pictureAnswer};
 

@@ -4,8 +4,7 @@ use mathlib.Core.List.{List, _++_}
 use mathlib.Core.Path.{_≡_, refl, sym, ap, _∙_, subst}
 use native.Mathlib.Nat.{not-suc-le-zero, le-of-suc-le-suc, mod-lt, div-add-mod', zero-add}
 use native.Mathlib.Omega.{arith}
-use lib.ListN.{length, getD, take, drop, replicate, length-append, length-drop, length-replicate, getD-replicate}
-use lib.ListN.{List·getD-append, take-append-drop}
+use lib.ListN.{length, getD, take, drop, replicate, length-append, length-drop, length-replicate, getD-replicate, List·getD-append, take-append-drop}
 use lib.Seq.{ext-getD, getD-take, length-take-le, drop-at}
 use Rattle.picture_header.specs.Layout.{widthOf, heightOf, areaOf}
 use Rattle.picture_paint.specs.Pixels.{overColumn, listOf, planeOf}

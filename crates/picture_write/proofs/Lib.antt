@@ -1,4 +1,4 @@
--- The laws of a column that is written. The laws of encoding. Assumes nothing.
+-- The laws of a written column and of the whole lump. Assumes nothing.
 
 pub mod Runs
 pub mod PostStores

@@ -1,4 +1,4 @@
--- Pixels to be written, judged. One column of a picture, written. A picture written from its pixels. Assumes nothing.
+-- A picture written from its pixels: the pixels judged, one column, and the whole lump. Assumes nothing.
 
 pub mod Given
 pub mod Pixels

@@ -1,10 +1,10 @@
 -- One column of a picture to be written: each unbroken covered run as one post, ignored bytes 0 (02, W-201; 01,
 -- "Pictures"). Assumes nothing.
 use Prim.Native.Nat.{ℕ, zero, suc, _+_, _-_, _*_}
-use mathlib.Core.Bool.{Bool, true, false, _&&_, not, cond}
+use mathlib.Core.Bool.{Bool, false, _&&_, not, cond}
 use mathlib.Core.List.{List, [], _∷_, _++_}
 use Rattle.picture_paint.specs.Pixels.{listOf}
-use Rattle.layout.specs.Rows.{sumOf, countOf, laidOut}
+use Rattle.layout.specs.Rows.{countOf, laidOut}
 
 -- ---- a column: `covered` says of each row whether its pixel is covered, `colour` gives its byte
 

@@ -1,4 +1,4 @@
-// Encoding: a picture lump from lent colour and cover. Nothing is written before all is judged and the lump's length is known.
+// A picture lump written from lent colour and cover. Nothing is written before all is judged and the lump's length is known.
 ghost use mathlib.Core.Path.{_≡_};
 ghost use Prim.Native.Nat.{_*_, _≤_};
 ghost use lib.ListN.{length};

@@ -1,15 +1,14 @@
 -- What is told, by what led there: a refusal without a field, with one that has room or has not, or the node graph. Assumes nothing.
-use Prim.Native.Nat.{ℕ, _+_, _*_, _≤_, _<_}
+use Prim.Native.Nat.{ℕ, _≤_, _<_}
 use mathlib.Core.Bool.{Bool, true, false, _&&_, cond}
 use mathlib.Core.List.{List}
-use mathlib.Core.Path.{_≡_, refl, sym, ap, _∙_, subst, subst⁻¹}
+use mathlib.Core.Path.{_≡_, sym, ap, _∙_, subst⁻¹}
 use native.Mathlib.Omega.{arith}
 use borrow.Author.Tests.{leb-true, le-leb, lt-leb}
 use lib.Dec.{leb}
 use lib.ListN.{length}
 use Rattle.refusal.specs.declared.Refusal.{Refusal}
 use Rattle.refusal.specs.declared.Refusal.the-variants.{ReasonRoom}
-use Rattle.refusal.specs.declared.Check.{Check}
 use Rattle.refusal.specs.declared.Check.the-variants.{Pass, Refused}
 use Rattle.refusal.specs.Table.{numberOf, recordOf}
 use Rattle.refusal.proofs.Checks.{both}
@@ -28,7 +27,7 @@ use Rattle.map_check.proofs.Passing.{run-long}
 use Rattle.theorem_map.proofs.Refusing.{past-run, past-counts, refused-by}
 use Rattle.reason.specs.declared.Reason.{Reason}
 use Rattle.reason_field.specs.Named.{fieldOk, namedField}
-use Rattle.reason.specs.Printing.{fieldLength, fieldPrinted, lengthBy, outBy, printedLength, printedOut, answerBy, ReasonTold, ReasonToldAt}
+use Rattle.reason.specs.Printing.{lengthBy, outBy, printedLength, printedOut, answerBy, ReasonTold, ReasonToldAt}
 use Rattle.reason_field.specs.Naming.{namedCount, Nameable}
 use Rattle.reason.specs.Inner.{RefusedBelow, RefusalTold, GraphTold}
 use Rattle.reason_field.proofs.Counting.{blockmap-within}

@@ -8,6 +8,7 @@ use native.Mathlib.Omega.{arith}
 use borrow.Author.Tests.{not-true, not-false, le-leb, lt-leb, lt-ltb, leb-true, ltb-true, eqb-true, eq-eqb, ne-eqb}
 use lib.Dec.{leb, ltb, eqb}
 use lib.ListN.{length}
+use Rattle.refusal.proofs.Checks.{same-test}
 use Rattle.map_blockmap.specs.Blockmap.{wordCount, wordAt, cellsOf, sideOk, headerOk, listEnd, listEnds, linedefsNamed, allUnder, listOk}
 use Rattle.map_blockmap.specs.Notes.{endsWell}
 use Rattle.map_blockmap.proofs.Lists.{endsWell-list}
@@ -99,11 +100,6 @@ first-none lump linedefs n h =
     rw (numbers-none lump linedefs n h, firstOut-more (sizeField lump (length lump + 2)) [], lt-leb (length lump + 2) (length lump) short)
 
 -- ---- two tests that hold together
-
-pub same-test : (a b : Bool) → (a ≡ true → b ≡ true) → (b ≡ true → a ≡ true) → a ≡ b
-same-test true b f g = sym (f refl)
-same-test false true f g = g refl
-same-test false false f g = refl
 
 -- up to the last is below the count
 leb-last : (w n : ℕ) → 1 ≤ n → leb w (n - 1) ≡ ltb w n

@@ -1,15 +1,15 @@
 -- The counts that 21 lets pass, as the reasons of records ask for them, and how long a lump is. Assumes nothing.
-use Prim.Native.Nat.{ℕ, _+_, _*_, _≤_, _<_}
+use Prim.Native.Nat.{ℕ, _+_, _≤_}
 use mathlib.Core.Bool.{Bool, true, false, cond}
 use mathlib.Core.List.{List, []}
-use mathlib.Core.Path.{_≡_, refl, sym, ap, _∙_, subst}
+use mathlib.Core.Path.{_≡_, refl}
 use native.Mathlib.Omega.{arith}
 use borrow.Author.Tests.{leb-true}
 use lib.Dec.{leb}
 use lib.ListN.{length}
 use Rattle.refusal.specs.declared.Check.the-variants.{Pass}
-use Rattle.wad.specs.Lump.{entrySize, entryOffset, lumpAt}
-use Rattle.wad.specs.Slices.{part, partIf}
+use Rattle.wad.specs.Lump.{entrySize, entryOffset}
+use Rattle.wad.specs.Slices.{part}
 use Rattle.wad.proofs.Slices.{length-part}
 use Rattle.record_linedef.specs.Linedefs.{linedefSize}
 use Rattle.record.specs.Sidedefs.{sidedefSize}

@@ -1,4 +1,4 @@
--- The laws of sidedefs, vertices and sectors. The laws of the kinds that a node builder makes. Assumes nothing.
+-- The laws of the six kinds of record that both games share. Assumes nothing.
 
 pub mod Codecs
 pub mod BuiltCodecs

@@ -1,5 +1,5 @@
--- The kinds of record that are drawn and have one layout in both games: sidedefs, vertices and sectors. The kinds of record
--- that a node builder makes: segs, subsectors and nodes. Assumes nothing.
+-- The six kinds of record that have one layout in both games: sidedefs, vertices, sectors, segs, subsectors and
+-- nodes. Assumes nothing.
 
 pub mod Sidedefs
 pub mod Vertexes

@@ -12,6 +12,18 @@ use Rattle.refusal.specs.declared.Check.{Check}
 use Rattle.refusal.specs.declared.Check.the-variants.{Pass, Refused}
 use Rattle.refusal.specs.Checks.{unless, _andThen_, each}
 
+-- ---- tests
+
+-- a test is not both
+pub not-both : (b : Bool) → b ≡ true → b ≡ false → ⊥
+not-both b t f = let z : _≡_ {A = ℕ} 0 1 = cc in omega arith
+
+-- two tests that hold together are the same
+pub same-test : (a b : Bool) → (a ≡ true → b ≡ true) → (b ≡ true → a ≡ true) → a ≡ b
+same-test true b f g = sym (f refl)
+same-test false true f g = g refl
+same-test false false f g = refl
+
 -- ---- a row
 
 -- both of two tests that hold together
@@ -71,6 +83,11 @@ module _ (f : ℕ → Check) where
 
   pub each-more : (i : ℕ) {x : Check} → each f i ≡ Pass → x ≡ f i → x ≡ Pass → each f (i + 1) ≡ Pass
   each-more i e q p = rw (add-one i, each-suc i, e) (sym q ∙ p)
+
+  -- checks that all pass
+  pub each-all : (n : ℕ) → ((i : ℕ) → i < n → f i ≡ Pass) → each f n ≡ Pass
+  each-all zero h = each-none
+  each-all (suc n) h = rw (each-suc n, each-all n (λ i l. h i (omega arith))) (h n (omega arith))
 
   each-refused : (n : ℕ) {r : Refusal} → each f n ≡ Refused r → each f (suc n) ≡ Refused r
   each-refused n e = rw (each-suc n, e)

@@ -1,4 +1,4 @@
--- The table of refusals, and rows of checks. What every answer begins with. Assumes nothing.
+-- The table of refusals, rows of checks, and the status that every answer begins with. Assumes nothing.
 
 pub mod Table
 pub mod Checks

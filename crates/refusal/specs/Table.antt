@@ -3,23 +3,7 @@
 use Prim.Native.Nat.{ℕ}
 use Rattle.refusal.specs.declared.Row.{Row}
 use Rattle.refusal.specs.declared.Refusal.{Refusal}
-use Rattle.refusal.specs.declared.Refusal.the-variants.{FileLength, Mark, LumpCount, DirectoryBounds}
-use Rattle.refusal.specs.declared.Refusal.the-variants.{EntryBounds, EntryName, EntryNumber}
-use Rattle.refusal.specs.declared.Refusal.the-variants.{MapName, EntryMissing, MarkerRun}
-use Rattle.refusal.specs.declared.Refusal.the-variants.{RecordSize, RecordCount, RejectLength}
-use Rattle.refusal.specs.declared.Refusal.the-variants.{LinedefReference, SidedefReference, SegReference}
-use Rattle.refusal.specs.declared.Refusal.the-variants.{SubsectorReference, NodeReference, Blockmap}
-use Rattle.refusal.specs.declared.Refusal.the-variants.{WorkWords, NodeLoop, NodeShared}
-use Rattle.refusal.specs.declared.Refusal.the-variants.{DescentNodes, DescentSubsectors, DescentChild, DescentLoop}
-use Rattle.refusal.specs.declared.Refusal.the-variants.{OrderDepth, OrderWords, OrderLength}
-use Rattle.refusal.specs.declared.Refusal.the-variants.{PictureLength, PictureSize, PictureOffsets}
-use Rattle.refusal.specs.declared.Refusal.the-variants.{PostBounds, PostRows, PixelBuffer}
-use Rattle.refusal.specs.declared.Refusal.the-variants.{EncodeSize, EncodeCover, EncodeRoom}
-use Rattle.refusal.specs.declared.Refusal.the-variants.{RecordBounds, RecordFields}
-use Rattle.refusal.specs.declared.Refusal.the-variants.{RenumberNodes, RenumberChild, RenumberRoot, RenumberLength, RenumberRoom}
-use Rattle.refusal.specs.declared.Refusal.the-variants.{DifferenceRoom, DifferenceGames, StreamSectors, StreamLength}
-use Rattle.refusal.specs.declared.Refusal.the-variants.{IndexHead, IndexVersion, IndexEntries, ReasonRoom, IndexRoom}
-use Rattle.refusal.specs.declared.Refusal.the-variants.{TextGrammar, TextNumber, TextField, TextBlocks, TextMissing}
+use Rattle.refusal.specs.declared.Refusal.the-variants.{FileLength, Mark, LumpCount, DirectoryBounds, EntryBounds, EntryName, EntryNumber, MapName, EntryMissing, MarkerRun, RecordSize, RecordCount, RejectLength, LinedefReference, SidedefReference, SegReference, SubsectorReference, NodeReference, Blockmap, WorkWords, NodeLoop, NodeShared, DescentNodes, DescentSubsectors, DescentChild, DescentLoop, OrderDepth, OrderWords, OrderLength, PictureLength, PictureSize, PictureOffsets, PostBounds, PostRows, PixelBuffer, EncodeSize, EncodeCover, EncodeRoom, RecordBounds, RecordFields, RenumberNodes, RenumberChild, RenumberRoot, RenumberLength, RenumberRoom, DifferenceRoom, DifferenceGames, StreamSectors, StreamLength, IndexHead, IndexVersion, IndexEntries, ReasonRoom, IndexRoom, TextGrammar, TextNumber, TextField, TextBlocks, TextMissing}
 
 -- a row of the table: number, place, record
 abbrev pub row : ℕ → ℕ → ℕ → Row

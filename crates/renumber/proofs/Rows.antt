@@ -10,6 +10,7 @@ use borrow.Author.Tests.{ltb-true, lt-ltb, le-ltb}
 use lib.Dec.{ltb}
 use lib.ListN.{length, getD, set, take, drop, length-append, length-drop}
 use lib.Seq.{sets, take-suc, getD-drop, take-take, length-take-le, sets-eq}
+use Rattle.refusal.proofs.Checks.{not-both}
 use Rattle.endian.specs.Unsigned.{u16Bytes, putU16}
 use Rattle.layout.specs.Rows.{laidOut}
 use Rattle.layout.specs.Buffers.{bufferAfter}
@@ -25,10 +26,9 @@ use Rattle.node.specs.Nodes.{subsectorBit, isNode, childOf}
 use Rattle.node_route.proofs.Heights.{node-or-end}
 use Rattle.node_route.proofs.Repeats.{or-either}
 use Rattle.renumber_order.specs.Orders.{indexIn}
-use Rattle.renumber_order.specs.Lists.{oldAt}
+use Rattle.renumber_order.specs.Orders.{oldAt}
 use Rattle.renumber.specs.Renumbering.{renamed, newNode, renumbered}
 use Rattle.renumber.specs.Inner.{renamedBy, nodeBy, Writable}
-use Rattle.renumber_order.proofs.Members.{not-both}
 use Rattle.renumber_order.proofs.Placing.{own-place}
 use Rattle.renumber_order.proofs.Checking.{children-each, order-inside, child-word}
 

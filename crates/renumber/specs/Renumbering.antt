@@ -19,7 +19,7 @@ use Rattle.map_check.specs.Verdict.{nodesAt, verdict, wordsAfter}
 use Rattle.renumber.specs.declared.Renumbering.{Renumbering}
 use Rattle.renumber.specs.declared.Renumbering.the-variants.{Written, Refused as NotWritten}
 use Rattle.renumber_order.specs.Orders.{indexIn, renumberCheck}
-use Rattle.renumber_order.specs.Lists.{oldAt}
+use Rattle.renumber_order.specs.Orders.{oldAt}
 
 -- a node by its place in the list; a subsector as it is
 abbrev pub renamed : List ℕ → ℕ → ℕ

@@ -10,7 +10,7 @@ use native.Mathlib.Omega.{arith}
 use borrow.Author.Tests.{le-ltb}
 use lib.Dec.{ltb, eqb}
 use lib.ListN.{length, getD}
-use Rattle.refusal.proofs.Checks.{both}
+use Rattle.refusal.proofs.Checks.{both, not-both}
 use Rattle.record.specs.Nodes.{nodeSize}
 use Rattle.node.specs.declared.Choice.{Choice}
 use Rattle.node.specs.declared.Choice.the-variants.{Right, Left}
@@ -18,10 +18,10 @@ use Rattle.node.specs.Nodes.{nodesOf, subsectorBit, isNode, childOf}
 use Rattle.node_route.proofs.Heights.{node-or-end}
 use Rattle.node.proofs.Nodes.{nodesOf-whole}
 use Rattle.renumber_order.specs.Orders.{lastOk, childFirst, childrenOk}
-use Rattle.renumber_order.specs.Lists.{oldAt}
+use Rattle.renumber_order.specs.Orders.{oldAt}
 use Rattle.renumber_order.specs.Places.{placed, placeWord}
 use Rattle.renumber_order.specs.Judging.{Ordered, ChildrenPlaced, beforeOk, bothBefore}
-use Rattle.renumber_order.proofs.Members.{not-both, not-held, held-both}
+use Rattle.renumber_order.proofs.Members.{not-held, held-both}
 use Rattle.renumber_order.proofs.Placing.{before-same}
 
 -- ---- 72

@@ -10,12 +10,12 @@ use borrow.Author.Tests.{not-true, eqb-true, eqb-false}
 use lib.Dec.{eqb}
 use lib.ListN.{length, set, length-set}
 use lib.Seq.{getD-set-same, getD-set-other}
-use Rattle.refusal.proofs.Checks.{both}
+use Rattle.refusal.proofs.Checks.{both, not-both}
 use Rattle.node_route.specs.Heights.{repeats}
 use Rattle.node_graph.specs.Looks.{markOf}
-use Rattle.renumber_order.specs.Lists.{oldAt}
+use Rattle.renumber_order.specs.Orders.{oldAt}
 use Rattle.renumber_order.specs.Places.{markedOk, allMarked, noPlace, placed, placeWord, PlacesHeld, freeOk, Filled}
-use Rattle.renumber_order.proofs.Members.{not-both, not-held, held-both, once-apart, apart-once}
+use Rattle.renumber_order.proofs.Members.{not-held, held-both, once-apart, apart-once}
 use Rattle.renumber_order.proofs.Marks.{marked-is, is-marked}
 use Rattle.renumber_order.proofs.FirstPlaces.{placed-here, placed-there, placed-absent, absent-placed, free-is, is-free, all-places, places-all}
 

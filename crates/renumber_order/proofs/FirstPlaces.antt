@@ -11,7 +11,7 @@ use borrow.Author.Tests.{eqb-true, eqb-false, eq-eqb, ne-eqb}
 use lib.Dec.{eqb}
 use lib.ListN.{length}
 use Rattle.refusal.proofs.Checks.{both}
-use Rattle.renumber_order.specs.Lists.{oldAt}
+use Rattle.renumber_order.specs.Orders.{oldAt}
 use Rattle.renumber_order.specs.Places.{markedOk, allMarked, noPlace, placed, placeWord, freeOk}
 use Rattle.renumber_order.proofs.Members.{held-both}
 

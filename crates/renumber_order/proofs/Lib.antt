@@ -1,4 +1,4 @@
--- The laws of marks and places. The laws of the list to renumber by. Assumes nothing.
+-- The laws of marks, of places and of the list to renumber by. Assumes nothing.
 
 pub mod Members
 pub mod Marks

@@ -5,6 +5,7 @@ use mathlib.Core.List.{List, [], _∷_}
 use mathlib.Core.Path.{_≡_, refl, sym, _∙_}
 use native.Mathlib.Omega.{arith}
 use lib.ListN.{length}
+use Rattle.refusal.proofs.Checks.{same-test}
 use Rattle.node_route.specs.declared.Graph.{Graph}
 use Rattle.node_route.specs.Heights.{member, graphVerdict}
 use Rattle.node_route.specs.Reach.{reachedNodes}
@@ -16,7 +17,7 @@ use Rattle.node_graph.specs.Searching.{Searchable, Explored}
 use Rattle.renumber_order.specs.Orders.{allAmong}
 use Rattle.renumber_order.specs.Places.{markedOk, markedBelow, allMarked}
 use Rattle.renumber_order.specs.Judging.{Marks}
-use Rattle.renumber_order.proofs.Members.{same-test, as-many}
+use Rattle.renumber_order.proofs.Members.{as-many}
 use Rattle.renumber_order.proofs.Marks.{marked-is, is-marked, below-once, below-says}
 
 module _ (nodes : List ℕ) (count : ℕ) (words : List ℕ) where

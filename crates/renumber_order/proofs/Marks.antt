@@ -10,12 +10,12 @@ use native.Mathlib.Omega.{arith}
 use borrow.Author.Tests.{ltb-true, lt-ltb, eqb-false, ne-eqb, not-true}
 use lib.Dec.{ltb, eqb}
 use lib.ListN.{length}
-use Rattle.refusal.proofs.Checks.{both}
+use Rattle.refusal.proofs.Checks.{both, not-both, same-test}
 use Rattle.node_route.specs.Heights.{member, repeats}
 use Rattle.node_route.proofs.Repeats.{member-head, member-tail, member-cons}
 use Rattle.node_graph.specs.Looks.{markOf}
 use Rattle.renumber_order.specs.Places.{markedOk, markedBelow}
-use Rattle.renumber_order.proofs.Members.{not-both, same-test, not-held}
+use Rattle.renumber_order.proofs.Members.{not-held}
 
 module _ (words : List ℕ) where
   -- ---- one node's mark

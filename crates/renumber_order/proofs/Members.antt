@@ -10,20 +10,11 @@ use native.Mathlib.Omega.{arith}
 use borrow.Author.Tests.{eqb-true, eqb-false}
 use lib.Dec.{eqb}
 use lib.ListN.{length, getD}
+use Rattle.refusal.proofs.Checks.{not-both}
 use Rattle.node_route.specs.Heights.{member, repeats}
 use Rattle.node_route.proofs.Repeats.{or-neither, member-head, member-tail, member-cons, at-member}
 
 -- ---- tests
-
-pub not-both : (b : Bool) → b ≡ true → b ≡ false → ⊥
-not-both b t f = let z : _≡_ {A = ℕ} 0 1 = cc in omega arith
-
--- two tests that hold together are the same
-pub same-test : (a b : Bool) → (a ≡ true → b ≡ true) → (b ≡ true → a ≡ true) → a ≡ b
-same-test true true f g = refl
-same-test true false f g = sym (f refl)
-same-test false true f g = g refl
-same-test false false f g = refl
 
 pub not-held : (b : Bool) → (b ≡ true → ⊥) → b ≡ false
 not-held true h = absurd (h refl)

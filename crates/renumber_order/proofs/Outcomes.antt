@@ -11,7 +11,7 @@ use Rattle.refusal.specs.declared.Refusal.the-variants.{NodeLoop, NodeShared, R
 use Rattle.refusal.specs.declared.Check.{Check}
 use Rattle.refusal.specs.declared.Check.the-variants.{Pass, Refused}
 use Rattle.refusal.specs.Checks.{unless}
-use Rattle.refusal.proofs.Checks.{both, refused-then, pass-then}
+use Rattle.refusal.proofs.Checks.{both, refused-then, pass-then, same-test}
 use Rattle.node_route.specs.declared.Graph.{Graph}
 use Rattle.node_route.specs.declared.Graph.the-variants.{HasLoop, HasShared, HasDepth}
 use Rattle.node_route.specs.Heights.{repeats, graphVerdict}
@@ -20,7 +20,6 @@ use Rattle.node_graph.specs.Searching.{Searchable}
 use Rattle.renumber_order.specs.Orders.{lateCheck, manyOk, onceOk, renumberCheck}
 use Rattle.renumber_order.specs.Places.{markedOk, markedBelow, allMarked, PlacesHeld, Emptied, Filled}
 use Rattle.renumber_order.specs.Judging.{Marks, Ordered, OrderJudged, RenumberJudged, graphCheck, renumberGraphCheck}
-use Rattle.renumber_order.proofs.Members.{same-test}
 use Rattle.renumber_order.proofs.Marks.{marked-is, is-marked, below-few}
 use Rattle.renumber_order.proofs.Marking.{marks-many, all-marked}
 use Rattle.renumber_order.proofs.FirstPlaces.{placed-none, all-places}

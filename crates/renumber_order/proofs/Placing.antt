@@ -10,7 +10,7 @@ use lib.Dec.{ltb, eqb}
 use lib.ListN.{length}
 use Rattle.node_route.specs.Heights.{repeats}
 use Rattle.renumber_order.specs.Orders.{indexIn}
-use Rattle.renumber_order.specs.Lists.{oldAt}
+use Rattle.renumber_order.specs.Orders.{oldAt}
 use Rattle.renumber_order.specs.Places.{noPlace, placed}
 use Rattle.renumber_order.proofs.Members.{once-apart}
 use Rattle.renumber_order.proofs.FirstPlaces.{placed-absent, placed-last}

@@ -1,4 +1,4 @@
--- Not for the reader of promises: what the contracts of the functions cite. Marks and places are those of `renumber_places`.
+-- Not for the reader of promises: what the contracts of the functions cite. Marks and places are those of `places`.
 -- Assumes nothing.
 use Prim.Native.Nat.{ℕ, _+_, _*_, _≤_, _<_}
 use mathlib.Core.Bool.{Bool, false, _&&_, _||_, not}
@@ -18,8 +18,7 @@ use Rattle.node.specs.Nodes.{subsectorBit, isNode, childOf}
 use Rattle.node_route.specs.Heights.{member, repeats, graphVerdict}
 use Rattle.node.specs.Ranges.{NodesInRange}
 use Rattle.node_route.specs.Reach.{reachedNodes}
-use Rattle.renumber_order.specs.Lists.{oldAt}
-use Rattle.renumber_order.specs.Orders.{renumberCheck}
+use Rattle.renumber_order.specs.Orders.{oldAt, renumberCheck}
 use Rattle.renumber_order.specs.Places.{markedOk, placeWord, PlacesHeld}
 
 -- ---- the graph and the list

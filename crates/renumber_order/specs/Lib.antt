@@ -1,6 +1,5 @@
--- The places of a list of nodes to renumber by. A list of nodes to renumber by, judged. Assumes nothing.
+-- A list of nodes to renumber by: what is asked of it, and the places that its nodes are given. Assumes nothing.
 
-pub mod Lists
-pub mod Places
 pub mod Orders
+pub mod Places
 pub mod Judging

@@ -1,10 +1,10 @@
--- An order of the nodes that a map reaches, as an editor proposes it: old numbers, each at its new place (02, W-212). Nothing is
--- known of the list. Assumes nothing.
+-- An order of the nodes that a map reaches, as an editor proposes it: old numbers, each at its new place (02, W-212). The
+-- list is untrusted. Assumes nothing.
 use Prim.Native.Nat.{ℕ, zero, suc, _*_}
 use mathlib.Core.Bool.{Bool, true, _&&_, _||_, not, cond}
 use mathlib.Core.List.{List, [], _∷_}
 use lib.Dec.{leb, ltb, eqb}
-use lib.ListN.{length}
+use lib.ListN.{length, getD}
 use Rattle.refusal.specs.declared.Check.{Check}
 use Rattle.refusal.specs.declared.Refusal.the-variants.{RenumberNodes, RenumberChild, RenumberRoot, RenumberLength, RenumberRoom}
 use Rattle.refusal.specs.Checks.{unless, _andThen_}
@@ -14,7 +14,10 @@ use Rattle.node.specs.declared.Choice.the-variants.{Right, Left}
 use Rattle.node.specs.Nodes.{nodesOf, isNode, childOf, root}
 use Rattle.node_route.specs.Heights.{member, repeats}
 use Rattle.node_route.specs.Reach.{reachedNodes}
-use Rattle.renumber_order.specs.Lists.{oldAt}
+
+-- the old number at place `i`
+abbrev pub oldAt : List ℕ → ℕ → ℕ
+oldAt order i = getD order i 0
 
 -- how many numbers of the list stand before the first `v`; all where it is not there
 abbrev pub indexIn : List ℕ → ℕ → ℕ

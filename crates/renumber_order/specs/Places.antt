@@ -1,4 +1,4 @@
--- Not for the reader of promises: what the contracts of the functions cite. After the search of `graph` the first `count` work words
+-- Not for the reader of promises: what the contracts of the functions cite. After the search of `node_graph` the first `count` work words
 -- mark the nodes that are reached; the next `count` words then hold the place of each node in the list. Assumes nothing.
 use Prim.Native.Nat.{ℕ, zero, suc, _+_, _<_}
 use mathlib.Core.Bool.{Bool, true, _&&_, not, cond}
@@ -8,7 +8,7 @@ use lib.Dec.{ltb, eqb}
 use lib.ListN.{length, getD}
 use Rattle.node_route.specs.Heights.{repeats}
 use Rattle.node_graph.specs.Looks.{markOf}
-use Rattle.renumber_order.specs.Lists.{oldAt}
+use Rattle.renumber_order.specs.Orders.{oldAt}
 
 -- ---- marks
 

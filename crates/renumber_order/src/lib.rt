@@ -1,5 +1,6 @@
-// The node graph and the list to renumber by (W-212), judged: 31 and 32, then 73, 70, 72, 71 and 74. The search of `graph` leaves its marks in the first run of
-// words; `renumber_places` then has the place of each node in the second. Each number of the list is looked at once for each test.
+// The node graph and the list to renumber by (W-212), judged: 31 and 32, then 73, 70, 72, 71 and 74. The search of `node_graph`
+// leaves its marks in the first run of words. `places` then keeps the place of each node in the second run. Each test looks at
+// each number of the list once.
 mod places;
 
 ghost use mathlib.Core.Path.{_≡_};

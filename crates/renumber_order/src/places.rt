@@ -1,5 +1,5 @@
 // The places of a list of old numbers (W-212), held in the second run of words: each number is a marked node, and stands in the list
-// once. The search of `graph` left its marks in the first run.
+// once. The search of `node_graph` left its marks in the first run.
 ghost use mathlib.Core.Path.{_≡_};
 ghost use mathlib.Core.Bool.{cond};
 ghost use Prim.Native.Nat.{_+_, _*_, _≤_};

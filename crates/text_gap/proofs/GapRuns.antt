@@ -4,7 +4,7 @@ use mathlib.Core.Bool.{Bool, true, false, not, _&&_, cond, and-eq-true-iff, true
 use mathlib.Core.List.{List}
 use mathlib.Core.Path.{_≡_, refl, sym, ap, _∙_, subst}
 use native.Mathlib.Omega.{arith}
-use borrow.Author.Tests.{ltb-true, ltb-false, eqb-true, not-true, not-false}
+use borrow.Author.Tests.{ltb-true, ltb-false, not-true, not-false}
 use lib.Dec.{eqb, ltb}
 use lib.ListN.{getD, length}
 use Rattle.text_gap.specs.declared.Mode.{Mode}

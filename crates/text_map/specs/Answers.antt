@@ -1,10 +1,9 @@
 -- What a text map answers (02, W-206): its namespace and counts; and the fields of a block, by its kind and number or from a place on.
 -- Assumes nothing.
 use Prim.Native.Nat.{ℕ}
-use mathlib.Core.Bool.{Bool, not, cond}
+use mathlib.Core.Bool.{not, cond}
 use mathlib.Core.List.{List, []}
 use lib.IntN.{ℤ, pos, negsuc}
-use Rattle.refusal.specs.declared.Refusal.{Refusal}
 use Rattle.refusal.specs.declared.Refusal.the-variants.{TextMissing}
 use Rattle.refusal.specs.declared.Check.{Check}
 use Rattle.refusal.specs.declared.Check.the-variants.{Pass, Refused}
@@ -14,7 +13,6 @@ use Rattle.text_table.specs.declared.scope.Scope.{Scope}
 use Rattle.text_table.specs.Scopes.{scopeNumber}
 use Rattle.text_table.specs.Table.{Row, fieldsOf}
 use Rattle.text_table.specs.Names.{zeroIds}
-use Rattle.text_block.specs.declared.Asked.{Asked}
 use Rattle.text_block.specs.declared.Asked.the-variants.{Nothing, Numbered, First, Opening}
 use Rattle.text_step.specs.declared.Parse.{Parse}
 use Rattle.text_block.specs.Blocks.{noPlaces}
@@ -22,10 +20,8 @@ use Rattle.text_step.specs.Steps.{isTop}
 use Rattle.text_reader.specs.Texts.{Stand, textFrom}
 use Rattle.text_record.specs.declared.given.Places.{Places}
 use Rattle.text_record.specs.Fields.{valueAt, between, stringOr}
-use Rattle.text_map.specs.declared.TextSummary.{TextSummary}
 use Rattle.text_map.specs.declared.TextAnswer.{TextAnswer}
 use Rattle.text_map.specs.declared.TextAnswer.the-variants.{Summary, Refused as NoSummary}
-use Rattle.text_map.specs.declared.TextBlock.{TextBlock}
 use Rattle.text_map.specs.declared.BlockAnswer.{BlockAnswer}
 use Rattle.text_map.specs.declared.BlockAnswer.the-variants.{Block, Refused as NoBlock}
 use Rattle.text_map.specs.declared.BlockFields.{BlockFields}

@@ -1,4 +1,4 @@
--- The value of one field of a text map. The records of a text map. Assumes nothing.
+-- The value of a field of a text map, and the records that are made of them. Assumes nothing.
 
 pub mod Fields
 pub mod Records

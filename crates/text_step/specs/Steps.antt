@@ -1,7 +1,7 @@
 -- One token of a text map (02, W-206; document 002, "Grammar / Syntax"): what it does where a statement, `=`, a value or `;` is wanted. Each
 -- token that does not fit is 90 at its first byte, so that the first place wins by itself. Assumes nothing.
 use Prim.Native.Nat.{ℕ, _-_}
-use mathlib.Core.Bool.{Bool, true, false, not, _&&_, _||_, cond}
+use mathlib.Core.Bool.{Bool, true, not, _&&_, _||_, cond}
 use mathlib.Core.List.{List}
 use lib.Dec.{eqb}
 use Rattle.refusal.specs.declared.Refusal.{Refusal}

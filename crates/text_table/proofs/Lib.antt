@@ -1,4 +1,4 @@
--- Laws of the scopes of names. Laws of the table of names. Laws of the names that a text map knows. Assumes nothing.
+-- Laws of the scopes, of the table, and of the names that a text map knows. Assumes nothing.
 
 pub mod Scopes
 pub mod Table

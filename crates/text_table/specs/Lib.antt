@@ -1,4 +1,4 @@
--- The scopes of names. The table of the names that a text map knows. The names that a text map knows. Assumes nothing.
+-- The names that a text map knows, in a table for each scope. Assumes nothing.
 
 pub mod Scopes
 pub mod Table

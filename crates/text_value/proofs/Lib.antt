@@ -1,4 +1,4 @@
--- Laws of the numbers of a text map. Laws of the values of a text map. Assumes nothing.
+-- Laws of the numbers and the values of a text map. Assumes nothing.
 
 pub mod Numbers
 pub mod Capped

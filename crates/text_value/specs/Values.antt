@@ -7,7 +7,6 @@ use lib.ListN.{length, getD}
 use Rattle.text_token.specs.declared.Token.{Token}
 use Rattle.text_byte.specs.Bytes.{lowerAt}
 use Rattle.text_token.specs.Tokens.{wordForm, stringForm, wordOf}
-use Rattle.text_value.specs.declared.Value.{Value}
 use Rattle.text_value.specs.declared.Value.the-variants.{Whole, Decimal, Text, Flag}
 use Rattle.text_value.specs.declared.Reading.{Reading}
 use Rattle.text_value.specs.declared.Reading.the-variants.{Good, WholePast, DecimalPast, NoValue}

@@ -3,29 +3,19 @@
 use Prim.Native.Nat.{ℕ, zero, suc, _+_, _*_, _/_, _%_, _≤_, _<_}
 use mathlib.Core.Bool.{Bool, true, _&&_, cond}
 use mathlib.Core.List.{List, _∷_}
-use mathlib.Core.Path.{_≡_, refl, subst}
+use mathlib.Core.Path.{_≡_, refl}
 use native.Mathlib.Nat.{mod-lt, div-lt-iff-lt-mul}
-use native.Mathlib.Numerals.{add-one}
 use native.Mathlib.Omega.{arith}
 use borrow.Author.Tests.{le-leb, leb-true}
 use lib.Dec.{leb}
 use lib.ListN.{length}
-use Rattle.refusal.specs.declared.Check.{Check}
 use Rattle.refusal.specs.declared.Check.the-variants.{Pass}
-use Rattle.refusal.specs.Checks.{each}
-use Rattle.refusal.proofs.Checks.{both, each-none, each-more}
+use Rattle.refusal.proofs.Checks.{both, each-all}
 use Rattle.picture_header.specs.Layout.{widthOf, heightOf, tableEnd, columnOffset}
 use Rattle.picture_header.specs.Headers.{sizeOk}
 use Rattle.picture.specs.Judging.{columnCheck, pictureCheck}
 use Rattle.picture_paint.specs.Pixels.{shown, listOf, planeOf}
 use Rattle.theorem_picture.proofs.Reading.{Reads}
-
--- checks that all pass, one after the other
-each-all : (f : ℕ → Check) (n : ℕ) → ((i : ℕ) → i < n → f i ≡ Pass) → each f n ≡ Pass
-each-all f zero h = each-none f
-each-all f (suc n) h =
-    let before = each-all f n (λ i l. h i (omega arith)) in
-    subst (λ (k : ℕ). each f k ≡ Pass) (add-one n) (each-more f n before refl (h n (omega arith)))
 
 -- lists of equal elements are equal
 pub listOf-same : (f g : ℕ → ℕ) (from count : ℕ) → ((i : ℕ) → from ≤ i → i < from + count → f i ≡ g i)

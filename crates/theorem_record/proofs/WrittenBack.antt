@@ -7,13 +7,10 @@ use native.Mathlib.Omega.{arith}
 use lib.ListN.{replicate}
 use Rattle.endian.specs.Unsigned.{Bytes}
 use Rattle.refusal.specs.declared.Refusal.the-variants.{RecordBounds, RecordFields}
-use Rattle.refusal.specs.declared.Check.{Check}
 use Rattle.refusal.specs.Checks.{unless, _andThen_}
 use Rattle.record_field.specs.Records.{inside, insideCheck, recordBytes, bytesOrZeros, replaced}
 use Rattle.record_field.proofs.Records.{bytes-recordBytes}
-use Rattle.record_thing.specs.declared.Thing.{Thing}
 use Rattle.record_thing.specs.Things.{thingSize, thingOf}
-use Rattle.record_linedef.specs.declared.Linedef.{Linedef}
 use Rattle.record_linedef.specs.Linedefs.{linedefSize, linedefOf}
 use Rattle.record_table.proofs.EightKinds.{kinds-lossless}
 use Rattle.refusal.specs.declared.status.Status.{Status}

@@ -15,8 +15,7 @@ use Rattle.record.specs.Subsectors.{subsectorAt}
 use Rattle.record.specs.Nodes.{nodeAt}
 use Rattle.refusal.specs.declared.status.Status.{Status}
 use Rattle.refusal.specs.Status.{accepted}
-use Rattle.export_records.specs.Records.{thingOut, linedefOut, sidedefOut, vertexOut, segOut, subsectorOut, nodeOut, sectorOut}
-use Rattle.export_records.specs.Records.{ThingWritten, LinedefWritten, SidedefWritten, VertexWritten, SegWritten, SubsectorWritten, NodeWritten, SectorWritten}
+use Rattle.export_records.specs.Records.{thingOut, linedefOut, sidedefOut, vertexOut, segOut, subsectorOut, nodeOut, sectorOut, ThingWritten, LinedefWritten, SidedefWritten, VertexWritten, SegWritten, SubsectorWritten, NodeWritten, SectorWritten}
 
 -- the write answered what the read had answered, and the lump is as it was
 pub record Unchanged (lump : List ℕ) (read written : Status) (left : List ℕ) : Type 0 where

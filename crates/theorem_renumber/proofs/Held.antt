@@ -1,21 +1,21 @@
 -- Laws of lists of numbers: where one stands, what a list of all of another one's numbers holds, and what stands at the end. Assumes
 -- nothing.
-use Prim.Native.Nat.{ℕ, zero, suc, _+_, _-_, _≤_, _<_, zero-le, suc-le-suc}
-use mathlib.Core.Bool.{Bool, true, false, _&&_, not, cond, true≢false}
+use Prim.Native.Nat.{ℕ, zero, suc, _≤_, _<_, zero-le, suc-le-suc}
+use mathlib.Core.Bool.{Bool, true, false, cond}
 use mathlib.Core.List.{List, [], _∷_, _++_}
 use mathlib.Core.Logic.{_⊎_, inl, inr, ⊎-elim}
 use mathlib.Core.Path.{_≡_, refl, sym, ap, _∙_}
-use native.Mathlib.Nat.{le-of-suc-le-suc, le-trans, le-antisymm}
+use native.Mathlib.Nat.{le-of-suc-le-suc, le-antisymm}
 use native.Mathlib.Omega.{arith}
-use borrow.Author.Tests.{eqb-true, eqb-false, eq-eqb, ne-eqb, not-true}
+use borrow.Author.Tests.{eqb-true, eq-eqb, ne-eqb}
 use lib.Dec.{eqb}
 use lib.ListN.{length, getD}
-use Rattle.refusal.proofs.Checks.{both}
+use Rattle.refusal.proofs.Checks.{both, not-both}
 use Rattle.node_route.specs.Heights.{member, repeats}
 use Rattle.node_route.specs.Reach.{HoldsOnce}
 use Rattle.node_route.proofs.Repeats.{or-neither, member-head, member-tail, member-cons, at-member}
 use Rattle.renumber_order.specs.Orders.{indexIn, allAmong, lastOk}
-use Rattle.renumber_order.proofs.Members.{not-both, no-more}
+use Rattle.renumber_order.proofs.Members.{no-more}
 
 -- ---- in the list or not
 

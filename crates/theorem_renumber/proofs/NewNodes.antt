@@ -1,29 +1,26 @@
 -- The nodes of the new lump: as many as the list has, each with the line of the old one, and with its children renamed. Assumes
 -- nothing.
-use Prim.Native.Nat.{ℕ, zero, suc, _+_, _*_, _/_, _%_, _≤_, _<_}
-use mathlib.Core.Bool.{Bool, true, false, cond}
-use mathlib.Core.List.{List, [], _∷_, _++_, append-assoc}
-use mathlib.Core.Logic.{_⊎_, inl, inr, ⊎-elim}
-use mathlib.Core.Path.{_≡_, refl, sym, ap, _∙_}
+use Prim.Native.Nat.{ℕ, _+_, _*_, _≤_, _<_}
+use mathlib.Core.List.{List, _++_, append-assoc}
+use mathlib.Core.Path.{_≡_, ap, _∙_}
 use native.Mathlib.Omega.{arith}
 use borrow.Author.Tests.{lt-ltb, le-ltb}
 use lib.IntN.{ℤ}
-use lib.ListN.{length, getD, take, length-append, List·getD-append}
+use lib.ListN.{length, take, length-append, List·getD-append}
 use lib.Seq.{length-take-le, getD-take, getD-append-add}
 use Rattle.endian.specs.Unsigned.{u16At, u16Bytes}
 use Rattle.endian.specs.Signed.{i16At, signed}
 use Rattle.endian.proofs.Unsigned.{u16-whole}
-use Rattle.layout.specs.Rows.{laidOut}
 use Rattle.layout.proofs.LaidOut.{length-parts, part-at}
 use Rattle.record_field.specs.Records.{recordBytes}
 use Rattle.record_field.proofs.Records.{fits-inside, length-recordBytes}
-use Rattle.record.specs.Nodes.{nodeSize, nodeOf}
+use Rattle.record.specs.Nodes.{nodeSize}
 use Rattle.node.specs.declared.Choice.{Choice}
 use Rattle.node.specs.declared.Choice.the-variants.{Right, Left}
-use Rattle.node.specs.Nodes.{nodesOf, subsectorBit, isNode, childOf}
+use Rattle.node.specs.Nodes.{nodesOf, subsectorBit, childOf}
 use Rattle.node_descent.specs.Side.{side, sideAt, chosen}
 use Rattle.renumber_order.specs.Orders.{indexIn}
-use Rattle.renumber_order.specs.Lists.{oldAt}
+use Rattle.renumber_order.specs.Orders.{oldAt}
 use Rattle.renumber.specs.Renumbering.{renamed, newNode, renumbered}
 
 -- ---- two bytes of a part

@@ -1,28 +1,25 @@
 -- A list is accepted exactly if it is an order as the request asks, and there is room. Assumes nothing.
-use Prim.Native.Nat.{ℕ, zero, suc, _+_, _*_, _≤_, _<_}
-use mathlib.Core.Bool.{Bool, true, false, _&&_, _||_, not}
+use Prim.Native.Nat.{ℕ, zero, suc, _*_, _≤_, _<_}
+use mathlib.Core.Bool.{true, not}
 use mathlib.Core.List.{List, [], _∷_, _++_}
-use mathlib.Core.Logic.{_⊎_, inl, inr, ⊎-elim, _↔_}
-use mathlib.Core.Path.{_≡_, refl, sym, ap, _∙_}
-use native.Mathlib.Nat.{le-of-suc-le-suc, eq-or-lt-of-le, le-trans}
+use mathlib.Core.Logic.{⊎-elim, _↔_}
+use mathlib.Core.Path.{_≡_, _∙_}
 use native.Mathlib.Omega.{arith}
 use borrow.Author.Tests.{ltb-true, lt-ltb, le-ltb, leb-true, le-leb, eqb-true, eq-eqb, not-true}
-use lib.Dec.{leb, ltb, eqb}
-use lib.ListN.{length, getD}
-use Rattle.refusal.specs.declared.Check.{Check}
+use lib.ListN.{length}
 use Rattle.refusal.specs.declared.Check.the-variants.{Pass}
-use Rattle.refusal.specs.declared.Refusal.the-variants.{RenumberNodes, RenumberChild, RenumberRoot, RenumberLength, RenumberRoom}
-use Rattle.refusal.specs.Checks.{unless, _andThen_}
+use Rattle.refusal.specs.declared.Refusal.the-variants.{RenumberNodes, RenumberChild, RenumberRoot, RenumberLength}
+use Rattle.refusal.specs.Checks.{unless}
 use Rattle.refusal.proofs.Checks.{both, unless-pass, andThen-pass}
 use Rattle.record.specs.Nodes.{nodeSize}
 use Rattle.node.specs.declared.Choice.{Choice}
 use Rattle.node.specs.declared.Choice.the-variants.{Right, Left}
-use Rattle.node.specs.Nodes.{nodesOf, subsectorBit, isNode, childOf, root}
-use Rattle.node_route.specs.Heights.{member, repeats}
+use Rattle.node.specs.Nodes.{nodesOf, subsectorBit, childOf, root}
+use Rattle.node_route.specs.Heights.{repeats}
 use Rattle.node_route.specs.Reach.{reachedNodes, HoldsOnce}
 use Rattle.node_route.proofs.Heights.{node-or-end}
 use Rattle.renumber_order.specs.Orders.{indexIn, manyOk, onceOk, rootOk, childFirst, childrenOk, renumberCheck}
-use Rattle.renumber_order.specs.Lists.{oldAt}
+use Rattle.renumber_order.specs.Orders.{oldAt}
 use Rattle.theorem_renumber.specs.Promises.{ReachedNode, GoodOrder}
 use Rattle.renumber_order.proofs.Checking.{children-none, children-suc, children-each}
 use Rattle.theorem_renumber.proofs.Held.{at-place, place-least, same-length, holds-all, all-member, member-all, last-ends, ends-last}

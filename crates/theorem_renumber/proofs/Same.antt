@@ -1,14 +1,12 @@
 -- The new lump is the same tree: every list of choices, and every point's walk, goes from renamed word to renamed word. Assumes
 -- nothing.
 use Prim.Native.Nat.{ℕ, zero, suc, _+_, _-_, _*_, _≤_, _<_}
-use mathlib.Core.Bool.{Bool, true, false, _&&_}
 use mathlib.Core.List.{List, [], _∷_, _++_}
-use mathlib.Core.Logic.{_⊎_, inl, inr, ⊎-elim, _↔_}
+use mathlib.Core.Logic.{⊎-elim, _↔_}
 use mathlib.Core.Path.{_≡_, refl, sym, ap, _∙_, subst}
-use native.Mathlib.Nat.{le-antisymm, le-trans}
+use native.Mathlib.Nat.{le-antisymm}
 use native.Mathlib.Omega.{arith}
-use borrow.Author.Tests.{ltb-true, lt-ltb, le-ltb}
-use lib.Dec.{ltb}
+use borrow.Author.Tests.{lt-ltb, le-ltb}
 use lib.IntN.{ℤ}
 use lib.ListN.{length, getD, length-append}
 use lib.Seq.{getD-append-seam}
@@ -17,9 +15,9 @@ use Rattle.node.specs.declared.Choice.{Choice}
 use Rattle.node.specs.declared.Choice.the-variants.{Right, Left}
 use Rattle.node_descent.specs.declared.Descent.the-variants.{Found}
 use Rattle.node_route.specs.declared.Graph.{Graph}
-use Rattle.node.specs.Nodes.{nodesOf, subsectorBit, childOf, root, childOk, nodeOk}
-use Rattle.node_route.specs.Routes.{Follow, Reached, Loop, Shared, Route, Depth}
-use Rattle.node_route.specs.Heights.{member, repeats, graphVerdict}
+use Rattle.node.specs.Nodes.{nodesOf, subsectorBit, childOf, root}
+use Rattle.node_route.specs.Routes.{Follow, Reached, Loop, Shared, Depth}
+use Rattle.node_route.specs.Heights.{graphVerdict}
 use Rattle.node_descent.specs.Side.{chosen, sideAt}
 use Rattle.node_descent.specs.Walks.{Walk, descent}
 use Rattle.node_route.proofs.Heights.{node-or-end}
@@ -31,7 +29,7 @@ use Rattle.node_route.proofs.Shared.{shared-repeats}
 use Rattle.node_route.proofs.Verdict.{depth-verdict, verdict-holds}
 use Rattle.node_descent.proofs.Descends.{Passed, descent-holds}
 use Rattle.renumber_order.specs.Orders.{indexIn}
-use Rattle.renumber_order.specs.Lists.{oldAt}
+use Rattle.renumber_order.specs.Orders.{oldAt}
 use Rattle.renumber.specs.Renumbering.{renamed, renumbered}
 use Rattle.theorem_renumber.specs.Promises.{GoodOrder, SameNodes}
 use Rattle.theorem_renumber.proofs.Held.{clash, place-in, at-place, place-least, place-at}

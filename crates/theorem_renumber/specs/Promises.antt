@@ -17,7 +17,7 @@ use Rattle.node_route.specs.Reach.{HoldsOnce}
 use Rattle.node_descent.specs.Walks.{Walk, descent}
 use Rattle.map_check.specs.declared.Verdict.the-variants.{Accepted}
 use Rattle.map_check.specs.Verdict.{nodesAt, subsectorsAt, verdict}
-use Rattle.renumber_order.specs.Lists.{oldAt}
+use Rattle.renumber_order.specs.Orders.{oldAt}
 use Rattle.renumber_order.specs.Orders.{renumberCheck}
 use Rattle.renumber.specs.Renumbering.{renumbered}
 

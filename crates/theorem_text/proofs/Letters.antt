@@ -9,7 +9,7 @@ use lib.Dec.{eqb, ltb, leb}
 use lib.ListN.{getD, length}
 use Rattle.text_byte.specs.Bytes.{within, isDigit, isLetter, isNameByte}
 use Rattle.text_byte.specs.Spans.{spanEnd}
-use Rattle.text_byte.proofs.Bytes.{within-true}
+use Rattle.text_byte.proofs.Bytes.{within-true, either}
 use Rattle.text_byte.proofs.Spans.{span-stop, span-done}
 use Rattle.text_value.specs.declared.Reading.{Reading}
 use Rattle.text_value.specs.declared.Reading.the-variants.{NoValue}
@@ -46,10 +46,6 @@ module _ {v w : List ℕ} (s : SameLetters v w) where
   false-same =
       λ j. (eqb (s .long j) 5 && eqb (s .letters 0 j) 102)
       && (eqb (s .letters 1 j) 97 && (eqb (s .letters 2 j) 108 && (eqb (s .letters 3 j) 115 && eqb (s .letters 4 j) 101)))
-
-either : {A : Type 0} (x y : Bool) → (x || y) ≡ true → (x ≡ true → A) → (y ≡ true → A) → A
-either true y e f g = f refl
-either false y e f g = g e
 
 -- a letter is no digit and no sign
 letter-high : (b : ℕ) → isLetter b ≡ true → 64 < b

@@ -12,19 +12,18 @@ use Rattle.refusal.specs.declared.Check.the-variants.{Pass}
 use Rattle.text_token.specs.declared.Token.{Token}
 use Rattle.text_byte.specs.Bytes.{equalsSign, semicolon, openBrace, closeBrace}
 use Rattle.text_token.specs.Tokens.{endForm, tokenAt, wordOf}
-use Rattle.text_value.specs.Values.{tokenRead}
 use Rattle.text_table.specs.declared.scope.Scope.{Scope}
-use Rattle.text_table.specs.Names.{fieldNamed, kindNamed}
+use Rattle.text_table.specs.Names.{kindNamed}
 use Rattle.text_block.specs.declared.Asked.{Asked}
 use Rattle.text_block.specs.declared.Wanted.{Wanted}
 use Rattle.text_block.specs.declared.Wanted.the-variants.{Statement, Equals, Value, Semicolon, NoMore}
 use Rattle.text_step.specs.declared.Notes.{Notes}
 use Rattle.text_step.specs.declared.Parse.{Parse}
-use Rattle.text_block.specs.Blocks.{noPlaces, stored, filed}
+use Rattle.text_block.specs.Blocks.{noPlaces, filed}
 use Rattle.text_name.specs.Identifiers.{isIdentifier}
-use Rattle.text_step.specs.Steps.{notes, parse, goesOn, misfit, isTop, closedBlock, openedBlock, valueCheck, judged, stepBy}
+use Rattle.text_step.specs.Steps.{notes, parse, goesOn, misfit, isTop, closedBlock, openedBlock, judged, stepBy}
 use Rattle.text_reader.specs.Texts.{Stand, stand, tokenMore, textFrom}
-use Rattle.theorem_text.specs.Tokens.{SameFirst, SameTokens}
+use Rattle.theorem_text.specs.Tokens.{SameFirst}
 use Rattle.theorem_text.specs.Answers.{SameCheck, both-pass, SameStand}
 use Rattle.theorem_text.specs.Promises.{after, beginsAt, nextToken, UnknownAssigned, PutBetween, UnknownNamesDoNotMatter}
 use Rattle.theorem_text.proofs.Related.{SameWanted, want-statement, want-equals, want-value, want-semicolon, want-none}

@@ -1,5 +1,5 @@
 -- A block of an unknown name changes nothing but places: its tokens lead back to the top, with the same notes. Assumes nothing.
-use Prim.Native.Nat.{ℕ, zero, suc, _+_}
+use Prim.Native.Nat.{ℕ, suc, _+_}
 use mathlib.Core.Bool.{Bool, true, false, not, _&&_, cond, and-false, true≢false}
 use mathlib.Core.List.{List}
 use mathlib.Core.Path.{_≡_, refl, sym, ap, _∙_, subst}
@@ -14,7 +14,6 @@ use Rattle.text_gap.specs.Gaps.{gapFrom}
 use Rattle.text_byte.specs.Spans.{spanEnd}
 use Rattle.text_value.specs.Numbers.{digitsFrom}
 use Rattle.text_token.specs.Tokens.{wordForm, tokenAt, wordOf}
-use Rattle.text_table.specs.declared.scope.Scope.{Scope}
 use Rattle.text_table.specs.declared.scope.Scope.the-variants.{Top, Unknown}
 use Rattle.text_table.specs.Scopes.{scopeNumber}
 use Rattle.text_table.proofs.Scopes.{number-tells}
@@ -24,13 +23,12 @@ use Rattle.text_block.specs.declared.Asked.{Asked}
 use Rattle.text_block.specs.declared.Asked.the-variants.{Nothing, Numbered, First, Opening}
 use Rattle.text_block.specs.declared.Wanted.{Wanted}
 use Rattle.text_block.specs.declared.Wanted.the-variants.{Statement, Equals, Value, NoMore}
-use Rattle.text_block.specs.Blocks.{noPlaces, isAsked, stopsThere, stopsInside, allGiven, filed}
+use Rattle.text_block.specs.Blocks.{noPlaces, isAsked, stopsThere, stopsInside}
 use Rattle.text_name.specs.Identifiers.{identifierOk, isIdentifier}
 use Rattle.text_step.specs.declared.Notes.{Notes}
 use Rattle.text_step.specs.declared.Parse.{Parse}
-use Rattle.text_step.specs.Steps.{notes, parse, goesOn, refusedWith, misfit, isTop, isFound, notesAfter, closedBlock, onEnd, openedBlock, onBrace, stepBy}
-use Rattle.text_reader.specs.Texts.{Stand, stand, keptAfter, tokenMore}
-use Rattle.theorem_text.specs.Tokens.{SameFirst}
+use Rattle.text_step.specs.Steps.{notes, parse, goesOn, misfit, isTop, onEnd, openedBlock, onBrace, stepBy}
+use Rattle.text_reader.specs.Texts.{Stand, stand, tokenMore}
 use Rattle.theorem_text.specs.Answers.{SameCheck, both-pass}
 use Rattle.theorem_text.specs.Promises.{after, beginsAt, nextToken, AllUnknown, none, more, UnknownBlock, BlockBehind, PutBetween, UnknownBlocksDoNotMatter}
 use Rattle.theorem_text.proofs.Related.{SameWanted, want-statement}

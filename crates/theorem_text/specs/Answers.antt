@@ -6,14 +6,12 @@ use mathlib.Core.List.{List}
 use mathlib.Core.Path.{_≡_}
 use lib.Dec.{eqb}
 use lib.IntN.{ℤ}
-use lib.Ieee.{Float}
 use lib.ListN.{getD}
 use Rattle.refusal.specs.declared.Refusal.{Refusal}
 use Rattle.refusal.specs.declared.Check.{Check}
 use Rattle.refusal.specs.declared.Check.the-variants.{Pass, Refused}
 use Rattle.refusal.specs.Table.{numberOf}
 use Rattle.text_token.specs.Tokens.{bytesOf}
-use Rattle.text_block.specs.declared.Counts.{Counts}
 use Rattle.text_reader.specs.Texts.{Stand}
 use Rattle.text_record.specs.declared.given.Places.{Places}
 use Rattle.text_record.specs.Fields.{valueAt, wholeOr, decimalOr, stringOr, flagOr}

@@ -66,7 +66,7 @@ module _ (wad name : List ℕ) where
       ap (λ (b : Bool). sought (unless b MapName)) q ∙ sym (ap (λ (k : Check). sought (k andThen named)) e)
 
 -- the count stands beside the marker and changes nothing of it
-counted-marker : (count : ℕ) (m : Marker) → counted count m .marker ≡ m
+pub counted-marker : (count : ℕ) (m : Marker) → counted count m .marker ≡ m
 counted-marker count (Marked i) = refl
 counted-marker count (NoMarker r) = refl
 

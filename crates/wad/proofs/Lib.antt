@@ -1,4 +1,4 @@
--- The laws of a WAD file's directory. The laws of entries and of the search. Assumes nothing.
+-- The laws of a directory, of its entries and of the search for a marker. Assumes nothing.
 
 pub mod Slices
 pub mod Listing

@@ -1,4 +1,4 @@
--- A WAD file's header and directory. An entry's part of a WAD file, and the search for a map. Assumes nothing.
+-- A WAD file's header and directory, an entry's part of the file, and the search for a map's marker. Assumes nothing.
 
 pub mod Slices
 pub mod Header

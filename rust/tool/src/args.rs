@@ -1,7 +1,11 @@
 //! The command line, taken apart. Whatever is not understood is bad usage, and then nothing is judged.
 
+use crate::help;
+use crate::judge::Task;
+use crate::options::{self, Parts};
 use std::ffi::{OsStr, OsString};
 use std::fmt;
+use std::path::Path;
 
 /// What is asked for, and how the answers are to look.
 #[derive(Debug, PartialEq, Eq)]
@@ -17,19 +21,12 @@ pub struct Request {
 /// What to do.
 #[derive(Debug, PartialEq, Eq)]
 pub enum Command {
-    /// Print the help.
-    Help,
+    /// Print the help, or the part of a command.
+    Help(&'static str),
     /// Print the version.
     Version,
     /// Judge the named maps of each file, or all of them.
-    Judge {
-        /// At least one.
-        files: Vec<OsString>,
-        /// The file that each of them is a patch over, if they are.
-        base: Option<OsString>,
-        /// Names as given; none for every map.
-        maps: Vec<OsString>,
-    },
+    Judge(Task),
     /// List a directory, or one entry of it.
     List {
         /// The file.
@@ -115,6 +112,15 @@ pub enum Command {
         /// Whether each record is told.
         records: bool,
     },
+    /// Cut a map or a lump out of a file.
+    Extract {
+        /// The file.
+        file: OsString,
+        /// The name as given.
+        name: OsString,
+        /// Where the new file goes.
+        output: OsString,
+    },
     /// Number a map's nodes anew.
     Renumber {
         /// The file.
@@ -147,52 +153,37 @@ impl fmt::Display for Misuse {
     }
 }
 
-fn misuse<T>(words: impl Into<String>) -> Result<T, Misuse> {
+/// Bad usage, in words.
+pub fn misuse<T>(words: impl Into<String>) -> Result<T, Misuse> {
     Err(Misuse(words.into()))
 }
 
-/// The options and the other words, apart.
-#[derive(Default)]
-struct Parts {
-    words: Vec<OsString>,
-    maps: Vec<OsString>,
-    base: Option<OsString>,
-    palette: Option<OsString>,
-    offset: Option<OsString>,
-    list: Option<OsString>,
-    name: Option<OsString>,
-    index: Option<OsString>,
-    check: Option<OsString>,
-    output: Option<OsString>,
-    records: bool,
-    json: bool,
-    quiet: bool,
-    help: bool,
-    version: bool,
-}
-
 /// What may be asked for.
-const COMMANDS: &str = "judge, list, index, descend, order, picture, encode, sidedefs, renumber, diff or text";
+const COMMANDS: &str = "judge, list, index, extract, descend, order, picture, encode, sidedefs, renumber, diff, text or help";
 
 /// Takes the arguments after the program's name apart.
 pub fn parse(arguments: Vec<OsString>) -> Result<Request, Misuse> {
-    let mut parts = split(arguments)?;
+    let mut parts = options::split(arguments)?;
     let (json, quiet) = (parts.json, parts.quiet);
     let plain = |command| Ok(Request { command, json: false, quiet: false });
-    if parts.help {
-        return plain(Command::Help);
-    }
     if parts.version {
         return plain(Command::Version);
     }
     if parts.words.is_empty() {
-        return misuse(format!("no command is given: {COMMANDS}"));
+        return if parts.help { plain(Command::Help(help::WHOLE)) } else { misuse(format!("no command is given: {COMMANDS}")) };
     }
     let name = parts.words.remove(0);
+    if name == "help" {
+        return plain(Command::Help(asked_part(&parts)?));
+    }
+    if parts.help {
+        return plain(Command::Help(part_of(&name)?));
+    }
     let command = match name.to_str() {
         Some("judge") => judge(&parts),
         Some("list") => list(&parts),
         Some("index") => index(&parts),
+        Some("extract") => extract(&parts),
         Some("descend") => descend(&parts),
         Some("order") => order(&parts),
         Some("picture") => picture(&parts),
@@ -201,129 +192,51 @@ pub fn parse(arguments: Vec<OsString>) -> Result<Request, Misuse> {
         Some("diff") => diff(&parts),
         Some("renumber") => renumber(&parts),
         Some("text") => text(&parts),
-        _ => misuse(format!("'{}' is no command: {COMMANDS}", shown(&name))),
+        _ => unknown(&name),
     }?;
-    fits(&name, &parts)?;
+    parts.fit(&name.to_string_lossy())?;
     Ok(Request { command, json, quiet })
 }
 
-/// Sorts options from words; `--` makes words of all that follows.
-fn split(arguments: Vec<OsString>) -> Result<Parts, Misuse> {
-    let mut parts = Parts::default();
-    let mut rest = arguments.into_iter();
-    while let Some(argument) = rest.next() {
-        if let Some((option, joined)) = valued(&argument) {
-            let given = joined.map(OsString::from).or_else(|| rest.next());
-            put(option, given, &mut parts)?;
-            continue;
-        }
-        match argument.to_str() {
-            Some("--") => parts.words.extend(rest.by_ref()),
-            Some("--json") => parts.json = true,
-            Some("--records") => parts.records = true,
-            Some("--quiet" | "-q") => parts.quiet = true,
-            Some("--help" | "-h") => parts.help = true,
-            Some("--version" | "-V") => parts.version = true,
-            _ if is_option(&argument) => return misuse(format!("'{}' is no option", shown(&argument))),
-            _ => parts.words.push(argument),
-        }
-    }
-    Ok(parts)
-}
-
-/// An option that takes a value, and the value where it is joined to a long one: `--map=MAP01`.
-fn valued(argument: &OsStr) -> Option<(&str, Option<&str>)> {
-    const LONG: [&str; 8] = ["--map", "--base", "--palette", "--offset", "--order", "--name", "--index", "--check"];
-    let text = argument.to_str()?;
-    let (option, joined) = text.split_once('=').map_or((text, None), |(option, value)| (option, Some(value)));
-    (LONG.contains(&option) || text == "-o").then_some((option, joined))
-}
-
-/// Puts an option's value where it belongs; all but `--map` are given once.
-fn put(option: &str, given: Option<OsString>, parts: &mut Parts) -> Result<(), Misuse> {
-    let Some(given) = given else { return misuse(format!("{option} needs a value")) };
-    let place = match option {
-        "--base" => &mut parts.base,
-        "--palette" => &mut parts.palette,
-        "--offset" => &mut parts.offset,
-        "--order" => &mut parts.list,
-        "--name" => &mut parts.name,
-        "--index" => &mut parts.index,
-        "--check" => &mut parts.check,
-        "-o" => &mut parts.output,
-        _ => {
-            parts.maps.push(given);
-            return Ok(());
-        }
-    };
-    put_once(option, place, given)
-}
-
-fn put_once(option: &str, place: &mut Option<OsString>, given: OsString) -> Result<(), Misuse> {
-    match place.replace(given) {
-        None => Ok(()),
-        Some(_) => misuse(format!("{option} is given twice")),
+/// What `help` prints: all of it, or the part of the command that is named.
+fn asked_part(parts: &Parts) -> Result<&'static str, Misuse> {
+    match &parts.words[..] {
+        [] => Ok(help::WHOLE),
+        [name] => part_of(name),
+        [_, more, ..] => misuse(format!("help takes one COMMAND, and '{}' is one word too many", shown(more))),
     }
 }
 
-/// A word that begins with `-` is an option, but for `-` itself and negative numbers.
-fn is_option(argument: &OsStr) -> bool {
-    match argument.as_encoded_bytes() {
-        [b'-', next, ..] => !next.is_ascii_digit(),
-        _ => false,
-    }
+fn part_of(command: &OsStr) -> Result<&'static str, Misuse> {
+    command.to_str().and_then(help::part).map_or_else(|| unknown(command), Ok)
 }
 
-/// Refuses options that the command does not know.
-fn fits(command: &OsStr, parts: &Parts) -> Result<(), Misuse> {
-    let takes = |commands: &[&str]| commands.iter().any(|it| command == *it);
-    let strange = if !parts.maps.is_empty() && !takes(&["judge", "diff"]) {
-        "--map"
-    } else if parts.base.is_some() && !takes(&["judge", "picture"]) {
-        "--base"
-    } else if parts.palette.is_some() && !takes(&["picture", "encode"]) {
-        "--palette"
-    } else if parts.offset.is_some() && !takes(&["encode"]) {
-        "--offset"
-    } else if parts.list.is_some() && !takes(&["renumber"]) {
-        "--order"
-    } else if parts.name.is_some() && !takes(&["list"]) {
-        "--name"
-    } else if parts.index.is_some() && !takes(&["list"]) {
-        "--index"
-    } else if parts.check.is_some() && !takes(&["index"]) {
-        "--check"
-    } else if parts.output.is_some() && !takes(&["order", "picture", "encode", "renumber", "index"]) {
-        "-o"
-    } else if parts.records && !takes(&["diff"]) {
-        "--records"
-    } else if parts.quiet && !takes(&["judge", "picture", "encode", "sidedefs", "renumber", "index"]) {
-        "--quiet"
-    } else {
-        return Ok(());
-    };
-    misuse(format!("{} does not take {strange}", shown(command)))
+fn unknown<T>(command: &OsStr) -> Result<T, Misuse> {
+    misuse(format!("'{}' is no command: {COMMANDS}", shown(command)))
 }
 
 fn judge(parts: &Parts) -> Result<Command, Misuse> {
-    let files = parts.words.clone();
-    if files.is_empty() {
-        return misuse("judge needs a file");
+    let (files, list) = (parts.words.clone(), parts.files.clone());
+    match (&list, files.first()) {
+        (None, None) => return misuse("judge needs FILE, a folder, or --files0-from LIST"),
+        (Some(_), Some(file)) => return misuse(format!("judge takes --files0-from or files, and '{}' is one", shown(file))),
+        _ => {}
     }
-    read_once(files.iter().chain(&parts.base))?;
-    Ok(Command::Judge { files, base: parts.base.clone(), maps: parts.maps.clone() })
+    read_once(files.iter().chain(&list).chain(&parts.base))?;
+    let (base, maps) = (parts.base.clone(), parts.maps.clone());
+    Ok(Command::Judge(Task { files, list, base, maps, require_map: parts.require_map, all: parts.all }))
 }
 
 /// Refuses standard input as more than one of the files.
 fn read_once<'a>(files: impl Iterator<Item = &'a OsString>) -> Result<(), Misuse> {
     match files.filter(|file| *file == "-").count() {
         0 | 1 => Ok(()),
-        _ => misuse("standard input can be judged once only"),
+        _ => misuse("standard input can be read once only"),
     }
 }
 
 fn list(parts: &Parts) -> Result<Command, Misuse> {
-    let [file] = words(parts, "list needs FILE")?;
+    let [file] = words(parts, "list", "FILE")?;
     let lookup = match (parts.name.clone(), parts.index.clone()) {
         (None, None) => None,
         (Some(name), Some(index)) => Some((name, index)),
@@ -334,31 +247,51 @@ fn list(parts: &Parts) -> Result<Command, Misuse> {
 }
 
 fn index(parts: &Parts) -> Result<Command, Misuse> {
-    let needs = "index needs FILE -o OUT.wix, or FILE --check INDEX";
-    let [file] = words(parts, needs)?;
+    let needs = "FILE -o OUT.wix, or FILE --check INDEX";
+    let [file] = words(parts, "index", needs)?;
     read_once([&file].into_iter().chain(&parts.check))?;
     match (parts.output.clone(), parts.check.clone()) {
         (Some(output), None) => Ok(Command::Index { file, task: IndexTask::Write(output) }),
         (None, Some(index)) => Ok(Command::Index { file, task: IndexTask::Check(index) }),
-        _ => misuse(needs),
+        _ => misuse(format!("index needs {needs}")),
+    }
+}
+
+fn extract(parts: &Parts) -> Result<Command, Misuse> {
+    let needs = "FILE NAME -o OUT.wad";
+    let [file, name] = words(parts, "extract", needs)?;
+    if file == "-" {
+        return misuse("extract reads parts of a file, and not standard input: give the file's name");
+    }
+    match parts.output.clone() {
+        Some(output) => Ok(Command::Extract { file, name, output }),
+        None => misuse(format!("extract needs {needs}")),
     }
 }
 
 fn text(parts: &Parts) -> Result<Command, Misuse> {
-    let [file, map] = words(parts, "text needs FILE MAP")?;
+    let [file, map] = words(parts, "text", "FILE MAP")?;
     Ok(Command::Text { file, map })
 }
 
 fn descend(parts: &Parts) -> Result<Command, Misuse> {
-    let [file, map, x, y] = words(parts, "descend needs FILE MAP X Y")?;
+    let [file, map, x, y] = words(parts, "descend", "FILE MAP X Y")?;
     let (x, y) = (coordinate(&x)?, coordinate(&y)?);
     Ok(Command::Descend { file, map, x, y })
 }
 
 fn order(parts: &Parts) -> Result<Command, Misuse> {
-    let [file, map, x, y] = words(parts, "order needs FILE MAP X Y")?;
+    let [file, map, x, y] = words(parts, "order", "FILE MAP X Y")?;
     let (x, y) = (coordinate(&x)?, coordinate(&y)?);
-    Ok(Command::Order { file, map, x, y, output: parts.output.clone() })
+    let output = parts.output.clone();
+    if output.as_ref().is_some_and(|output| output != "-" && !is_svg(output)) {
+        return misuse("order draws SVG: -o needs a name that ends in .svg, or -");
+    }
+    Ok(Command::Order { file, map, x, y, output })
+}
+
+fn is_svg(output: &OsStr) -> bool {
+    Path::new(output).extension().is_some_and(|ending| ending.eq_ignore_ascii_case("svg"))
 }
 
 fn picture(parts: &Parts) -> Result<Command, Misuse> {
@@ -366,7 +299,10 @@ fn picture(parts: &Parts) -> Result<Command, Misuse> {
     let (file, lump) = match &parts.words[..] {
         [file] => (file.clone(), None),
         [file, lump] => (file.clone(), Some(lump.clone())),
-        _ => return misuse(needs),
+        [_, _, more, ..] => {
+            return misuse(format!("picture takes FILE LUMP -o OUT.png, and '{}' is one word too many", shown(more)))
+        }
+        [] => return misuse(needs),
     };
     if lump.is_none() && parts.base.is_some() {
         return misuse("--base needs LUMP: the file of a lump is no patch");
@@ -380,41 +316,45 @@ fn picture(parts: &Parts) -> Result<Command, Misuse> {
 }
 
 fn encode(parts: &Parts) -> Result<Command, Misuse> {
-    let needs = "encode needs IMAGE -o OUT.lmp";
-    let [image] = words(parts, needs)?;
+    let needs = "IMAGE -o OUT.lmp";
+    let [image] = words(parts, "encode", needs)?;
     let palette = parts.palette.clone();
     read_once([&image].into_iter().chain(&palette))?;
     let offset = parts.offset.as_deref().map_or(Ok((0, 0)), offsets)?;
     match parts.output.clone() {
         Some(output) => Ok(Command::Encode { image, palette, offset, output }),
-        None => misuse(needs),
+        None => misuse(format!("encode needs {needs}")),
     }
 }
 
 fn sidedefs(parts: &Parts) -> Result<Command, Misuse> {
-    let [sectors] = words(parts, "sidedefs needs SECTORS, and the lump on standard input")?;
+    let [sectors] = words(parts, "sidedefs", "SECTORS, and the lump on standard input")?;
     Ok(Command::Sidedefs { sectors: count(&sectors)? })
 }
 
 fn diff(parts: &Parts) -> Result<Command, Misuse> {
-    let [old, new] = words(parts, "diff needs OLD NEW")?;
+    let [old, new] = words(parts, "diff", "OLD NEW")?;
     read_once([&old, &new].into_iter())?;
     Ok(Command::Diff { old, new, maps: parts.maps.clone(), records: parts.records })
 }
 
 fn renumber(parts: &Parts) -> Result<Command, Misuse> {
-    let needs = "renumber needs FILE MAP -o OUT.wad";
-    let [file, map] = words(parts, needs)?;
+    let needs = "FILE MAP -o OUT.wad";
+    let [file, map] = words(parts, "renumber", needs)?;
     let list = parts.list.clone();
     read_once([&file].into_iter().chain(&list))?;
     match parts.output.clone() {
         Some(output) => Ok(Command::Renumber { file, map, list, output }),
-        None => misuse(needs),
+        None => misuse(format!("renumber needs {needs}")),
     }
 }
 
-fn words<const N: usize>(parts: &Parts, needs: &str) -> Result<[OsString; N], Misuse> {
-    parts.words.clone().try_into().or_else(|_| misuse(needs))
+/// The words of a command, neither too few nor too many.
+fn words<const N: usize>(parts: &Parts, command: &str, needs: &str) -> Result<[OsString; N], Misuse> {
+    match parts.words.get(N) {
+        Some(more) => misuse(format!("{command} takes {needs}, and '{}' is one word too many", shown(more))),
+        None => parts.words.clone().try_into().or_else(|_| misuse(format!("{command} needs {needs}"))),
+    }
 }
 
 fn coordinate(word: &OsStr) -> Result<i16, Misuse> {
@@ -422,7 +362,7 @@ fn coordinate(word: &OsStr) -> Result<i16, Misuse> {
     number.map_or_else(|| misuse(format!("'{}' is no coordinate: -32768 to 32767", shown(word))), Ok)
 }
 
-/// Digits alone: a count outside 1 to 65,535 is the library's to refuse.
+/// Digits alone: a count outside 1 to 65535 is the library's to refuse.
 fn count(word: &OsStr) -> Result<usize, Misuse> {
     let digits = word.to_str().filter(|text| text.bytes().all(|byte| byte.is_ascii_digit()));
     let number = digits.and_then(|text| text.parse().ok());
@@ -436,6 +376,7 @@ fn offsets(word: &OsStr) -> Result<(i16, i16), Misuse> {
     numbers.map_or_else(|| misuse(format!("'{}' is no offset: X,Y, each -32768 to 32767", shown(word))), Ok)
 }
 
-fn shown(word: &OsStr) -> String {
-    crate::name::shown(&word.to_string_lossy())
+/// A word of the command line, safe to print.
+pub fn shown(word: &OsStr) -> String {
+    crate::name::file(word)
 }

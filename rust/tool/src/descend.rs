@@ -1,9 +1,11 @@
 //! `descend`: the subsector of a point.
 
+use crate::count::counted;
+use crate::finding::Finding;
 use crate::json::Object;
 use crate::name::{self, shown};
 use crate::report::Report;
-use crate::verdict::{counted, Verdict};
+use crate::verdict::Verdict;
 use crate::wad::Wad;
 use meshpigeon::Found;
 use std::ffi::OsStr;
@@ -15,21 +17,24 @@ pub fn run(file: &OsStr, map: &OsStr, point: (i16, i16), report: &mut Report) {
         Err(fault) => return report.fault(file, fault),
     };
     let map = name::asked(map);
-    let (file, name) = (file.to_string_lossy(), name::text(&map));
+    let name = name::text(&map);
     let found = wad.nodes_of(&map).and_then(|(nodes, subsectors)| meshpigeon::descend(nodes, subsectors, point.0, point.1));
     match found {
-        Err(refusal) => report.verdict(&Verdict::of_walk(&file, name, refusal)),
-        Ok(found) => report.answer(|| line(&file, &name, point, found), || json(&file, &name, point, found)),
+        Err(refusal) => {
+            let found = Finding::in_map(refusal, &wad, &map);
+            report.verdict(&Verdict::of_walk(wad.about(file, report), name, refusal, found));
+        }
+        Ok(found) => report.answer(|| line(file, &name, point, found), || json(file, &name, point, found)),
     }
 }
 
-fn line(file: &str, map: &str, (x, y): (i16, i16), found: Found) -> String {
+fn line(file: &OsStr, map: &str, (x, y): (i16, i16), found: Found) -> String {
     let passed = counted(found.count, "node");
-    shown(&format!("{file}:{map}: ({x}, {y}) is in subsector {}, {passed} passed", found.subsector))
+    format!("{}:{}: ({x}, {y}) is in subsector {}, {passed} passed", name::file(file), shown(map), found.subsector)
 }
 
-fn json(file: &str, map: &str, (x, y): (i16, i16), found: Found) -> String {
-    let object = Object::new().text("file", file).text("map", map).number("number", 0);
+fn json(file: &OsStr, map: &str, (x, y): (i16, i16), found: Found) -> String {
+    let object = Object::about(file).text("map", map).number("number", 0);
     let object = object.number("x", i64::from(x)).number("y", i64::from(y));
     object.count("subsector", found.subsector).count("count", found.count).close()
 }

@@ -1,5 +1,7 @@
 //! `diff`: what changed between two maps of one name, lump by lump and record by record.
 
+use crate::about::About;
+use crate::count::grouped;
 use crate::json::Object;
 use crate::judge;
 use crate::name::{self, shown};
@@ -13,7 +15,7 @@ use std::ffi::{OsStr, OsString};
 
 /// The two files, the old one first.
 struct Files<'a> {
-    names: [String; 2],
+    names: [&'a OsStr; 2],
     opened: [Opened<'a>; 2],
 }
 
@@ -22,8 +24,17 @@ impl Files<'_> {
         self.opened[at(file)].wad(Source::File)
     }
 
-    fn name(&self, file: DifferenceFile) -> &str {
-        &self.names[at(file)]
+    fn name(&self, file: DifferenceFile) -> &OsStr {
+        self.names[at(file)]
+    }
+
+    fn about(&self, file: DifferenceFile, report: &Report) -> About {
+        self.opened[at(file)].about(self.name(file), report)
+    }
+
+    /// What a line about a map of a file begins with.
+    fn heading(&self, file: DifferenceFile, map: &str) -> String {
+        format!("{}:{}", name::file(self.name(file)), shown(map))
     }
 }
 
@@ -38,15 +49,14 @@ fn at(file: DifferenceFile) -> usize {
 pub fn run(old: &OsStr, new: &OsStr, maps: &[OsString], records: bool, report: &mut Report) {
     report.compare();
     let [Some(one), Some(other)] = [old, new].map(|file| open(file, report)) else { return };
-    let names = [old, new].map(|file| file.to_string_lossy().into_owned());
-    let files = Files { names, opened: [one, other] };
+    let files = Files { names: [old, new], opened: [one, other] };
     if !maps.is_empty() {
         return name::all_asked(maps).iter().for_each(|map| compare(&files, map, records, report));
     }
     let [mut of_old, mut of_new] = [DifferenceFile::Old, DifferenceFile::New].map(|file| files.wad(file).maps());
     if of_old.is_empty() && of_new.is_empty() {
-        let (subject, outcome) = (Subject::File, Outcome::NoMap);
-        return report.verdict(&Verdict::plain(files.name(DifferenceFile::New).to_string(), subject, Source::File, outcome));
+        let (about, outcome) = (files.about(DifferenceFile::New, report), Outcome::NoMap("no map".to_string()));
+        return report.verdict(&Verdict::plain(about, Subject::File, Source::File, outcome));
     }
     let both: Vec<Vec<u8>> = of_old.iter().filter(|map| of_new.contains(map)).cloned().collect();
     both.iter().for_each(|map| compare(&files, map, records, report));
@@ -57,24 +67,24 @@ pub fn run(old: &OsStr, new: &OsStr, maps: &[OsString], records: bool, report: &
 }
 
 fn open(file: &OsStr, report: &mut Report) -> Option<Opened<'static>> {
-    Opened::open(file, &Base::None).map_err(|(source, fault)| report.fault_of(file, source, fault)).ok()
+    Opened::open(file, &Base::None).map_err(|(source, fault)| report.fault_of(About::unread(file), source, fault)).ok()
 }
 
 /// A map that one file alone has.
 fn lacks(files: &Files, map: &[u8], file: DifferenceFile, report: &mut Report) {
     report.differs();
-    let (map, name) = (name::text(map), files.name(file));
+    let map = name::text(map);
     let word = if file == DifferenceFile::Old { "old" } else { "new" };
     report.answer(
-        || shown(&format!("{name}:{map}: only the {word} file has this map")),
+        || format!("{}: only the {word} file has this map", files.heading(file, &map)),
         || answer(files, &map).number("number", None).text("only", word).count("count", None).objects("lumps", None).close(),
     );
 }
 
 /// What every answer begins with.
 fn answer(files: &Files, map: &str) -> Object {
-    let [old, new] = &files.names;
-    Object::new().text("file", new.as_str()).text("old", old.as_str()).text("map", map)
+    let [old, new] = files.names;
+    Object::about(new).text("old", old.to_string_lossy().as_ref()).text("map", map)
 }
 
 /// Compares the map of a name, or says why not: a refused map has the line that `judge` has of it.
@@ -83,12 +93,13 @@ fn compare(files: &Files, map: &[u8], records: bool, report: &mut Report) {
     match meshpigeon::differences(old.bytes(), map, new.bytes(), map) {
         Ok(found) => tell(files, map, &changes(old, new, map, &found), records, report),
         Err(DifferenceRefusal { file: Some(file), .. }) => {
-            report.verdict(&judge::verdict(files.name(file), &files.opened[at(file)], map, &mut Lent::new()));
+            let verdict = judge::verdict(&files.about(file, report), &files.opened[at(file)], map, &mut Lent::new());
+            report.verdict(&verdict);
         }
         Err(DifferenceRefusal { file: None, refusal }) => {
             let (subject, outcome) = (Subject::Map(name::text(map)), Outcome::Refused(refusal, None));
-            let file = files.name(DifferenceFile::New).to_string();
-            report.verdict(&Verdict { game: new.game(map), ..Verdict::plain(file, subject, Source::File, outcome) });
+            let about = files.about(DifferenceFile::New, report);
+            report.verdict(&Verdict { game: new.game(map), ..Verdict::plain(about, subject, Source::File, outcome) });
         }
     }
 }
@@ -136,7 +147,7 @@ impl Change<'_> {
 
     /// `LINEDEFS: 2 changed, 1 added, 0 dropped`.
     fn line(&self) -> String {
-        let [changed, added, dropped] = [&self.changed, &self.added, &self.dropped].map(Vec::len);
+        let [changed, added, dropped] = [&self.changed, &self.added, &self.dropped].map(|it| grouped(it.len() as i128));
         format!("{}: {changed} changed, {added} added, {dropped} dropped", self.kind.name)
     }
 
@@ -166,7 +177,7 @@ impl Change<'_> {
 
 fn tell(files: &Files, map: &[u8], changes: &[Change], records: bool, report: &mut Report) {
     let (map, count) = (name::text(map), changes.iter().map(Change::count).sum::<usize>());
-    let heading = format!("{}:{map}", files.name(DifferenceFile::New));
+    let heading = files.heading(DifferenceFile::New, &map);
     if count > 0 {
         report.differs();
     }
@@ -180,9 +191,9 @@ fn tell(files: &Files, map: &[u8], changes: &[Change], records: bool, report: &m
             let numbers = change.records().filter(|_| records).map(|record| change.record_line(record));
             [change.line()].into_iter().chain(numbers).collect::<Vec<String>>()
         };
-        let lines: Vec<String> = differing.flat_map(of).map(|line| shown(&format!("{heading}: {line}"))).collect();
+        let lines: Vec<String> = differing.flat_map(of).map(|line| format!("{heading}: {line}")).collect();
         match count {
-            0 => shown(&format!("{heading}: the same records")),
+            0 => format!("{heading}: the same records"),
             _ => lines.join("\n"),
         }
     };

@@ -1,9 +1,11 @@
 //! `encode`: a picture lump from an image.
 
+use crate::about::About;
+use crate::count::counted;
 use crate::finding::Finding;
-use crate::input;
+use crate::input::{self, Digest};
 use crate::json::Object;
-use crate::name::shown;
+use crate::name;
 use crate::netpbm::Image;
 use crate::output::{is_same, put};
 use crate::palette::Palette;
@@ -28,24 +30,24 @@ pub fn run(file: &OsStr, palette: Option<&OsStr>, (left, top): (i16, i16), outpu
     let Some(palette) = palette.map_or_else(|| Some(Palette::greys()), |file| Palette::open(file, report)) else { return };
     let bytes = match input::read_most(file) {
         Ok(bytes) => bytes,
-        Err(error) => return report.trouble(file, &error.to_string()),
+        Err(error) => return report.unread(file, &input::words(&error)),
     };
     let image = match Image::of(&bytes) {
         Ok(image) => image,
-        Err(flaw) => return report.trouble(file, &flaw.to_string()),
+        Err(flaw) => return report.unread(file, &flaw.to_string()),
     };
     let picture = Picture { width: image.width, height: image.height, left, top };
     // More pixels than the largest picture has are not looked for.
     if picture.width.saturating_mul(picture.height) > MOST_PIXELS {
-        return refuse(file, picture, TOO_LARGE, report);
+        return refuse(file, &bytes, picture, TOO_LARGE, report);
     }
     let pixels = match image.pixels() {
         Ok(pixels) => pixels,
-        Err(flaw) => return report.trouble(file, &flaw.to_string()),
+        Err(flaw) => return report.unread(file, &flaw.to_string()),
     };
     let (colour, cover) = painted(&pixels, &palette);
     match meshpigeon::write_picture(picture, &colour, &cover) {
-        Err(refusal) => refuse(file, picture, refusal, report),
+        Err(refusal) => refuse(file, &bytes, picture, refusal, report),
         Ok(lump) => put(&lump, output, report, |report| tell(file, picture, lump.len(), output, report)),
     }
 }
@@ -59,22 +61,24 @@ fn painted(pixels: &[[u8; 4]], palette: &Palette) -> (Vec<u8>, Vec<u8>) {
     pixels.iter().map(paint).unzip()
 }
 
-fn refuse(file: &OsStr, picture: Picture, refusal: Refusal, report: &mut Report) {
+fn refuse(file: &OsStr, bytes: &[u8], picture: Picture, refusal: Refusal, report: &mut Report) {
     let outcome = Outcome::Refused(refusal, Finding::in_image(refusal, picture));
-    let (file, subject) = (file.to_string_lossy().into_owned(), Subject::File);
-    report.verdict(&Verdict::plain(file, subject, Source::File, outcome));
+    let about = About::of(file, Digest::of(bytes));
+    report.verdict(&Verdict::plain(about, Subject::File, Source::File, outcome));
 }
 
 fn tell(file: &OsStr, picture: Picture, length: usize, output: &OsStr, report: &mut Report) {
     let Picture { width, height, left, top } = picture;
-    let (file, output) = (file.to_string_lossy(), output.to_string_lossy());
     report.answer(
-        || shown(&format!("{file}: {width} x {height}, offsets {left} and {top}, {length} bytes, written to {output}")),
         || {
-            let object = Object::new().text("file", file.as_ref()).number("number", 0);
+            let (file, length, output) = (name::file(file), counted(length, "byte"), name::file(output));
+            format!("{file}: {width} x {height}, offsets {left} and {top}, {length}, written to {output}")
+        },
+        || {
+            let object = Object::about(file).number("number", 0);
             let object = object.count("width", width).count("height", height);
             let object = object.number("left", i64::from(left)).number("top", i64::from(top));
-            object.count("length", length).text("output", output.as_ref()).close()
+            object.count("length", length).text("output", output.to_string_lossy().as_ref()).close()
         },
     );
 }

@@ -1,13 +1,15 @@
 //! `index`: a file's name index, written or checked.
 
+use crate::about::About;
+use crate::count::{counted, entries};
 use crate::finding::Finding;
 use crate::index_finding::IndexFinding;
-use crate::input;
+use crate::input::{self, Digest};
 use crate::json::Object;
-use crate::name::shown;
+use crate::name;
 use crate::output::{is_same, put};
 use crate::report::Report;
-use crate::verdict::{counted, Outcome, Source, Subject, Verdict};
+use crate::verdict::{Outcome, Source, Subject, Verdict};
 use crate::wad::Wad;
 use meshpigeon::Refusal;
 use std::ffi::OsStr;
@@ -23,7 +25,7 @@ pub fn write(file: &OsStr, output: &OsStr, report: &mut Report) {
     };
     match meshpigeon::index_build(wad.bytes()) {
         Ok(index) => put(&index, output, report, |report| tell_written(file, &wad, index.len(), output, report)),
-        Err(refusal) => refuse(file, refusal, None, report),
+        Err(refusal) => refuse(file, wad.bytes(), refusal, None, report),
     }
 }
 
@@ -32,43 +34,44 @@ pub fn check(file: &OsStr, index: &OsStr, report: &mut Report) {
     let Some((wad, bytes)) = open(file, index, report) else { return };
     match meshpigeon::index_check(wad.bytes(), &bytes) {
         Ok(()) => tell_right(file, &wad, index, report),
-        Err(refusal) => refuse(index, refusal, IndexFinding::of(refusal, &bytes, &wad), report),
+        Err(refusal) => refuse(index, &bytes, refusal, IndexFinding::of(refusal, &bytes, &wad), report),
     }
 }
 
 /// A file, and the bytes of an index of it; what is wrong with either is told.
 pub fn open(file: &OsStr, index: &OsStr, report: &mut Report) -> Option<(Wad, Vec<u8>)> {
     let wad = Wad::open(file).map_err(|fault| report.fault(file, fault)).ok()?;
-    let bytes = input::read_most(index).map_err(|error| report.trouble(index, &error.to_string())).ok()?;
+    let bytes = input::read_most(index).map_err(|error| report.unread(index, &input::words(&error))).ok()?;
     Some((wad, bytes))
 }
 
 /// A refused index is told by its own name.
-pub fn refuse(index: &OsStr, refusal: Refusal, found: Option<IndexFinding>, report: &mut Report) {
+pub fn refuse(index: &OsStr, bytes: &[u8], refusal: Refusal, found: Option<IndexFinding>, report: &mut Report) {
     let outcome = Outcome::Refused(refusal, found.map(Finding::Index));
-    let (file, subject) = (index.to_string_lossy().into_owned(), Subject::File);
-    report.verdict(&Verdict::plain(file, subject, Source::File, outcome));
+    let about = About::of(index, Digest::of(bytes));
+    report.verdict(&Verdict::plain(about, Subject::File, Source::File, outcome));
 }
 
 fn tell_written(file: &OsStr, wad: &Wad, length: usize, output: &OsStr, report: &mut Report) {
-    let (file, output, count) = (file.to_string_lossy(), output.to_string_lossy(), wad.entries().len());
-    let entries = if count == 1 { "1 entry".to_string() } else { format!("{count} entries") };
+    let count = wad.entries().len();
     report.answer(
-        || shown(&format!("{file}: {entries} indexed, {}, written to {output}", counted(length, "byte"))),
         || {
-            let object = Object::new().text("file", file.as_ref()).number("number", 0).count("count", count);
-            object.count("length", length).text("output", output.as_ref()).close()
+            let (file, output) = (name::file(file), name::file(output));
+            format!("{file}: {} indexed, {}, written to {output}", entries(count), counted(length, "byte"))
+        },
+        || {
+            let object = Object::about(file).number("number", 0).count("count", count);
+            object.count("length", length).text("output", output.to_string_lossy().as_ref()).close()
         },
     );
 }
 
 fn tell_right(file: &OsStr, wad: &Wad, index: &OsStr, report: &mut Report) {
-    let (file, index) = (file.to_string_lossy(), index.to_string_lossy());
     report.answer(
-        || shown(&format!("{index}: the index of {file}")),
+        || format!("{}: the index of {}", name::file(index), name::file(file)),
         || {
-            let object = Object::new().text("file", file.as_ref()).number("number", 0).count("count", wad.entries().len());
-            object.text("index", index.as_ref()).close()
+            let object = Object::about(file).number("number", 0).count("count", wad.entries().len());
+            object.text("index", index.to_string_lossy().as_ref()).close()
         },
     );
 }

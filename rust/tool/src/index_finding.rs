@@ -1,6 +1,6 @@
 //! What was found in an index that was refused, or that led to no entry. It is read from the index's own bytes after the library's answer.
 
-use crate::finding::{grouped, some};
+use crate::count::{counted, grouped};
 use crate::json::Object;
 use crate::wad::Wad;
 use meshpigeon::Refusal;
@@ -83,16 +83,16 @@ impl fmt::Display for IndexFinding {
         let number = |number: usize| grouped(number as i128);
         match *self {
             Self::Short(length, needed) => {
-                write!(out, "for this file that is {}, and it has {}", some(needed, "byte"), number(length))
+                write!(out, "for this file that is {}, and it has {}", counted(needed, "byte"), number(length))
             }
             Self::Count(count, needed) => write!(out, "it says {}, and the file has {}", number(count), number(needed)),
             Self::Length(length, needed) => {
-                write!(out, "it says {}, and the file has {}", some(length, "byte"), number(needed))
+                write!(out, "it says {}, and the file has {}", counted(length, "byte"), number(needed))
             }
             Self::Version(version) => write!(out, "this one is of version {}", number(version)),
             Self::Entry(entry) => write!(out, "its entry {entry} is the first that differs"),
-            Self::More(more) => write!(out, "it has {} too many", some(more, "byte")),
-            Self::Compared(compared) => write!(out, "{} compared", some(compared, "name")),
+            Self::More(more) => write!(out, "it has {} too many", counted(more, "byte")),
+            Self::Compared(compared) => write!(out, "{} compared", counted(compared, "name")),
         }
     }
 }

@@ -1,6 +1,11 @@
 //! JSON objects on one line, keys in the order in which they are put.
 
+use crate::name;
+use std::ffi::OsStr;
 use std::fmt::Write;
+
+/// The form of the objects. It grows by one where a key goes, or means something else.
+const FORMAT: i64 = 1;
 
 /// An object under construction.
 #[derive(Default)]
@@ -12,6 +17,12 @@ impl Object {
     /// An object without members.
     pub fn new() -> Self {
         Self::default()
+    }
+
+    /// An answer about a file, as every line begins: the format, the file's name as far as it is text, and where it is not, its bytes.
+    pub fn about(file: &OsStr) -> Self {
+        let object = Self::new().number("format", FORMAT).text("file", file.to_string_lossy().as_ref());
+        object.text("file_bytes", name::file_bytes(file).as_deref())
     }
 
     /// A string, or null.
@@ -42,6 +53,12 @@ impl Object {
     /// A list of numbers.
     pub fn numbers<N: ToString>(self, key: &str, values: &[N]) -> Self {
         let values: Vec<String> = values.iter().map(N::to_string).collect();
+        self.member(key, Some(format!("[{}]", values.join(","))))
+    }
+
+    /// A list of strings.
+    pub fn texts(self, key: &str, values: &[String]) -> Self {
+        let values: Vec<String> = values.iter().map(|text| quoted(text)).collect();
         self.member(key, Some(format!("[{}]", values.join(","))))
     }
 
@@ -77,7 +94,7 @@ fn quoted(text: &str) -> String {
             '\n' => out.push_str("\\n"),
             '\r' => out.push_str("\\r"),
             '\t' => out.push_str("\\t"),
-            it if it.is_control() => write!(out, "\\u{:04x}", u32::from(it)).expect("a string takes all text"),
+            it if name::is_hidden(it) => escape(it, &mut out),
             it => out.push(it),
         }
     }
@@ -85,9 +102,28 @@ fn quoted(text: &str) -> String {
     out
 }
 
+/// A character by the numbers of its one or two halves.
+fn escape(it: char, out: &mut String) {
+    for half in it.encode_utf16(&mut [0; 2]) {
+        write!(out, "\\u{half:04x}").expect("a string takes all text");
+    }
+}
+
 #[cfg(test)]
 mod tests {
     use super::*;
+
+    #[test]
+    fn an_answer_begins_with_its_format_and_file() {
+        let object = Object::about(OsStr::new("a b.wad")).count("n", 1);
+        assert_eq!(object.close(), r#"{"format":1,"file":"a b.wad","file_bytes":null,"n":1}"#);
+    }
+
+    #[test]
+    fn text_that_turns_other_text_is_escaped() {
+        let object = Object::new().text("a", "\u{202e}b\u{e0041}");
+        assert_eq!(object.close(), r#"{"a":"\u202eb\udb40\udc41"}"#);
+    }
 
     #[test]
     fn strings_are_escaped() {

@@ -1,12 +1,13 @@
 //! `list`: the directory, entry by entry, or one entry by its name through an index.
 
+use crate::count::counted;
 use crate::finding::Finding;
 use crate::index;
 use crate::index_finding::IndexFinding;
 use crate::json::Object;
 use crate::name;
 use crate::report::Report;
-use crate::verdict::{counted, Outcome, Source, Subject, Verdict, NOT_THERE};
+use crate::verdict::{Outcome, Source, Subject, Verdict, NOT_THERE};
 use crate::wad::{Entry, Wad};
 use meshpigeon::IndexSearch;
 use std::ffi::OsStr;
@@ -34,10 +35,10 @@ pub fn find(file: &OsStr, asked: &OsStr, beside: &OsStr, report: &mut Report) {
         ),
         Err(refusal) if refusal.number == NOT_THERE => {
             let outcome = Outcome::Refused(refusal, Some(Finding::Index(IndexFinding::Compared(compared))));
-            let (file, subject) = (file.to_string_lossy().into_owned(), Subject::Lump(name::text(&asked)));
-            report.verdict(&Verdict::plain(file, subject, Source::File, outcome));
+            let (about, subject) = (wad.about(file, report), Subject::Lump(name::text(&asked)));
+            report.verdict(&Verdict::plain(about, subject, Source::File, outcome));
         }
-        Err(refusal) => index::refuse(beside, refusal, IndexFinding::of(refusal, &bytes, &wad), report),
+        Err(refusal) => index::refuse(beside, &bytes, refusal, IndexFinding::of(refusal, &bytes, &wad), report),
         Ok((_, None)) => {}
     }
 }
@@ -48,6 +49,6 @@ fn row(number: usize, entry: &Entry) -> String {
 }
 
 fn object(file: &OsStr, number: usize, entry: &Entry) -> Object {
-    let object = Object::new().text("file", file.to_string_lossy().as_ref()).count("entry", number);
+    let object = Object::about(file).count("entry", number);
     object.text("name", name::text(entry.name).as_str()).count("offset", entry.offset).count("size", entry.size)
 }

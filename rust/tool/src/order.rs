@@ -1,11 +1,13 @@
 //! `order`: the subsectors that a point sees, front first, and where `-o` asks for it a picture of them.
 
+use crate::count::counted;
+use crate::finding::Finding;
 use crate::json::Object;
 use crate::name::{self, shown};
 use crate::output::{is_same, put};
 use crate::report::Report;
 use crate::svg::{Line, Sketch};
-use crate::verdict::{counted, Verdict};
+use crate::verdict::Verdict;
 use crate::wad::Wad;
 use meshpigeon::{Linedef, Refusal, Seg, Subsector, Vertex};
 use std::ffi::OsStr;
@@ -21,16 +23,18 @@ pub fn run(file: &OsStr, map: &OsStr, point: (i16, i16), output: Option<&OsStr>,
         Err(fault) => return report.fault(file, fault),
     };
     let map = name::asked(map);
-    let (file, name) = (file.to_string_lossy(), name::text(&map));
-    let (x, y) = point;
+    let (name, (x, y)) = (name::text(&map), point);
     let drawn = wad.nodes_of(&map).and_then(|(nodes, subsectors)| meshpigeon::draw_order(nodes, subsectors, x, y));
     let drawn = drawn.and_then(|list| Ok((output.map(|_| sketch(&wad, &map, point, &list)).transpose()?, list)));
     match (drawn, output) {
-        (Err(refusal), _) => report.verdict(&Verdict::of_walk(&file, name, refusal)),
-        (Ok((Some(sketch), list)), Some(output)) => {
-            put(sketch.svg().as_bytes(), output, report, |report| tell(&file, &name, point, &list, Some(output), report));
+        (Err(refusal), _) => {
+            let found = Finding::in_map(refusal, &wad, &map);
+            report.verdict(&Verdict::of_walk(wad.about(file, report), name, refusal, found));
         }
-        (Ok((_, list)), _) => tell(&file, &name, point, &list, None, report),
+        (Ok((Some(sketch), list)), Some(output)) => {
+            put(sketch.svg().as_bytes(), output, report, |report| tell(file, &name, point, &list, Some(output), report));
+        }
+        (Ok((_, list)), _) => tell(file, &name, point, &list, None, report),
     }
 }
 
@@ -92,21 +96,20 @@ impl Left {
     }
 }
 
-fn tell(file: &str, map: &str, point: (i16, i16), list: &[u16], output: Option<&OsStr>, report: &mut Report) {
-    let output = output.map(OsStr::to_string_lossy);
-    let output = output.as_deref();
+fn tell(file: &OsStr, map: &str, point: (i16, i16), list: &[u16], output: Option<&OsStr>, report: &mut Report) {
     report.answer(|| line(file, map, point, list, output), || json(file, map, point, list, output));
 }
 
-fn line(file: &str, map: &str, (x, y): (i16, i16), list: &[u16], output: Option<&str>) -> String {
+fn line(file: &OsStr, map: &str, (x, y): (i16, i16), list: &[u16], output: Option<&OsStr>) -> String {
     let numbers: Vec<String> = list.iter().map(u16::to_string).collect();
     let (count, numbers) = (counted(list.len(), "subsector"), numbers.join(" "));
-    let drawn = output.map_or(String::new(), |output| format!(", drawn to {output}"));
-    shown(&format!("{file}:{map}: from ({x}, {y}) {count}, front first: {numbers}{drawn}"))
+    let drawn = output.map_or(String::new(), |output| format!(", drawn to {}", name::file(output)));
+    format!("{}:{}: from ({x}, {y}) {count}, front first: {numbers}{drawn}", name::file(file), shown(map))
 }
 
-fn json(file: &str, map: &str, (x, y): (i16, i16), list: &[u16], output: Option<&str>) -> String {
-    let object = Object::new().text("file", file).text("map", map).number("number", 0);
+fn json(file: &OsStr, map: &str, (x, y): (i16, i16), list: &[u16], output: Option<&OsStr>) -> String {
+    let object = Object::about(file).text("map", map).number("number", 0);
     let object = object.number("x", i64::from(x)).number("y", i64::from(y));
-    object.count("count", list.len()).numbers("subsectors", list).text("output", output).close()
+    let output = output.map(OsStr::to_string_lossy);
+    object.count("count", list.len()).numbers("subsectors", list).text("output", output.as_deref()).close()
 }

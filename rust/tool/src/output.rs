@@ -1,9 +1,11 @@
 //! Files that the tool writes: what `-o` names, and never a file that it reads.
 
+use crate::atomic;
 use crate::report::Report;
 use std::ffi::OsStr;
 use std::fs;
 use std::os::unix::fs::MetadataExt;
+use std::path::Path;
 
 /// Whether both names lead to one file, by whatever links; `-` is none.
 pub fn is_same(file: &OsStr, output: &OsStr) -> bool {
@@ -19,8 +21,8 @@ pub fn put(bytes: &[u8], output: &OsStr, report: &mut Report, tell: impl FnOnce(
     if output == "-" {
         return report.bytes(bytes);
     }
-    match fs::write(output, bytes) {
+    match atomic::write(Path::new(output), bytes) {
         Ok(()) => tell(report),
-        Err(error) => report.trouble(output, &error.to_string()),
+        Err(failure) => report.trouble(output, &failure.to_string()),
     }
 }

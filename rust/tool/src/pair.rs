@@ -1,10 +1,13 @@
 //! What is asked about: one file, or a patch over a base as the box opens them.
 
-use crate::finding::Finding;
-use crate::input::Fault;
+use crate::about::About;
+use crate::file_finding::FileFinding;
+use crate::input::{Digest, Fault};
 use crate::name;
+use crate::report::Report;
+use crate::unnamed::Unnamed;
 use crate::verdict::Source;
-use crate::wad::Wad;
+use crate::wad::{self, Wad};
 use meshpigeon::{Accepted, PairFile, Reason, Refusal, MOST_REASON, MOST_WORDS};
 use std::ffi::OsStr;
 
@@ -15,7 +18,7 @@ pub enum Base {
     /// A good file.
     Good(Wad),
     /// A file that is refused, with what was found.
-    Refused(Refusal, Option<Finding>),
+    Refused(Refusal, Option<FileFinding>, Digest),
 }
 
 impl Base {
@@ -24,7 +27,7 @@ impl Base {
         match given.map(Wad::open) {
             None => Ok(Self::None),
             Some(Ok(wad)) => Ok(Self::Good(wad)),
-            Some(Err(Fault::Refused(refusal, found))) => Ok(Self::Refused(refusal, found)),
+            Some(Err(Fault::Refused(refusal, found, digest))) => Ok(Self::Refused(refusal, found, digest)),
             Some(Err(fault)) => Err(fault),
         }
     }
@@ -48,6 +51,13 @@ impl Lent {
     /// As much as any map needs.
     pub fn new() -> Self {
         Self { words: vec![0; MOST_WORDS], reason: vec![0; MOST_REASON] }
+    }
+
+    /// The library's verdict on a map of some bytes, with its reason.
+    pub fn judge(&mut self, bytes: &[u8], map: &[u8]) -> (Result<Accepted, Refusal>, Reason) {
+        let (verdict, length) = meshpigeon::why_with(bytes, map, &mut self.words, &mut self.reason);
+        let reason = Reason::of(&verdict, &self.reason[..length]);
+        (verdict, reason)
     }
 }
 
@@ -74,8 +84,36 @@ impl<'a> Opened<'a> {
         match base {
             Base::None => Ok(Self { wad, base: None }),
             Base::Good(base) => Ok(Self { wad, base: Some(base) }),
-            Base::Refused(refusal, found) => Err((Source::Pair(Some(PairFile::Base)), Fault::Refused(*refusal, *found))),
+            Base::Refused(refusal, found, digest) => {
+                Err((Source::Pair(Some(PairFile::Base)), Fault::Refused(*refusal, *found, *digest)))
+            }
         }
+    }
+
+    /// The file, with the bytes that were judged where the report shows them.
+    pub fn about(&self, file: &OsStr, report: &Report) -> About {
+        match (report.is_json(), self.base) {
+            (false, _) => About::unread(file),
+            (true, None) => About::of(file, self.wad.digest()),
+            (true, Some(base)) => About::of(file, self.wad.digest()).over(base.digest()),
+        }
+    }
+
+    /// The first marker of GL nodes in the file: its entry number and name.
+    pub fn gl_marker(&self) -> Option<(usize, String)> {
+        let is_gl = |name: &[u8]| name.strip_prefix(b"GL_").is_some_and(|map| wad::is_map(&name::padded(map)));
+        let mut entries = self.wad.entries().enumerate();
+        entries.find(|(_, entry)| is_gl(entry.name)).map(|(number, entry)| (number, name::text(entry.name)))
+    }
+
+    /// The lumps of maps that nobody judges, and whose they are.
+    pub fn unnamed(&self) -> Vec<(Source, Unnamed)> {
+        let [own, below] = match self.base {
+            None => [Source::File, Source::File],
+            Some(_) => [PairFile::Patch, PairFile::Base].map(|file| Source::Pair(Some(file))),
+        };
+        let of = |wad: &Wad, source: Source| Unnamed::all(wad).into_iter().map(|it| (source, it)).collect::<Vec<_>>();
+        [of(&self.wad, own), self.base.map_or(Vec::new(), |base| of(base, below))].concat()
     }
 
     /// The names of all maps, each once: the file's own as they stand in it, then the base's.
@@ -93,8 +131,7 @@ impl<'a> Opened<'a> {
     /// its name, which is the verdict of `meshpigeon::pair_judge_map`, since both directories are good. 10 and 11 are of neither file.
     pub fn judge(&self, map: &[u8], lent: &mut Lent) -> Judged {
         let source = self.source_of(map);
-        let (verdict, length) = meshpigeon::why_with(self.wad(source).bytes(), map, &mut lent.words, &mut lent.reason);
-        let reason = Reason::of(&verdict, &lent.reason[..length]);
+        let (verdict, reason) = lent.judge(self.wad(source).bytes(), map);
         let named = !verdict.is_err_and(|refusal| matches!(refusal.number, 10 | 11));
         let source = if named { source } else { source.of_neither() };
         Judged { source, verdict, reason }

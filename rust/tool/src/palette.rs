@@ -25,7 +25,7 @@ impl Palette {
 
     /// The palette of the last PLAYPAL of a file. If there is none, that is told.
     pub fn open(file: &OsStr, report: &mut Report) -> Option<Self> {
-        let wad = Wad::open(file).map_err(|fault| report.fault(file, fault)).ok()?;
+        let wad = Wad::open(file).map_err(|fault| report.fault(file, fault.cutting("PLAYPAL"))).ok()?;
         let palette = wad.last(PLAYPAL).and_then(|number| Self::of(wad.lump(number)));
         if palette.is_none() {
             report.trouble(file, "there is no lump PLAYPAL with a whole palette, 768 bytes or more");

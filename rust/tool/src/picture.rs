@@ -1,7 +1,8 @@
 //! `picture`: a picture lump as PNG.
 
+use crate::about::About;
 use crate::finding::Finding;
-use crate::input::{self, MOST_BYTES};
+use crate::input::{self, Digest, MOST_BYTES};
 use crate::json::Object;
 use crate::name::{self, shown};
 use crate::output::{is_same, put};
@@ -17,8 +18,8 @@ use std::ffi::OsStr;
 pub const MOST_PIXELS: usize = 320 * 200;
 
 /// Whose picture it is: a lump of a WAD file, or a file that is the lump itself.
-struct Origin<'a> {
-    file: &'a OsStr,
+struct Origin {
+    about: About,
     lump: Option<String>,
     source: Source,
 }
@@ -51,12 +52,12 @@ fn of_wad(file: &OsStr, base: Option<&OsStr>, lump: &OsStr, palette: Option<Pale
     };
     let opened = match Opened::open(file, &below) {
         Ok(opened) => opened,
-        Err((source, fault)) => return report.fault_of(file, source, fault),
+        Err((source, fault)) => return report.fault_of(About::unread(file), source, fault.cutting("LUMP")),
     };
     let name = name::asked(lump);
     let Some((source, lump)) = opened.lump(&name) else { return report.trouble(file, &opened.lacks(&name)) };
     let own = || opened.lump(PLAYPAL).and_then(|(_, lump)| Palette::of(lump)).unwrap_or_else(Palette::greys);
-    let origin = Origin { file, lump: Some(name::text(&name)), source };
+    let origin = Origin { about: opened.about(file, report), lump: Some(name::text(&name)), source };
     paint(&origin, lump, &palette.unwrap_or_else(own), output, report);
 }
 
@@ -64,15 +65,16 @@ fn of_wad(file: &OsStr, base: Option<&OsStr>, lump: &OsStr, palette: Option<Pale
 fn of_lump(file: &OsStr, palette: Palette, output: &OsStr, report: &mut Report) {
     let lump = match input::read_most(file) {
         Ok(lump) => lump,
-        Err(error) => return report.trouble(file, &error.to_string()),
+        Err(error) => return report.unread(file, &input::words(&error)),
     };
     if lump.starts_with(b"IWAD") || lump.starts_with(b"PWAD") {
-        return report.misused(&shown(&format!("picture needs LUMP: {} is a WAD file", file.to_string_lossy())));
+        return report.misused(&format!("picture needs LUMP: {} is a WAD file", name::file(file)));
     }
     if lump.len() as u64 > MOST_BYTES {
-        return report.trouble(file, "no lump of a WAD file has more than 16,777,216 bytes");
+        return report.unread(file, "no lump of a WAD file has more than 16,777,216 bytes");
     }
-    paint(&Origin { file, lump: None, source: Source::File }, &lump, &palette, output, report);
+    let about = About::of(file, Digest::of(&lump));
+    paint(&Origin { about, lump: None, source: Source::File }, &lump, &palette, output, report);
 }
 
 fn paint(origin: &Origin, lump: &[u8], palette: &Palette, output: &OsStr, report: &mut Report) {
@@ -81,8 +83,7 @@ fn paint(origin: &Origin, lump: &[u8], palette: &Palette, output: &OsStr, report
         Err(refusal) => {
             let outcome = Outcome::Refused(refusal, Finding::in_picture(refusal, lump));
             let subject = origin.lump.clone().map_or(Subject::File, Subject::Lump);
-            let (file, source) = (origin.file.to_string_lossy().into_owned(), origin.source);
-            report.verdict(&Verdict::plain(file, subject, source, outcome));
+            report.verdict(&Verdict::plain(origin.about.clone(), subject, origin.source, outcome));
         }
         Ok(picture) => {
             let pixels = pixels(&colour, &cover, palette);
@@ -103,15 +104,19 @@ fn pixels(colour: &[u8], cover: &[u8], palette: &Palette) -> Vec<[u8; 4]> {
 
 fn tell(origin: &Origin, picture: Picture, output: &OsStr, report: &mut Report) {
     let Picture { width, height, left, top } = picture;
-    let (file, lump, output) = (origin.file.to_string_lossy(), origin.lump.as_deref(), output.to_string_lossy());
-    let name = lump.map_or(String::new(), |lump| format!(":{lump}"));
+    let lump = origin.lump.as_deref();
+    let name = lump.map_or(String::new(), |lump| format!(":{}", shown(lump)));
     let of = origin.source.name().map_or(String::new(), |name| format!(" (of the {name})"));
     report.answer(
-        || shown(&format!("{file}{name}: {width} x {height}{of}, offsets {left} and {top}, written to {output}")),
         || {
-            let object = Object::new().text("file", file.as_ref()).text("lump", lump).number("number", 0);
+            let (file, output) = (origin.about.shown(), name::file(output));
+            format!("{file}{name}: {width} x {height}{of}, offsets {left} and {top}, written to {output}")
+        },
+        || {
+            let object = Object::about(origin.about.file()).text("lump", lump).number("number", 0);
             let object = object.count("width", width).count("height", height);
-            let object = object.number("left", i64::from(left)).number("top", i64::from(top)).text("output", output.as_ref());
+            let object = object.number("left", i64::from(left)).number("top", i64::from(top));
+            let object = object.text("output", output.to_string_lossy().as_ref());
             object.text("from", origin.source.name()).close()
         },
     );

@@ -1,5 +1,7 @@
 //! PNG files with eight bits each of red, green, blue and opacity, not compressed.
 
+use crate::crc::crc32;
+
 /// What every PNG file begins with.
 const SIGNATURE: &[u8; 8] = b"\x89PNG\r\n\x1a\n";
 /// Eight bits a sample, red, green, blue and opacity, the only compression and filter methods there are, not interlaced.
@@ -42,12 +44,6 @@ fn stored(data: &[u8]) -> Vec<u8> {
     stream
 }
 
-/// The check of a chunk, bit by bit from the least.
-fn crc32(data: &[u8]) -> u32 {
-    let step = |crc: u32| if crc & 1 == 1 { (crc >> 1) ^ 0xEDB8_8320 } else { crc >> 1 };
-    !data.iter().fold(u32::MAX, |crc, &byte| (0..8).fold(crc ^ u32::from(byte), |crc, _| step(crc)))
-}
-
 /// The check of a zlib stream.
 fn adler32(data: &[u8]) -> u32 {
     let (mut low, mut high) = (1, 0);
@@ -63,9 +59,7 @@ mod tests {
     use super::*;
 
     #[test]
-    fn checks_of_known_texts() {
-        assert_eq!(crc32(b"123456789"), 0xCBF4_3926);
-        assert_eq!(crc32(b"IEND"), 0xAE42_6082);
+    fn the_check_of_a_known_text() {
         assert_eq!(adler32(b"Wikipedia"), 0x11E6_0398);
     }
 

@@ -1,5 +1,7 @@
 //! `renumber`: the file with a map's nodes in an order that has every child before its parent.
 
+use crate::about::About;
+use crate::count::{counted, grouped};
 use crate::finding::Finding;
 use crate::input::{self, MOST_BYTES};
 use crate::json::Object;
@@ -9,7 +11,7 @@ use crate::numbers;
 use crate::output::{is_same, put};
 use crate::pair::{Base, Lent, Opened};
 use crate::report::Report;
-use crate::verdict::{counted, Outcome, Source, Verdict};
+use crate::verdict::{Outcome, Source, Verdict};
 use meshpigeon::Node;
 use std::ffi::OsStr;
 
@@ -25,10 +27,10 @@ pub fn run(file: &OsStr, map: &OsStr, list: Option<&OsStr>, output: &OsStr, repo
     let Some(given) = list.map_or(Some(None), |list| read(list, report).map(Some)) else { return };
     let opened = match Opened::open(file, &Base::None) {
         Ok(opened) => opened,
-        Err((source, fault)) => return report.fault_of(file, source, fault),
+        Err((source, fault)) => return report.fault_of(About::unread(file), source, fault),
     };
     let map = name::asked(map);
-    let verdict = judge::verdict(&file.to_string_lossy(), &opened, &map, &mut Lent::new());
+    let verdict = judge::verdict(&opened.about(file, report), &opened, &map, &mut Lent::new());
     let Outcome::Accepted(accepted, ..) = verdict.outcome else { return report.verdict(&verdict) };
     let (wad, number) = (opened.wad(Source::File), accepted.marker + Node::PLACE);
     let nodes = wad.lump(number);
@@ -52,11 +54,11 @@ pub fn run(file: &OsStr, map: &OsStr, list: Option<&OsStr>, output: &OsStr, repo
 /// The numbers of a list's file, or of standard input for `-`.
 fn read(list: &OsStr, report: &mut Report) -> Option<Vec<u16>> {
     let numbers = match input::read_most(list) {
-        Err(error) => Err(error.to_string()),
+        Err(error) => Err(input::words(&error)),
         Ok(text) if text.len() as u64 > MOST_BYTES => Err("a list of more than 16,777,216 bytes is not read".to_string()),
         Ok(text) => numbers::of(&text).map_err(|flaw| flaw.to_string()),
     };
-    numbers.map_err(|words| report.trouble(list, &words)).ok()
+    numbers.map_err(|words| report.unread(list, &words)).ok()
 }
 
 /// The nodes that the root of an accepted map reaches: what is below the right child, what is below the left, the node. It is made from its end:
@@ -74,14 +76,17 @@ pub fn post_order(nodes: &[u8]) -> Vec<u16> {
 }
 
 fn tell(file: &OsStr, map: &[u8], order: &[u16], dropped: usize, output: &OsStr, report: &mut Report) {
-    let (file, map, output) = (file.to_string_lossy(), name::text(map), output.to_string_lossy());
-    let nodes = counted(order.len(), "node");
+    let map = name::text(map);
     report.answer(
-        || shown(&format!("{file}:{map}: {nodes} renumbered, {dropped} dropped, written to {output}")),
         || {
-            let object = Object::new().text("file", file.as_ref()).text("map", map.as_str()).number("number", 0);
+            let (nodes, dropped) = (counted(order.len(), "node"), grouped(dropped as i128));
+            let (file, map, output) = (name::file(file), shown(&map), name::file(output));
+            format!("{file}:{map}: {nodes} renumbered, {dropped} dropped, written to {output}")
+        },
+        || {
+            let object = Object::about(file).text("map", map.as_str()).number("number", 0);
             let object = object.count("count", order.len()).count("dropped", dropped);
-            object.numbers("order", order).text("output", output.as_ref()).close()
+            object.numbers("order", order).text("output", output.to_string_lossy().as_ref()).close()
         },
     );
 }

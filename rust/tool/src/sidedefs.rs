@@ -1,10 +1,12 @@
 //! `sidedefs`: a SIDEDEFS lump on standard input, judged as it comes.
 
+use crate::about::About;
+use crate::count::counted;
 use crate::finding::Finding;
-use crate::input::MOST_BYTES;
+use crate::input::{self, MOST_BYTES};
 use crate::json::Object;
 use crate::report::Report;
-use crate::verdict::{counted, Outcome, Source, Subject, Verdict};
+use crate::verdict::{Outcome, Source, Subject, Verdict};
 use meshpigeon::{Sidedef, Sidedefs};
 use std::ffi::OsStr;
 use std::io::{self, Read};
@@ -17,13 +19,13 @@ const INPUT: &str = "-";
 pub fn run(sectors: usize, report: &mut Report) {
     let mut sidedefs = Sidedefs::start(sectors);
     if let Err(error) = io::copy(&mut io::stdin().lock().take(MOST_BYTES + 1), &mut sidedefs) {
-        return report.trouble(OsStr::new(INPUT), &error.to_string());
+        return report.unread(OsStr::new(INPUT), &input::words(&error));
     }
     match sidedefs.verdict() {
         Err(refusal) => {
             let outcome = Outcome::Refused(refusal, Finding::in_sidedefs(refusal, &sidedefs));
-            let (file, subject) = (INPUT.to_string(), Subject::File);
-            report.verdict(&Verdict::plain(file, subject, Source::File, outcome));
+            let about = About::unread(OsStr::new(INPUT));
+            report.verdict(&Verdict::plain(about, Subject::File, Source::File, outcome));
         }
         Ok(()) => tell(sidedefs.bytes / Sidedef::SIZE, sectors, report),
     }
@@ -31,6 +33,6 @@ pub fn run(sectors: usize, report: &mut Report) {
 
 fn tell(count: usize, sectors: usize, report: &mut Report) {
     let line = || format!("{INPUT}: accepted, {}, {}", counted(count, "sidedef"), counted(sectors, "sector"));
-    let object = Object::new().text("file", INPUT).number("number", 0);
+    let object = Object::about(OsStr::new(INPUT)).text("verdict", "accepted").number("number", 0);
     report.answer(line, || object.count("sectors", sectors).count("count", count).close());
 }

@@ -1,11 +1,13 @@
 //! `text`: the summary and all blocks of a text map; and what `judge` says of one.
 
+use crate::about::About;
+use crate::count::{counted, grouped};
+use crate::finding::Finding;
 use crate::json::Object;
 use crate::name::{self, shown};
 use crate::report::Report;
-use crate::spot::Spot;
 use crate::text_fields::{string, Fields};
-use crate::verdict::{counted, Outcome, Source, Subject, Verdict};
+use crate::verdict::{Outcome, Source, Subject, Verdict};
 use crate::wad::Wad;
 use crate::why::Why;
 use meshpigeon::text::{blocks, map, Blocks, Map};
@@ -31,7 +33,7 @@ impl Summary {
     /// `a text map: its grammar is good, 4 vertices, .., namespace "Doom"; its geometry is not judged`.
     pub fn words(&self) -> String {
         let [vertices, linedefs, sidedefs, sectors, things] = self.counts;
-        let vertices = if vertices == 1 { "1 vertex".to_string() } else { format!("{vertices} vertices") };
+        let vertices = if vertices == 1 { "1 vertex".to_string() } else { format!("{} vertices", grouped(vertices as i128)) };
         let [linedefs, sidedefs] = [counted(linedefs, "linedef"), counted(sidedefs, "sidedef")];
         let [sectors, things] = [counted(sectors, "sector"), counted(things, "thing")];
         let namespace = self.namespace.as_ref().map_or("no namespace".to_string(), |it| format!("namespace \"{it}\""));
@@ -50,12 +52,12 @@ impl Summary {
 }
 
 /// What `judge` says of a text map.
-pub fn verdict(file: &str, map: &[u8], source: Source, text: &[u8]) -> Verdict {
+pub fn verdict(about: &About, map: &[u8], source: Source, text: &[u8]) -> Verdict {
     let (outcome, why) = match Summary::of(text) {
         Ok(summary) => (Outcome::Text(summary), None),
-        Err(refusal) => (Outcome::Refused(refusal, None), Some(Why::Spot(Spot::of(text, refusal.record)))),
+        Err(refusal) => (Outcome::Refused(refusal, None), Some(Why::of_text(text, refusal))),
     };
-    Verdict { file: file.to_string(), subject: Subject::Map(name::text(map)), source, game: None, outcome, why }
+    Verdict { why, ..Verdict::plain(about.clone(), Subject::Map(name::text(map)), source, outcome) }
 }
 
 /// Prints the summary of a map's TEXTMAP and then each block, or where the text is wrong.
@@ -65,21 +67,22 @@ pub fn run(file: &OsStr, map: &OsStr, report: &mut Report) {
         Err(fault) => return report.fault(file, fault),
     };
     let map = name::asked(map);
-    let (shown_file, name) = (file.to_string_lossy(), name::text(&map));
+    let (about, name) = (wad.about(file, report), name::text(&map));
     if let Err(refusal) = meshpigeon::find_map(wad.bytes(), &map).marker {
-        return report.verdict(&Verdict::of_walk(&shown_file, name, refusal));
+        let found = Finding::in_map(refusal, &wad, &map);
+        return report.verdict(&Verdict::of_walk(about, name, refusal, found));
     }
     let Some(text) = wad.textmap(&map) else {
         return report.trouble(file, &format!("{} is no text map: TEXTMAP must be the entry after its marker", shown(&name)));
     };
-    report.verdict(&verdict(&shown_file, &map, Source::File, text));
+    report.verdict(&verdict(&about, &map, Source::File, text));
     if let Ok(blocks) = blocks(text) {
-        tell(&shown_file, &name, text, blocks, report);
+        tell(file, &name, text, blocks, report);
     }
 }
 
 /// A line for each block, with its number among those of its kind.
-fn tell(file: &str, map: &str, text: &[u8], blocks: Blocks, report: &mut Report) {
+fn tell(file: &OsStr, map: &str, text: &[u8], blocks: Blocks, report: &mut Report) {
     let mut counts = [0; 5];
     for block in blocks {
         let fields = Fields::of(block, text);
@@ -89,7 +92,7 @@ fn tell(file: &str, map: &str, text: &[u8], blocks: Blocks, report: &mut Report)
     }
 }
 
-fn json(file: &str, map: &str, fields: &Fields, number: usize) -> String {
-    let object = Object::new().text("file", file).text("map", map).text("block", fields.kind);
+fn json(file: &OsStr, map: &str, fields: &Fields, number: usize) -> String {
+    let object = Object::about(file).text("map", map).text("block", fields.kind);
     object.count("number", number).object("fields", Some(fields.json())).close()
 }

@@ -1,17 +1,21 @@
 //! A verdict on a map, a picture or a whole file, as a line of text and as a JSON object.
 
+use crate::about::About;
+use crate::advice::build_again;
+use crate::count::{counted, grouped};
 use crate::finding::Finding;
+use crate::further::Further;
 use crate::json::Object;
 use crate::name::shown;
-use crate::spot::Spot;
 use crate::text::Summary;
+use crate::unnamed::Unnamed;
 use crate::why::Why;
 use meshpigeon::{Accepted, PairFile, PairRefusal, Refusal};
 
 /// What was judged, and what came of it.
 pub struct Verdict {
-    /// The file's name as given, lossy where it is not UTF-8.
-    pub file: String,
+    /// The file.
+    pub about: About,
     /// What in the file.
     pub subject: Subject,
     /// Which file it comes from.
@@ -20,8 +24,10 @@ pub struct Verdict {
     pub game: Option<Game>,
     /// What came of it.
     pub outcome: Outcome,
-    /// The reason that the library told of a map.
+    /// The reason that the library told of a map, and what was found by it.
     pub why: Option<Why>,
+    /// What is wrong besides, where that was asked for.
+    pub further: Option<Further>,
 }
 
 /// Whose records a map has.
@@ -85,12 +91,16 @@ pub enum Subject {
 pub enum Outcome {
     /// A good map, with its counts of nodes and subsectors.
     Accepted(Accepted, usize, usize),
-    /// A refusal, and what was found where it is about a number.
+    /// A refusal, and what was found where it is about a number or a name.
     Refused(Refusal, Option<Finding>),
     /// A text map of good grammar, whose geometry nobody judged.
     Text(Summary),
-    /// The file is good and has no map.
-    NoMap,
+    /// The file is good and has no map, or there is no file at all: what is said of it.
+    NoMap(String),
+    /// Lumps of a map behind a name that no map has: nobody judged them.
+    Unnamed(Unnamed),
+    /// The file could not be read: why.
+    Unread(String),
 }
 
 /// The refusal of a name that no entry has: it counts as a refusal, but nothing was judged.
@@ -99,31 +109,63 @@ pub const NOT_THERE: u32 = 11;
 /// The first refusal that leaves a map's ten lumps where they should be.
 pub const LUMPS_ARE_THERE: u32 = 20;
 
+/// The refusals of a walk down the nodes that are the nodes' own fault.
+const BAD_NODES: [u32; 5] = [40, 41, 42, 43, 46];
+
 impl Outcome {
     /// Whether the map's ten lumps are there.
     pub fn has_lumps(&self) -> bool {
         match self {
             Self::Accepted(..) => true,
             Self::Refused(refusal, _) => refusal.number >= LUMPS_ARE_THERE,
-            Self::Text(_) | Self::NoMap => false,
+            _ => false,
+        }
+    }
+
+    /// What scripts know it by.
+    fn name(&self) -> &'static str {
+        match self {
+            Self::Accepted(..) => "accepted",
+            Self::Refused(..) => "refused",
+            Self::Text(_) => "text",
+            Self::NoMap(_) | Self::Unnamed(_) => "no-map",
+            Self::Unread(_) => "unreadable",
+        }
+    }
+
+    fn refusal(&self) -> Option<&Refusal> {
+        match self {
+            Self::Refused(refusal, _) => Some(refusal),
+            _ => None,
+        }
+    }
+
+    fn accepted(&self) -> Option<&Accepted> {
+        match self {
+            Self::Accepted(accepted, ..) => Some(accepted),
+            _ => None,
+        }
+    }
+
+    fn found(&self) -> Option<Object> {
+        match self {
+            Self::Refused(_, found) => found.as_ref().map(Finding::json),
+            Self::Text(summary) => Some(summary.json()),
+            Self::Unnamed(unnamed) => Some(unnamed.json()),
+            _ => None,
         }
     }
 }
 
-/// `1 node`, `2 nodes`.
-pub fn counted(count: usize, thing: &str) -> String {
-    format!("{count} {thing}{}", if count == 1 { "" } else { "s" })
-}
-
 impl Verdict {
-    /// A verdict on what is no map, or no map that was judged: it has neither a game nor a reason.
-    pub fn plain(file: String, subject: Subject, source: Source, outcome: Outcome) -> Self {
-        Self { file, subject, source, game: None, outcome, why: None }
+    /// A verdict without a game or a reason.
+    pub fn plain(about: About, subject: Subject, source: Source, outcome: Outcome) -> Self {
+        Self { about, subject, source, game: None, outcome, why: None, further: None }
     }
 
-    /// The refusal of a walk down a map's nodes.
-    pub fn of_walk(file: &str, map: String, refusal: Refusal) -> Self {
-        Self::plain(file.to_string(), Subject::Map(map), Source::File, Outcome::Refused(refusal, None))
+    /// The refusal of a walk down a map's nodes, or of the search for the map.
+    pub fn of_walk(about: About, map: String, refusal: Refusal, found: Option<Finding>) -> Self {
+        Self::plain(about, Subject::Map(map), Source::File, Outcome::Refused(refusal, found))
     }
 
     /// Whether it is on a text map of good grammar.
@@ -131,26 +173,20 @@ impl Verdict {
         matches!(self.outcome, Outcome::Text(_))
     }
 
-    /// Whether it is a refusal.
-    pub fn is_refusal(&self) -> bool {
-        matches!(self.outcome, Outcome::Refused(..))
-    }
-
-    /// The verdict on one line, coloured for a terminal if wished.
+    /// The verdict on one line, coloured for a terminal if wished; below it the line of a text, and what else is wrong.
     pub fn line(&self, colour: bool) -> String {
+        let heading = self.heading();
         let outcome = match &self.outcome {
             Outcome::Accepted(..) => self.text().replacen("accepted", &painted("accepted", 32, colour), 1),
             Outcome::Refused(refusal, _) => {
                 let refused = painted(&format!("refused {}", refusal.number), 31, colour);
-                let spot = self.spot();
-                let place = spot.map(Spot::place).or_else(|| refusal.whereabouts());
-                let at = place.map_or(String::new(), |place| format!(" at {place}"));
-                let below = spot.map(Spot::below).unwrap_or_default();
-                format!("{refused}{at}{}: {}{below}", self.notes(), self.text())
+                let below = self.why.as_ref().map(Why::below).unwrap_or_default();
+                format!("{refused}{}{}: {}{below}", at(*refusal, self.why.as_ref()), self.notes(), self.text())
             }
-            Outcome::Text(_) | Outcome::NoMap => self.text(),
+            _ => self.text(),
         };
-        format!("{}: {outcome}", self.heading())
+        let further = self.further.as_ref().map_or(String::new(), |further| further.lines(&heading));
+        format!("{heading}: {outcome}{further}")
     }
 
     /// The verdict as an object; what has no meaning for it is null.
@@ -160,43 +196,33 @@ impl Verdict {
             Subject::Map(name) => (Some(name.as_str()), None),
             Subject::Lump(name) => (None, Some(name.as_str())),
         };
-        let (refusal, found, accepted) = match &self.outcome {
-            Outcome::Accepted(accepted, ..) => (None, None, Some(accepted)),
-            Outcome::Refused(refusal, found) => (Some(refusal), found.map(Finding::json), None),
-            Outcome::Text(summary) => (None, Some(summary.json()), None),
-            Outcome::NoMap => (None, None, None),
-        };
+        let (refusal, accepted) = (self.outcome.refusal(), self.outcome.accepted());
         let named = refusal.and_then(Refusal::lump);
-        Object::new()
-            .text("file", self.file.as_str())
+        let text_lump = self.why.as_ref().filter(|why| why.is_of_text()).map(|_| "TEXTMAP");
+        let object = self
+            .about
+            .json()
             .text("map", map)
+            .text("verdict", self.outcome.name())
             .number("number", refusal.map(|it| i64::from(it.number)).or(accepted.map(|_| 0)))
             .count("place", refusal.filter(|_| named.is_some()).map(|it| it.place))
-            .text("lump", named.or(lump).or(self.spot().map(|_| "TEXTMAP")))
+            .text("lump", named.or(lump).or(text_lump))
             .count("record", refusal.filter(|it| it.names_record()).map(|it| it.record))
-            .object("found", found)
+            .object("found", self.outcome.found())
             .object("reason", self.why.as_ref().map(Why::json))
             .count("depth", accepted.map(|it| it.depth))
             .count("marker", accepted.map(|it| it.marker))
             .text("game", self.game.map(Game::name))
             .text("from", self.source.name())
-            .text("text", self.text().as_str())
-            .close()
-    }
-
-    /// Where a text map is wrong.
-    fn spot(&self) -> Option<&Spot> {
-        match &self.why {
-            Some(Why::Spot(spot)) => Some(spot),
-            _ => None,
-        }
+            .text("text", self.text().as_str());
+        Further::json(self.further.as_ref(), object).close()
     }
 
     /// What was judged: `FILE`, `FILE:MAP01`.
     fn heading(&self) -> String {
         match &self.subject {
-            Subject::File => shown(&self.file),
-            Subject::Map(name) | Subject::Lump(name) => shown(&format!("{}:{name}", self.file)),
+            Subject::File => self.about.shown(),
+            Subject::Map(name) | Subject::Lump(name) => format!("{}:{}", self.about.shown(), shown(name)),
         }
     }
 
@@ -212,8 +238,9 @@ impl Verdict {
         }
     }
 
-    /// A refusal's sentence; that a pair lacks a name is said of both files, and of a name that was looked up that the index does not have it.
-    fn sentence(&self, refusal: Refusal) -> String {
+    /// A refusal's own sentence; that a pair lacks a name is said of both files, and of a name that was looked up that the index does
+    /// not have it.
+    fn rule(&self, refusal: Refusal) -> String {
         match (self.source, &self.subject) {
             (Source::Pair(None), _) => PairRefusal { file: None, refusal }.to_string(),
             (_, Subject::Lump(_)) if refusal.number == NOT_THERE => "the index leads to no entry of that name".to_string(),
@@ -226,17 +253,29 @@ impl Verdict {
         match &self.outcome {
             Outcome::Accepted(accepted, nodes, subsectors) => {
                 let (nodes, subsectors) = (counted(*nodes, "node"), counted(*subsectors, "subsector"));
-                format!("accepted{}, depth {}, {nodes}, {subsectors}", self.notes(), accepted.depth)
+                let depth = grouped(accepted.depth as i128);
+                format!("accepted{}, depth {depth}, {nodes}, {subsectors}", self.notes())
             }
-            Outcome::Refused(refusal, None) => match &self.why {
-                Some(why) => why.words(self.sentence(*refusal)),
-                None => self.sentence(*refusal),
+            Outcome::Refused(refusal, found) => match (self.why.as_ref().and_then(Why::words), found) {
+                (Some(said), _) => said,
+                (None, Some(found)) => found.words(*refusal, &self.rule(*refusal)),
+                (None, None) if BAD_NODES.contains(&refusal.number) => {
+                    format!("{}. {}", self.rule(*refusal), build_again("NODES"))
+                }
+                (None, None) => self.rule(*refusal),
             },
-            Outcome::Refused(refusal, Some(found)) => format!("{}; {found}", self.sentence(*refusal)),
             Outcome::Text(summary) => format!("{}{}", summary.words(), self.notes()),
-            Outcome::NoMap => "no map".to_string(),
+            Outcome::NoMap(said) => format!("{said}{}", self.notes()),
+            Outcome::Unnamed(unnamed) => unnamed.words(self.source.name()),
+            Outcome::Unread(said) => said.clone(),
         }
     }
+}
+
+/// ` at NODES`, ` at LINEDEFS 17`, ` at BLOCKMAP header`: where a refusal is, if it names a place.
+pub fn at(refusal: Refusal, why: Option<&Why>) -> String {
+    let place = why.and_then(|why| why.whereabouts(refusal)).or_else(|| refusal.whereabouts());
+    place.map_or(String::new(), |place| format!(" at {place}"))
 }
 
 fn painted(text: &str, code: u8, colour: bool) -> String {
@@ -250,18 +289,19 @@ fn painted(text: &str, code: u8, colour: bool) -> String {
 #[cfg(test)]
 mod tests {
     use super::*;
+    use std::ffi::OsStr;
 
     fn refused(number: u32, place: usize, record: usize, subject: Subject) -> Verdict {
         let refusal = Refusal { number, place, record };
-        Verdict::plain("a.wad".into(), subject, Source::File, Outcome::Refused(refusal, None))
+        Verdict::plain(About::unread(OsStr::new("a.wad")), subject, Source::File, Outcome::Refused(refusal, None))
     }
 
     #[test]
     fn colour_is_around_the_verdict_only() {
         let map = || Subject::Map("MAP01".into());
         let outcome = Outcome::Accepted(Accepted { depth: 1, marker: 0 }, 1, 2);
-        let (source, game) = (Source::File, Some(Game::Doom));
-        let mut good = Verdict { file: "accepted.wad".into(), subject: map(), source, game, outcome, why: None };
+        let mut good = Verdict::plain(About::unread(OsStr::new("accepted.wad")), map(), Source::File, outcome);
+        good.game = Some(Game::Doom);
         assert_eq!(good.line(true), "accepted.wad:MAP01: \x1b[32maccepted\x1b[0m, depth 1, 1 node, 2 subsectors");
         good.game = Some(Game::Hexen);
         assert_eq!(good.line(true), "accepted.wad:MAP01: \x1b[32maccepted\x1b[0m (Hexen), depth 1, 1 node, 2 subsectors");

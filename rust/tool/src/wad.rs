@@ -1,8 +1,10 @@
 //! A file whose directory the library accepted, and the entries in it.
 
-use crate::finding::Finding;
-use crate::input::{self, Fault};
+use crate::about::About;
+use crate::file_finding::FileFinding;
+use crate::input::{self, Digest, Fault};
 use crate::name;
+use crate::report::Report;
 use crate::verdict::{Game, LUMPS_ARE_THERE};
 use meshpigeon::{Directory, Node, Refusal, Subsector};
 use std::ffi::OsStr;
@@ -10,6 +12,9 @@ use std::ops::Range;
 
 /// The smallest good file: a header, and no entry.
 const EMPTY: &[u8; 12] = b"PWAD\0\0\0\0\x0C\0\0\0";
+
+/// Where a file's header has its count of lumps.
+const COUNT: usize = 4;
 
 /// The lump that makes a map a text map, where it follows the marker.
 const TEXTMAP: &[u8] = b"TEXTMAP";
@@ -56,8 +61,36 @@ impl Wad {
         let bytes = input::read(file)?;
         match meshpigeon::directory(&bytes) {
             Ok(directory) => Ok(Self { bytes, directory }),
-            Err(refusal) => Err(Fault::Refused(refusal, Finding::in_file(refusal, &bytes))),
+            Err(refusal) => Err(Fault::Refused(refusal, FileFinding::of(refusal, &bytes), Digest::of(&bytes))),
         }
+    }
+
+    /// A file of these lumps, one behind the other, and its directory behind them.
+    pub fn bytes_of(names: &[[u8; 8]], lumps: &[Vec<u8>]) -> Vec<u8> {
+        let (mut data, mut directory) = (Vec::new(), Vec::new());
+        for (name, lump) in names.iter().zip(lumps) {
+            let offset = EMPTY.len() + data.len();
+            directory.extend([offset, lump.len()].map(|number| (number as u32).to_le_bytes()).concat());
+            directory.extend(name);
+            data.extend(lump);
+        }
+        let start = EMPTY.len() + data.len();
+        let numbers = [names.len(), start].map(|number| (number as u32).to_le_bytes()).concat();
+        [&EMPTY[..COUNT], &numbers, &data, &directory].concat()
+    }
+
+    /// The file by its name, with its bytes where the report shows them.
+    pub fn about(&self, file: &OsStr, report: &Report) -> About {
+        if report.is_json() {
+            About::of(file, self.digest())
+        } else {
+            About::unread(file)
+        }
+    }
+
+    /// Length and checksum of the whole file.
+    pub fn digest(&self) -> Digest {
+        Digest::of(&self.bytes)
     }
 
     /// The whole file.
@@ -181,6 +214,6 @@ fn overlap(one: &Range<usize>, other: &Range<usize>) -> bool {
 
 /// Whether a map can have this name. The library says so: asked of a file without entries, it refuses a map's name with 11 (no
 /// such entry) and any other with 10.
-fn is_map(name: &[u8]) -> bool {
+pub fn is_map(name: &[u8]) -> bool {
     meshpigeon::find_map(EMPTY, name).marker.is_err_and(|refusal| refusal.number == 11)
 }

@@ -1,8 +1,5 @@
 -- `export_pictures::meshpigeon_write_picture` meets its contract, by what encoding answers. Assumes nothing.
-use mathlib.Core.Path.{_≡_, sym, ap, _∙_}
-use denote.Ref.{now}
-use lib.ListN.{length}
-use Rattle.picture_write.specs.Encoding.{Encoded}
+use mathlib.Core.Path.{sym, ap, _∙_}
 use Rattle.export_pictures.specs.Pictures.{lengthOut}
 use borrow.Author.Needs.{needs}
 use Rattle.export_pictures.proofs.meshpigeon_write_picture.Statement.{statement}

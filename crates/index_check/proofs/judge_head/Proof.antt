@@ -14,8 +14,7 @@ use Rattle.refusal.proofs.Checks.{refused-then, pass-then}
 use Rattle.wad.specs.Header.{headOf, entryCount}
 use Rattle.wad.specs.Entries.{fileCheck}
 use Rattle.wad.proofs.Listing.{file-header, file-sound}
-use Rattle.index_check.specs.Checking.{indexHeadOk}
-use Rattle.index_check.specs.Checking.{headOk}
+use Rattle.index_check.specs.Checking.{indexHeadOk, headOk}
 use Rattle.index_check.proofs.Heads.{headed}
 use Rattle.index_check.proofs.judge_head.Statement.{statement}
 use Rattle.index_check.proofs.judge_head.Tie as tie

@@ -11,8 +11,8 @@ use Rattle.index_find.proofs.Turns.{last-some, last-equal, last-other}
 use Rattle.index_find.proofs.last_past.Statement.{statement}
 use Rattle.index_find.proofs.last_past.Tie as tie
 
-sub-record-place : tie.Need-sub-record-place
-sub-record-place c =
+sub-record-offset : tie.Need-sub-record-offset
+sub-record-offset c =
     let s = c .before .before .before .before .before in
     let a = s .args in
     last-some (isEqual (now (a .index)) (now (a .name))) (a .gone .past) (sym (s .pre .1 .1) ∙ c .before .if1 .taken)
@@ -41,5 +41,5 @@ returns-2 c =
 pub last-past-spec : {M : Type 1} → statement M
 last-past-spec =
     tie.close
-    (tie.spec sub-record-place (λ c κs. search needs) (λ c. search needs) u16-at-requires (λ c. search needs) (λ c κs. search needs) returns
+    (tie.spec sub-record-offset (λ c κs. search needs) (λ c. search needs) u16-at-requires (λ c. search needs) (λ c κs. search needs) returns
     returns-2)

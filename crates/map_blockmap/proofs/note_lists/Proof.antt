@@ -1,7 +1,6 @@
 -- `map_blockmap::note_lists` meets its contract: all places up to the last word, or the last that an offset reaches, are noted.
 -- Assumes nothing.
 use Prim.Native.Nat.{ℕ, _≤_, zero-le}
-use mathlib.Core.Path.{_∙_}
 use native.Mathlib.Omega.{arith}
 use denote.Ref.{now}
 use Rattle.map_blockmap.specs.Blockmap.{wordCount}

@@ -1,6 +1,6 @@
 -- `name::same_name` meets its contract. The loop's invariant: the names are the same where they are from byte `i` on. The measure
 -- is what is left of the eight. Assumes nothing.
-use Prim.Native.Nat.{ℕ, _-_, _≤_}
+use Prim.Native.Nat.{_-_, _≤_}
 use mathlib.Core.Path.{_≡_, refl, sym, _∙_}
 use borrow.Author.Needs.{needs}
 use borrow.Author.Tests.{eq-eqb, ne-eqb}

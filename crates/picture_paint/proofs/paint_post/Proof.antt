@@ -8,8 +8,7 @@ use lib.ListN.{length}
 use Rattle.picture_header.specs.Layout.{heightOf, startAt, lengthAt}
 use Rattle.picture_paint.specs.Pixels.{byColour, byCover}
 use Rattle.picture_paint.specs.Inner.{Stroke, Both}
-use Rattle.picture_paint.proofs.Inner.{both-none, both-as, overFirst, stroke-none}
-use Rattle.picture_paint.proofs.Inner.{first-none, first-all, pixel-fits, stroke-pixel}
+use Rattle.picture_paint.proofs.Inner.{both-none, both-as, overFirst, stroke-none, first-none, first-all, pixel-fits, stroke-pixel}
 use Rattle.picture_paint.proofs.paint_post.Statement.{statement}
 use Rattle.picture_paint.proofs.paint_post.Tie as tie
 

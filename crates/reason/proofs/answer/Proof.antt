@@ -1,7 +1,6 @@
 -- `reason::answer` meets its contract, by whether there is room. Assumes nothing.
 use native.Mathlib.Omega.{arith}
 use Rattle.reason.proofs.Printing.{answer-fits, answer-short}
-use borrow.Author.Needs.{needs}
 use Rattle.reason.proofs.answer.Statement.{statement}
 use Rattle.reason.proofs.answer.Tie as tie
 

@@ -1,8 +1,6 @@
 -- `text_byte::lower` meets its contract: the test tells. Assumes nothing.
-use mathlib.Core.Path.{_≡_, refl, sym, ap, _∙_}
 use native.Mathlib.Omega.{arith}
 use Rattle.text_byte.proofs.Bytes.{within-true}
-use borrow.Author.Needs.{needs}
 use Rattle.text_byte.proofs.lower.Statement.{statement}
 use Rattle.text_byte.proofs.lower.Tie as tie
 

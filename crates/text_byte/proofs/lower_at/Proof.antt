@@ -1,5 +1,4 @@
 -- `text_byte::lower_at` meets its contract. Assumes nothing.
-use mathlib.Core.Path.{_≡_, refl, sym, ap, _∙_}
 use borrow.Author.Needs.{needs}
 use Rattle.text_byte.proofs.lower_at.Statement.{statement}
 use Rattle.text_byte.proofs.lower_at.Tie as tie

@@ -1,7 +1,6 @@
 -- `text_gap::blank_end` meets its contract: from `at` on the white space ends where it ends from `from` on. The measure is what is left. Assumes nothing.
 use Prim.Native.Nat.{_-_}
-use mathlib.Core.Bool.{not}
-use mathlib.Core.Path.{_≡_, refl, sym, ap, _∙_}
+use mathlib.Core.Path.{_≡_, refl, sym, _∙_}
 use borrow.Author.Needs.{needs}
 use borrow.Author.Tests.{not-true, not-false}
 use lib.ListN.{length}

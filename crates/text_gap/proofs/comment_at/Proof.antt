@@ -1,16 +1,13 @@
 -- `text_gap::comment_at` meets its contract: its tests in the definition's order. Assumes nothing.
-use Prim.Native.Nat.{ℕ, _+_}
-use mathlib.Core.Bool.{Bool, cond}
-use mathlib.Core.Path.{_≡_, refl, sym, ap, _∙_}
+use Prim.Native.Nat.{_+_}
+use mathlib.Core.Path.{refl, sym, ap, _∙_}
 use native.Mathlib.Omega.{arith}
 use borrow.Author.Needs.{needs}
 use denote.Ref.{now}
 use lib.ListN.{length, getD}
 use Rattle.text_byte.specs.Bytes.{opensLine, opensComment}
-use Rattle.text_gap.specs.declared.Mode.{Mode}
-use Rattle.text_gap.specs.declared.Mode.the-variants.{Between, Line, Opening, Stop}
-use Rattle.text_gap.specs.Gaps.{between}
-use Rattle.text_gap.proofs.Scans.{gap-more, gap-stop}
+use Rattle.text_gap.specs.declared.Mode.the-variants.{Between}
+use Rattle.text_gap.proofs.Scans.{gap-more}
 use Rattle.text_gap.proofs.GapRuns.{ends-behind, ends-between, ends-stop}
 use Rattle.text_gap.proofs.comment_at.Statement.{statement}
 use Rattle.text_gap.proofs.comment_at.Tie as tie

@@ -1,6 +1,5 @@
 -- `text_gap::comment_end` meets its contract: the star that opens a comment is passed. Assumes nothing.
 use mathlib.Core.Path.{refl}
-use native.Mathlib.Omega.{arith}
 use borrow.Author.Needs.{needs}
 use denote.Ref.{now}
 use Rattle.text_gap.specs.declared.Mode.the-variants.{Opening}

@@ -1,5 +1,5 @@
 -- `text_gap::gap_at` meets its contract: over white space the gap goes on, and behind it a token begins or the gap is read. Assumes nothing.
-use mathlib.Core.Path.{_≡_, sym, _∙_}
+use mathlib.Core.Path.{sym, _∙_}
 use borrow.Author.Needs.{needs}
 use denote.Ref.{now}
 use Rattle.text_gap.proofs.GapRuns.{blanks-same, token-starts}

@@ -1,7 +1,6 @@
 -- `text_gap::read_gap` meets its contract: from `at` on the gap ends where it ends from `from` on. The measure is what is left. Assumes
 -- nothing.
-use Prim.Native.Nat.{_-_, _<_}
-use mathlib.Core.Bool.{Bool, not}
+use Prim.Native.Nat.{_-_}
 use mathlib.Core.Path.{_≡_, refl, sym, ap, _∙_}
 use native.Mathlib.Omega.{arith}
 use borrow.Author.Needs.{needs}

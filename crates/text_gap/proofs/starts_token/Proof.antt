@@ -1,5 +1,4 @@
 -- `text_gap::starts_token` meets its contract: the tests are those of the definition. Assumes nothing.
-use mathlib.Core.Path.{_≡_, sym, _∙_}
 use borrow.Author.Needs.{needs}
 use borrow.Author.Tests.{lt-ltb, le-ltb}
 use Rattle.text_gap.proofs.starts_token.Statement.{statement}

@@ -1,7 +1,7 @@
 -- `text_token::ends_at` meets its contract: a plain byte ends no word, and of any other the test tells. Assumes nothing.
 use Prim.Native.Nat.{_+_}
 use mathlib.Core.Bool.{not}
-use mathlib.Core.Path.{_≡_, sym, ap, _∙_}
+use mathlib.Core.Path.{sym, ap, _∙_}
 use borrow.Author.Needs.{needs}
 use denote.Ref.{now}
 use lib.ListN.{getD}

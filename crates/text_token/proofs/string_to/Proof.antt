@@ -1,5 +1,4 @@
 -- `text_token::string_to` meets its contract. Assumes nothing.
-use mathlib.Core.Path.{sym, _∙_}
 use borrow.Author.Needs.{needs}
 use borrow.Author.Tests.{lt-ltb, le-ltb}
 use Rattle.text_token.proofs.string_to.Statement.{statement}

@@ -61,5 +61,5 @@ fn bytes_that_are_no_nodes_are_refused() {
 #[test]
 fn a_map_that_is_not_there_is_refused() {
     let said = Folder::with("a.wad", &good()).run(&["descend", "a.wad", "E1M1", "0", "0"]);
-    said.is(1, &["a.wad:E1M1: refused 11: the file has no map of that name"]);
+    said.is(1, &["a.wad:E1M1: refused 11: the file has no map of that name; the only map is MAP01"]);
 }

@@ -138,7 +138,7 @@ fn the_answer_is_an_object_too() {
         |name: &str, changed: u8, added: u8| format!(r#"{{"lump":"{name}","changed":{changed},"added":{added},"dropped":0}}"#);
     let names = ["THINGS", "LINEDEFS", "SIDEDEFS", "VERTEXES", "SEGS", "SSECTORS", "NODES", "SECTORS"];
     let all = names.map(|name| lump(name, u8::from(name == "VERTEXES"), u8::from(name == "VERTEXES"))).join(",");
-    let front = r#"{"file":"new.wad","old":"old.wad","map":"MAP01","number":0,"only":null,"count":2,"lumps":"#;
+    let front = r#"{"format":1,"file":"new.wad","file_bytes":null,"old":"old.wad","map":"MAP01","number":0,"only":null,"count":2,"lumps":"#;
     said.is(1, &[&format!("{front}[{all}]}}")]);
     let said = diff(&good(), &new, &["--json", "--records"]);
     let records = r#""records":[{"record":9,"became":"changed","before":{"x":1024,"y":256},"after":{"x":1024,"y":3}},{"record":10,"became":"added","before":null,"after":{"x":-1,"y":2}}]}"#;
@@ -194,7 +194,9 @@ fn without_names_all_maps_of_both_are_compared() {
     diff(&old, &new, &[]).is(1, &lines);
     let said = diff(&old, &new, &["--json"]);
     let only = |map: &str, word: &str| {
-        format!(r#"{{"file":"new.wad","old":"old.wad","map":"{map}","number":null,"only":"{word}","count":null,"lumps":null}}"#)
+        format!(
+            r#"{{"format":1,"file":"new.wad","file_bytes":null,"old":"old.wad","map":"{map}","number":null,"only":"{word}","count":null,"lumps":null}}"#
+        )
     };
     assert_eq!(said.out.lines().skip(3).collect::<Vec<_>>(), [only("MAP07", "old"), only("MAP03", "new")]);
     diff(&old, &new, &["--map", "MAP01", "--map", "e1m1", "--map", "map01"]).is(0, &[lines[2], lines[1]]);
@@ -207,7 +209,7 @@ fn a_map_that_one_file_lacks() {
     diff(&good(), &none, &[]).is(1, &["old.wad:MAP01: only the old file has this map"]);
     diff(&none, &good(), &[]).is(1, &["new.wad:MAP01: only the new file has this map"]);
     diff(&none, &none, &[]).is(0, &["new.wad: no map"]);
-    let words = "refused 11: the file has no map of that name";
+    let words = "refused 11: the file has no map of that name; there is no map at all";
     diff(&good(), &none, &["--map", "MAP01"]).is(2, &[&format!("new.wad:MAP01: {words}")]);
     diff(&none, &good(), &["--map", "MAP01"]).is(2, &[&format!("old.wad:MAP01: {words}")]);
     diff(&none, &none, &["--map", "MAP01"]).is(2, &[&format!("old.wad:MAP01: {words}")]);
@@ -240,9 +242,9 @@ fn two_games_are_not_compared() {
     diff(&good(), &hexen, &[]).is(2, &[&format!("new.wad:MAP01: refused 76 (Hexen): {words}")]);
     diff(&hexen, &good(), &[]).is(2, &[&format!("new.wad:MAP01: refused 76: {words}")]);
     let said = diff(&good(), &hexen, &["--json"]);
-    let start =
-        r#"{"file":"new.wad","map":"MAP01","number":76,"place":null,"lump":null,"record":null,"found":null,"reason":null,"#;
-    assert!(said.status == 2 && said.out.starts_with(start), "{said:?}");
+    let part =
+        r#""map":"MAP01","verdict":"refused","number":76,"place":null,"lump":null,"record":null,"found":null,"reason":null,"#;
+    assert!(said.status == 2 && said.out.contains(part), "{said:?}");
 }
 
 /// What is refused or not read outweighs what differs.

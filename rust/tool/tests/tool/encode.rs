@@ -83,10 +83,9 @@ fn the_largest_checkerboard_comes_back() {
     let pixel = |at: usize| [at as u8, at as u8, at as u8, if (at % 320 + at / 320).is_multiple_of(2) { 255 } else { 0 }];
     let pixels: Vec<[u8; 4]> = (0..64_000).map(pixel).collect();
     let folder = folder(&pam(320, &pixels));
-    let length = 8 + 320 * (4 + 1 + 100 * 5);
     folder
         .run(&["encode", "in.pam", "-o", "out.lmp"])
-        .is(0, &[&format!("in.pam: 320 x 200, offsets 0 and 0, {length} bytes, written to out.lmp")]);
+        .is(0, &["in.pam: 320 x 200, offsets 0 and 0, 161,608 bytes, written to out.lmp"]);
     folder.run(&["picture", "out.lmp", "-o", "out.png", "-q"]).is(0, &[]);
     let wanted: Vec<[u8; 4]> = pixels.into_iter().map(|pixel| if pixel[3] == 255 { pixel } else { CLEAR }).collect();
     assert_eq!(png(&folder).pixels, wanted);
@@ -144,7 +143,9 @@ fn json_has_sizes_offsets_and_length() {
     let number = |it| Value::Number(it);
     let text = |it: &str| Value::Text(it.to_string());
     let members = [
+        ("format", number(1)),
         ("file", text("in.pam")),
+        ("file_bytes", Value::Null),
         ("number", number(0)),
         ("width", number(2)),
         ("height", number(1)),
@@ -157,10 +158,11 @@ fn json_has_sizes_offsets_and_length() {
     let said = folder.run(&["picture", "out.lmp", "-o", "out.png", "--json"]);
     let members = object(said.out.trim_end());
     assert_eq!(
-        members[..3],
-        [("file", text("out.lmp")), ("lump", Value::Null), ("number", number(0))].map(|(key, it)| (key.to_string(), it))
+        members[1..5],
+        [("file", text("out.lmp")), ("file_bytes", Value::Null), ("lump", Value::Null), ("number", number(0))]
+            .map(|(key, it)| (key.to_string(), it))
     );
-    assert_eq!(members[5..7], [("left", number(32_767)), ("top", number(-32_768))].map(|(key, it)| (key.to_string(), it)));
+    assert_eq!(members[7..9], [("left", number(32_767)), ("top", number(-32_768))].map(|(key, it)| (key.to_string(), it)));
 }
 
 /// Asserts that an image is not encoded, and that a file in the output's place stays as it was.
@@ -220,7 +222,12 @@ fn an_image_that_cannot_be_read_is_told() {
         for options in [&[][..], &["--json"], &["--quiet"]] {
             let said = not_encoded(image, options);
             assert!(said.err.starts_with(&format!("meshpigeon: in.pam: {words}")), "{said:?}");
-            assert_eq!((said.status, said.out.as_str()), (2, ""));
+            let is_object = said.out.contains(r#""verdict":"unreadable","number":null"#) && said.out.contains(words);
+            assert_eq!(
+                (said.status, !said.out.is_empty(), is_object),
+                (2, options == ["--json"], options == ["--json"]),
+                "{said:?}"
+            );
         }
     }
     let said = Folder::new().run(&["encode", "no.pam", "-o", "out.lmp"]);

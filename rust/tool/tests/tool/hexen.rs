@@ -33,7 +33,9 @@ fn a_refused_map_of_hexen_is_said_to_be_one() {
     assert!(said.out.starts_with("a.wad:MAP01: refused 31 at NODES (Hexen): the nodes turn back"), "{said:?}");
     let said = changed(|plan| plan.map.linedefs[5].right = 99).run(&["judge", "a.wad"]);
     assert!(
-        said.out.starts_with("a.wad:MAP01: refused 23 at LINEDEFS 5 (Hexen): linedef 5: its right sidedef is 99, and"),
+        said.out.starts_with(
+            "a.wad:MAP01: refused 23 at LINEDEFS 5 (Hexen): linedef 5, from (512, 256) to (512, 0), has right sidedef 99, and"
+        ),
         "{said:?}"
     );
     let said = changed(|plan| plan.entry_at(9).name = *b"OTHER\0\0\0").run(&["judge", "a.wad"]);
@@ -43,21 +45,37 @@ fn a_refused_map_of_hexen_is_said_to_be_one() {
 
 #[test]
 fn sizes_and_counts_are_those_of_the_game() {
-    let rule = "its size must be a multiple of 10 bytes, or of 20 in a Hexen map";
-    let said = changed(|plan| plan.entry_at(1).padding = vec![0; 10]).run(&["judge", "a.wad"]);
-    said.is(
-        1,
-        &[&format!("a.wad:MAP01: refused 20 at THINGS (Hexen): THINGS is cut off inside a record: {rule}; it has 50 bytes")],
-    );
-    let rule = "its size must be a multiple of 14 bytes, or of 16 in a Hexen map";
+    let cut = |lump: &str, size: usize, record: usize| {
+        format!(
+            "{lump} is cut off inside a record: it has {size} bytes, which is no multiple of {record}. The lump \
+             is damaged: save the map again."
+        )
+    };
+    let said = changed(|plan| plan.entry_at(1).padding = vec![0; 7]).run(&["judge", "a.wad"]);
+    said.is(1, &[&format!("a.wad:MAP01: refused 20 at THINGS (Hexen): {}", cut("THINGS", 47, 20))]);
     let said = changed(|plan| plan.entries.truncate(11)).run(&["judge", "a.wad"]);
-    said.is(1, &[&format!("a.wad:MAP01: refused 20 at LINEDEFS: LINEDEFS is cut off inside a record: {rule}; it has 208 bytes")]);
+    said.is(1, &[&format!("a.wad:MAP01: refused 20 at LINEDEFS: {}", cut("LINEDEFS", 208, 14))]);
     let many = Content::Bytes(vec![0; 20 * 65_536]);
     let said = changed(|plan| plan.entry_at(1).content = many).run(&["judge", "a.wad"]);
-    said.is(
-        1,
-        &["a.wad:MAP01: refused 21 at THINGS (Hexen): there are too many things: a map has 0 to 65,535; this one has 65,536"],
-    );
+    let words = "the map has 65,536 things, and at most 65,535 are allowed. Take some out.";
+    said.is(1, &[&format!("a.wad:MAP01: refused 21 at THINGS (Hexen): {words}")]);
+}
+
+#[test]
+fn a_stray_behavior_is_named() {
+    let mut plan = Plan::new(generator::rooms(), MAP_NAME);
+    plan.entries.push(generator::EntryPlan::empty(BEHAVIOR));
+    let folder = Folder::with("a.wad", &plan.wad());
+    let words = "entry 11, BEHAVIOR, makes this a Hexen map, and THINGS has 10 bytes, which is no multiple of 20. \
+                 Both THINGS and LINEDEFS have the sizes of a Doom map: take BEHAVIOR out.";
+    folder.run(&["judge", "a.wad"]).is(1, &[&format!("a.wad:MAP01: refused 20 at THINGS (Hexen): {words}")]);
+    let said = folder.run(&["judge", "a.wad", "--json"]);
+    assert!(said.out.contains(r#""found":{"size":10,"behavior":11}"#), "{said:?}");
+    plan.entry_at(1).content = Content::Bytes(vec![]);
+    let said = Folder::with("a.wad", &plan.wad()).run(&["judge", "a.wad"]);
+    assert!(said
+        .out
+        .contains("refused 20 at LINEDEFS (Hexen): entry 11, BEHAVIOR, makes this a Hexen map, and LINEDEFS has 182 bytes"));
 }
 
 #[test]

@@ -74,11 +74,11 @@ fn what_was_written_is_right() {
 #[test]
 fn the_answers_are_objects_too() {
     let folder = folder();
-    let line = r#"{"file":"a.wad","number":0,"count":6,"length":71,"output":"b.wix"}"#;
+    let line = r#"{"format":1,"file":"a.wad","file_bytes":null,"number":0,"count":6,"length":71,"output":"b.wix"}"#;
     folder.run(&["index", "a.wad", "-o", "b.wix", "--json"]).is(0, &[line]);
-    let line = r#"{"file":"a.wad","number":0,"count":6,"index":"b.wix"}"#;
+    let line = r#"{"format":1,"file":"a.wad","file_bytes":null,"number":0,"count":6,"index":"b.wix"}"#;
     folder.run(&["index", "a.wad", "--check", "b.wix", "--json"]).is(0, &[line]);
-    let line = r#"{"file":"a.wad","entry":4,"name":"SKY1","offset":16,"size":4,"compared":2,"index":"a.wix"}"#;
+    let line = r#"{"format":1,"file":"a.wad","file_bytes":null,"entry":4,"name":"SKY1","offset":16,"size":4,"compared":2,"index":"a.wix"}"#;
     folder.run(&[&FIND[..], &["SKY1", "--json"]].concat()).is(0, &[line]);
 }
 
@@ -242,7 +242,7 @@ fn standard_input_and_output_serve_too() {
 #[test]
 fn the_largest_directory_needs_no_more_than_13_names() {
     let folder = Folder::with("a.wad", &generator::directory_of(4_096));
-    folder.run(&["index", "a.wad", "-o", "a.wix"]).is(0, &["a.wad: 4096 entries indexed, 40971 bytes, written to a.wix"]);
+    folder.run(&["index", "a.wad", "-o", "a.wix"]).is(0, &["a.wad: 4,096 entries indexed, 40,971 bytes, written to a.wix"]);
     for (name, compared) in [("BLOCKMAP", 13), ("LUMP0011", 12), ("LUMP4095", 12), ("THINGS", 12), ("VERTEXES", 12)] {
         let said = find(&folder, name);
         assert!(said.out.trim_end().ends_with(&format!("  {compared} names compared")) && said.status == 0, "{said:?}");

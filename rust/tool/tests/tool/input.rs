@@ -26,16 +26,19 @@ fn a_missing_file_cannot_be_read() {
         &["order", "no.wad", "MAP01", "0", "0"],
     ] {
         let said = Folder::new().run(arguments);
-        assert!(said.err.starts_with("meshpigeon: no.wad: No such file"), "{said:?}");
+        assert!(said.err.starts_with("meshpigeon: no.wad: No such file or directory\n"), "{said:?}");
         assert_eq!((said.status, said.out.as_str()), (2, ""));
     }
 }
 
 #[test]
-fn a_folder_cannot_be_read() {
-    let said = Folder::new().run(&["judge", "."]);
-    assert!(said.err.starts_with("meshpigeon: .: "), "{said:?}");
-    assert_eq!((said.status, said.out.as_str()), (2, ""));
+fn a_folder_is_no_file() {
+    let folder = Folder::new();
+    for arguments in [&["list", "."][..], &["text", ".", "MAP01"], &["judge", "--base", ".", "."]] {
+        let said = folder.run(arguments);
+        assert_eq!(said.err, "meshpigeon: .: Is a directory\n");
+        assert_eq!((said.status, said.out.as_str()), (2, ""));
+    }
 }
 
 #[test]

@@ -24,11 +24,39 @@ pub fn object(line: &str) -> Members {
     members
 }
 
+/// Any value, with blanks and line ends between its parts.
+pub fn value_of(text: &str) -> Value {
+    let compact = compact(text);
+    let mut rest = compact.chars().peekable();
+    let value = value(&mut rest);
+    assert_eq!(rest.next(), None);
+    value
+}
+
+/// The same text without what stands between its parts.
+fn compact(text: &str) -> String {
+    let (mut in_string, mut is_escaped) = (false, false);
+    let keeps = |it: &char| {
+        let keeps = in_string || !matches!(it, ' ' | '\n' | '\t' | '\r');
+        (in_string, is_escaped) = match (in_string, is_escaped, it) {
+            (true, false, '"') => (false, false),
+            (true, false, '\\') => (true, true),
+            (true, ..) => (true, false),
+            (false, _, it) => (*it == '"', false),
+        };
+        keeps
+    };
+    text.chars().filter(keeps).collect()
+}
+
 type Rest<'a> = std::iter::Peekable<std::str::Chars<'a>>;
 
-/// One member or more, up to the closing brace.
+/// Any number of members, up to the closing brace.
 fn members(rest: &mut Rest) -> Members {
     let mut members = Vec::new();
+    if rest.next_if_eq(&'}').is_some() {
+        return members;
+    }
     loop {
         assert_eq!(rest.next(), Some('"'));
         let key = string(rest);
@@ -101,11 +129,19 @@ fn escaped(rest: &mut Rest) -> char {
         'n' => '\n',
         'r' => '\r',
         't' => '\t',
-        'u' => {
-            let digits: String = rest.take(4).collect();
-            u32::from_str_radix(&digits, 16).ok().and_then(char::from_u32).expect("four digits")
-        }
+        'u' => unit(rest),
         it @ ('"' | '\\') => it,
         other => panic!("\\{other}"),
     }
+}
+
+/// A character by its four digits, or by the two halves of a pair.
+fn unit(rest: &mut Rest) -> char {
+    let half = |rest: &mut Rest| u16::from_str_radix(&rest.take(4).collect::<String>(), 16).expect("four digits");
+    let mut halves = vec![half(rest)];
+    if (0xD800..0xDC00).contains(&halves[0]) {
+        assert_eq!((rest.next(), rest.next()), (Some('\\'), Some('u')));
+        halves.push(half(rest));
+    }
+    String::from_utf16(&halves).expect("a character").chars().next().expect("one")
 }

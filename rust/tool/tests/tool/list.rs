@@ -22,7 +22,7 @@ fn a_name_is_shown_as_what_precedes_its_zero() {
     let lines = [("FIRST", 12, 3), ("A", 0, 0), ("EIGHTCHR", 15, 1)];
     let lines = [0, 1, 2].map(|at| {
         let (name, offset, size) = lines[at];
-        format!(r#"{{"file":"a.wad","entry":{at},"name":"{name}","offset":{offset},"size":{size}}}"#)
+        format!(r#"{{"format":1,"file":"a.wad","file_bytes":null,"entry":{at},"name":"{name}","offset":{offset},"size":{size}}}"#)
     });
     folder.run(&["list", "a.wad", "--json"]).is(0, &[&lines[0], &lines[1], &lines[2]]);
 }

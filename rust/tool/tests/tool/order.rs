@@ -38,11 +38,11 @@ fn a_map_without_nodes_is_one_subsector() {
 #[test]
 fn the_answer_is_an_object_too() {
     let folder = Folder::with("a.wad", &good());
-    let line = r#"{"file":"a.wad","map":"MAP01","number":0,"x":300,"y":-1,"count":4,"subsectors":[1,0,2,3],"output":null}"#;
+    let line = r#"{"format":1,"file":"a.wad","file_bytes":null,"map":"MAP01","number":0,"x":300,"y":-1,"count":4,"subsectors":[1,0,2,3],"output":null}"#;
     folder.run(&["order", "a.wad", "MAP01", "300", "-1", "--json"]).is(0, &[line]);
     let list = [1, 0, 2, 3].map(Value::Number).into();
     assert_eq!(object(line).iter().rev().nth(1), Some(&("subsectors".to_string(), Value::List(list))));
-    let line = line.replace("null", "\"a.svg\"");
+    let line = line.replace("\"output\":null", "\"output\":\"a.svg\"");
     folder.run(&["order", "a.wad", "MAP01", "300", "-1", "-o", "a.svg", "--json"]).is(0, &[&line]);
 }
 
@@ -100,7 +100,7 @@ fn the_rest_of_the_map_may_be_bad_but_its_lumps_must_be_there() {
     let said = Folder::with("a.wad", &plan.wad()).run(&["order", "a.wad", "MAP01", "0", "0"]);
     assert!(said.out.starts_with("a.wad:MAP01: refused 12 at NODES: "), "{said:?}");
     let said = folder.run(&["order", "a.wad", "E1M1", "0", "0", "--json"]);
-    assert!(said.out.contains(r#""map":"E1M1","number":11,"#), "{said:?}");
+    assert!(said.out.contains(r#""map":"E1M1","verdict":"refused","number":11,"#), "{said:?}");
     assert_eq!(said.status, 1);
 }
 

@@ -73,7 +73,7 @@ fn what_was_found_is_found_in_the_maps_own_file() {
     let folder = Folder::with("base.wad", &changed(|map| map.reject.push(0))).and("patch.wad", &lumps(&[]));
     let said = folder.run(&["judge", "--base", "base.wad", "patch.wad"]);
     assert!(said.out.starts_with("patch.wad:MAP01: refused 22 at REJECT (of the base): "), "{said:?}");
-    assert!(said.out.ends_with("; here that is 2 bytes, and it has 3\n"), "{said:?}");
+    assert!(said.out.contains(": REJECT has 3 bytes, and the sectors of this map need 2. "), "{said:?}");
 }
 
 #[test]
@@ -85,9 +85,15 @@ fn the_patch_is_judged_before_the_base() {
         assert!(said.out.starts_with(words), "{said:?}");
         assert_eq!((said.status, said.out.lines().count(), said.err.as_str()), (1, 1, ""));
     };
-    starts(line("bad.wad", "short.wad"), "short.wad: refused 1 (of the patch): the file is too short");
-    starts(line("short.wad", "bad.wad"), "bad.wad: refused 6 at entry 1 (of the patch): entry 1 has a bad name");
-    starts(line("bad.wad", "good.wad"), "good.wad: refused 6 at entry 1 (of the base): entry 1 has a bad name");
+    starts(line("bad.wad", "short.wad"), "short.wad: refused 1 (of the patch): the file has 4 bytes");
+    starts(
+        line("short.wad", "bad.wad"),
+        "bad.wad: refused 6 at entry 1 (of the patch): entry 1, with offset 12 and size 0, is called \"bad\": ",
+    );
+    starts(
+        line("bad.wad", "good.wad"),
+        "good.wad: refused 6 at entry 1 (of the base): entry 1, with offset 12 and size 0, is called \"bad\": ",
+    );
     starts(line("good.wad", "good.wad"), "good.wad:NO MAP: refused 10: that is no map's name");
 }
 
@@ -95,7 +101,8 @@ fn the_patch_is_judged_before_the_base() {
 fn a_map_that_neither_has_is_refused() {
     let folder = Folder::with("base.wad", &good()).and("patch.wad", &good());
     let said = folder.run(&["judge", "--base", "base.wad", "patch.wad", "--map", "MAP09", "--map", "MAP08"]);
-    let lines = ["MAP09", "MAP08"].map(|map| format!("patch.wad:{map}: refused 11: neither file has an entry of that name"));
+    let lines = ["MAP09", "MAP08"]
+        .map(|map| format!("patch.wad:{map}: refused 11: neither file has an entry of that name; the only map is MAP01"));
     said.is(1, &[&lines[0], &lines[1], "1 file: 2 maps not there"]);
 }
 
@@ -178,8 +185,7 @@ fn lump_and_palette_come_through_the_pair() {
     painted("wall.wad", "WALL", "patch", [9, 0, 0]);
     painted("wall.wad", "DOOR", "base", [8, 0, 0]);
     painted("green.wad", "WALL", "base", [0, 7, 0]);
-    let line =
-        r#"{"file":"wall.wad","lump":"DOOR","number":0,"width":1,"height":1,"left":0,"top":0,"output":"out.png","from":"base"}"#;
+    let line = r#"{"format":1,"file":"wall.wad","file_bytes":null,"lump":"DOOR","number":0,"width":1,"height":1,"left":0,"top":0,"output":"out.png","from":"base"}"#;
     folder.run(&["picture", "--base=base.wad", "wall.wad", "door", "-o", "out.png", "--json"]).is(0, &[line]);
 }
 

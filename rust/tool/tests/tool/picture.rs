@@ -151,7 +151,10 @@ fn a_bad_lump_file_is_refused_by_its_own_name() {
     assert!(said.out.starts_with("bad.lmp: refused 54 at column 1: column 1 has a post"), "{said:?}");
     assert_eq!((said.status, folder.names()), (1, vec!["bad.lmp".to_string(), "short.lmp".to_string()]));
     let said = folder.run(&["picture", "short.lmp", "-o", "out.png", "--json"]);
-    assert!(said.out.contains(r#""map":null,"number":50,"place":null,"lump":null,"record":null"#), "{said:?}");
+    assert!(
+        said.out.contains(r#""map":null,"verdict":"refused","number":50,"place":null,"lump":null,"record":null"#),
+        "{said:?}"
+    );
 }
 
 #[test]

@@ -5,12 +5,12 @@ use crate::support::{good, lumps, Folder, GOOD};
 
 /// A small map of all five kinds.
 const SQUARE: &str = "namespace = \"Doom\";\n\
-    vertex { x = -0.5; y = 64; }\n\
-    Vertex { X = 0.; Y = -0.0; ours = 7; }\n\
-    linedef { v1 = 0; v2 = 1; sidefront = 0; blocking = true; comment = \"a \\\"b\\\"\"; }\n\
-    sidedef { sector = 0; texturemiddle = \"STARTAN3\"; }\n\
-    sector { texturefloor = \"FLOOR4_8\"; textureceiling = \"\"; heightceiling = 0x80; }\n\
-    thing { x = 1.25; y = 2; type = 1; friend = TRUE; }\n";
+                      vertex { x = -0.5; y = 64; }\n\
+                      Vertex { X = 0.; Y = -0.0; ours = 7; }\n\
+                      linedef { v1 = 0; v2 = 1; sidefront = 0; blocking = true; comment = \"a \\\"b\\\"\"; }\n\
+                      sidedef { sector = 0; texturemiddle = \"STARTAN3\"; }\n\
+                      sector { texturefloor = \"FLOOR4_8\"; textureceiling = \"\"; heightceiling = 0x80; }\n\
+                      thing { x = 1.25; y = 2; type = 1; friend = TRUE; }\n";
 
 /// A folder whose a.wad has this text as MAP01.
 fn with(text: impl AsRef<[u8]>) -> Folder {
@@ -21,7 +21,7 @@ fn with(text: impl AsRef<[u8]>) -> Folder {
 
 const SUMMARY: &str =
     "a.wad:MAP01: a text map: its grammar is good, 2 vertices, 1 linedef, 1 sidedef, 1 sector, 1 thing, namespace \"Doom\"; \
-                       its geometry is not judged";
+     its geometry is not judged";
 
 #[test]
 fn a_text_map_is_summed_up_and_its_blocks_told() {
@@ -34,7 +34,8 @@ fn a_text_map_is_summed_up_and_its_blocks_told() {
             "linedef 0: id 0, v1 0, v2 1, blocking, special 0, arg0 0, arg1 0, arg2 0, arg3 0, arg4 0, sidefront 0, sideback -1, \
              comment \"a \\\\\\\"b\\\\\\\"\"",
             "sidedef 0: offsetx 0, offsety 0, texturemiddle \"STARTAN3\", sector 0",
-            "sector 0: heightfloor 0, heightceiling 128, texturefloor \"FLOOR4_8\", textureceiling \"\", lightlevel 160, special 0, id 0",
+            "sector 0: heightfloor 0, heightceiling 128, texturefloor \"FLOOR4_8\", textureceiling \"\", lightlevel \
+             160, special 0, id 0",
             "thing 0: id 0, x 1.25, y 2, height 0, angle 0, type 1, friend, special 0, arg0 0, arg1 0, arg2 0, arg3 0, arg4 0",
         ],
     );
@@ -42,7 +43,8 @@ fn a_text_map_is_summed_up_and_its_blocks_told() {
 
 #[test]
 fn a_text_without_blocks_or_namespace_says_so() {
-    let said = "a.wad:MAP01: a text map: its grammar is good, 0 vertices, 0 linedefs, 0 sidedefs, 0 sectors, 0 things, no namespace; its \
+    let said = "a.wad:MAP01: a text map: its grammar is good, 0 vertices, 0 linedefs, 0 sidedefs, 0 sectors, 0 \
+                things, no namespace; its \
                 geometry is not judged";
     for text in ["", "// nothing\n", "vertex = 1;"] {
         with(text).run(&["text", "a.wad", "MAP01"]).is(0, &[said]);
@@ -59,7 +61,10 @@ fn json_has_every_field() {
     assert!(lines[0].contains(r#""number":null,"place":null,"lump":null"#), "{}", lines[0]);
     let found = r#""found":{"namespace":"Doom","vertices":2,"linedefs":1,"sidedefs":1,"sectors":1,"things":1}"#;
     assert!(lines[0].contains(found), "{}", lines[0]);
-    assert_eq!(lines[1], r#"{"file":"a.wad","map":"MAP01","block":"vertex","number":0,"fields":{"x":-0.5,"y":64}}"#);
+    assert_eq!(
+        lines[1],
+        r#"{"format":1,"file":"a.wad","file_bytes":null,"map":"MAP01","block":"vertex","number":0,"fields":{"x":-0.5,"y":64}}"#
+    );
     assert!(lines[3]
         .contains(r#""block":"linedef","number":0,"fields":{"id":0,"v1":0,"v2":1,"blocking":true,"blockmonsters":false,"#));
     assert!(lines[4].contains(r#""texturetop":null,"texturebottom":null,"texturemiddle":"STARTAN3","sector":0,"comment":null"#));
@@ -104,14 +109,15 @@ fn refused(text: impl AsRef<[u8]>) -> Vec<String> {
 #[test]
 fn a_fault_is_shown_with_its_line_and_a_caret() {
     let lines = refused("namespace = \"Doom\";\nvertex {\n\tx = 1;\n\ty = 2147483648; // too far\n}\n");
-    assert!(lines[0].starts_with("a.wad:MAP01: refused 91 at TEXTMAP 4:6: a number is over its limits: "), "{lines:?}");
+    assert!(lines[0].starts_with("a.wad:MAP01: refused 91 at TEXTMAP 4:6: `2147483648` is no number of 32 bits: "), "{lines:?}");
     assert_eq!(lines[1..], ["    \ty = 2147483648; // too far", "    \t    ^"]);
     let lines = refused("vertex { x = 1; }");
-    assert!(lines[0].starts_with("a.wad:MAP01: refused 92 at TEXTMAP 1:17: the block ends without a field"), "{lines:?}");
+    assert!(lines[0].starts_with("a.wad:MAP01: refused 92 at TEXTMAP 1:17: this vertex has no y"), "{lines:?}");
     assert_eq!(lines[1..], ["    vertex { x = 1; }", "                    ^"]);
     let lines = refused("a = \"b");
-    assert!(lines[0].starts_with("a.wad:MAP01: refused 90 at TEXTMAP 1:7: the text does not go on as it must"), "{lines:?}");
-    assert_eq!(lines[1..], ["    a = \"b", "          ^"]);
+    let words = "the string that opens at 1:5 is not closed: expected `\"`, found the end of the text";
+    assert_eq!(lines[0], format!("a.wad:MAP01: refused 90 at TEXTMAP 1:7: {words}"));
+    assert_eq!(lines[1..], ["    a = \"b", "          ^", "    the string opens at 1:5:", "    a = \"b", "        ^"]);
 }
 
 #[test]
@@ -130,7 +136,7 @@ fn a_fault_in_json_has_its_place() {
     let said = with("a = 1;\nb = 01;").run(&["text", "a.wad", "MAP01", "--json"]);
     assert_eq!((said.status, said.out.lines().count()), (1, 1));
     assert!(said.out.contains(r#""number":90,"place":null,"lump":"TEXTMAP","record":11,"found":null,"#), "{said:?}");
-    assert!(said.out.contains(r#""reason":{"line":2,"column":5,"source":"b = 01;"}"#), "{said:?}");
+    assert!(said.out.contains(r#""reason":{"line":2,"column":5,"source":"b = 01;","expected":"a value (a number, a string in double quotes, true or false) for `b`","found":"`01`, and no 0 may stand before other digits","opened":null,"missing":[]}"#), "{said:?}");
     object(said.out.trim_end());
 }
 
@@ -140,7 +146,9 @@ fn what_is_no_text_map_is_said() {
     let said = folder.run(&["text", "b.wad", "MAP01"]);
     let words = "meshpigeon: b.wad: MAP01 is no text map: TEXTMAP must be the entry after its marker\n";
     assert_eq!((said.status, said.out.as_str(), said.err.as_str()), (2, "", words));
-    folder.run(&["text", "a.wad", "MAP02"]).is(1, &["a.wad:MAP02: refused 11: the file has no map of that name"]);
+    folder
+        .run(&["text", "a.wad", "MAP02"])
+        .is(1, &["a.wad:MAP02: refused 11: the file has no map of that name; the only map is MAP01"]);
     assert!(folder.run(&["text", "a.wad", "TEXTMAP"]).out.starts_with("a.wad:TEXTMAP: refused 10: "));
     assert_eq!(folder.run(&["text", "none.wad", "MAP01"]).status, 2);
     for wrong in [&["text"][..], &["text", "a.wad"], &["text", "a.wad", "MAP01", "more"], &["text", "a.wad", "MAP01", "--quiet"]]

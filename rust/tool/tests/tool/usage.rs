@@ -6,7 +6,7 @@ use crate::support::{good, Folder};
 fn misused(arguments: &[&str], words: &str) {
     let said = Folder::with("a.wad", &good()).run(arguments);
     assert!(said.err.starts_with(&format!("meshpigeon: {words}")), "{arguments:?}: {said:?}");
-    assert!(said.err.ends_with("Try 'meshpigeon --help'.\n"), "{arguments:?}: {said:?}");
+    assert!(said.err.ends_with("Try 'meshpigeon help', or 'meshpigeon help COMMAND'.\n"), "{arguments:?}: {said:?}");
     assert_eq!((said.status, said.out.as_str()), (3, ""), "{arguments:?}");
 }
 
@@ -39,44 +39,61 @@ fn commands_and_options_must_be_known() {
 
 #[test]
 fn each_command_has_its_words() {
-    misused(&["judge"], "judge needs a file");
-    misused(&["judge", "-", "a.wad", "-"], "standard input can be judged once only");
-    misused(&["judge", "--base", "a.wad"], "judge needs a file");
-    misused(&["judge", "--base", "-", "a.wad", "-"], "standard input can be judged once only");
-    misused(&["picture", "--base=-", "-", "P", "-o", "b"], "standard input can be judged once only");
+    misused(&["judge"], "judge needs FILE, a folder, or --files0-from LIST");
+    misused(&["judge", "-", "a.wad", "-"], "standard input can be read once only");
+    misused(&["judge", "--base", "a.wad"], "judge needs FILE, a folder, or --files0-from LIST");
+    misused(&["judge", "--files0-from", "l", "a.wad"], "judge takes --files0-from or files, and 'a.wad' is one");
+    misused(&["judge", "--files0-from", "-", "--base", "-"], "standard input can be read once only");
+    misused(&["judge", "--base", "-", "a.wad", "-"], "standard input can be read once only");
+    misused(&["picture", "--base=-", "-", "P", "-o", "b"], "standard input can be read once only");
     misused(&["list"], "list needs FILE");
-    misused(&["list", "a.wad", "b.wad"], "list needs FILE");
+    misused(&["list", "a.wad", "b.wad"], "list takes FILE, and 'b.wad' is one word too many");
     misused(&["descend", "a.wad", "MAP01", "1"], "descend needs FILE MAP X Y");
-    misused(&["descend", "a.wad", "MAP01", "1", "2", "3"], "descend needs FILE MAP X Y");
+    misused(&["descend", "a.wad", "MAP01", "1", "2", "3"], "descend takes FILE MAP X Y, and '3' is one word too many");
     misused(&["order", "a.wad", "MAP01", "1"], "order needs FILE MAP X Y");
-    misused(&["order", "a.wad", "MAP01", "1", "2", "3"], "order needs FILE MAP X Y");
+    misused(&["order", "a.wad", "MAP01", "1", "2", "3"], "order takes FILE MAP X Y, and '3' is one word too many");
+    for output in ["x.png", "x", "svg", "x.svg.png", ".svg"] {
+        let words = "order draws SVG: -o needs a name that ends in .svg, or -";
+        misused(&["order", "a.wad", "MAP01", "1", "2", "-o", output], words);
+    }
     misused(&["picture", "a.wad", "P"], "picture needs FILE LUMP -o OUT.png");
     misused(&["picture", "a.wad"], "picture needs FILE LUMP -o OUT.png, or the file of a lump");
     misused(&["picture", "-o", "b"], "picture needs FILE LUMP -o OUT.png");
-    misused(&["picture", "a.wad", "P", "Q", "-o", "b"], "picture needs FILE LUMP -o OUT.png");
+    misused(&["picture", "a.wad", "P", "Q", "-o", "b"], "picture takes FILE LUMP -o OUT.png, and 'Q' is one word too many");
     misused(&["picture", "a.lmp", "--base", "a.wad", "-o", "b"], "--base needs LUMP: the file of a lump is no patch");
-    misused(&["picture", "-", "--palette", "-", "-o", "b"], "standard input can be judged once only");
+    misused(&["picture", "-", "--palette", "-", "-o", "b"], "standard input can be read once only");
     misused(&["encode", "a.pam"], "encode needs IMAGE -o OUT.lmp");
     misused(&["encode", "-o", "b"], "encode needs IMAGE -o OUT.lmp");
-    misused(&["encode", "a.pam", "c.pam", "-o", "b"], "encode needs IMAGE -o OUT.lmp");
-    misused(&["encode", "-", "--palette=-", "-o", "b"], "standard input can be judged once only");
+    misused(&["encode", "a.pam", "c.pam", "-o", "b"], "encode takes IMAGE -o OUT.lmp, and 'c.pam' is one word too many");
+    misused(&["encode", "-", "--palette=-", "-o", "b"], "standard input can be read once only");
     misused(&["sidedefs"], "sidedefs needs SECTORS, and the lump on standard input");
-    misused(&["sidedefs", "5", "a.lmp"], "sidedefs needs SECTORS, and the lump on standard input");
+    misused(
+        &["sidedefs", "5", "a.lmp"],
+        "sidedefs takes SECTORS, and the lump on standard input, and 'a.lmp' is one word too many",
+    );
     misused(&["renumber", "a.wad", "MAP01"], "renumber needs FILE MAP -o OUT.wad");
     misused(&["renumber", "a.wad", "-o", "b"], "renumber needs FILE MAP -o OUT.wad");
-    misused(&["renumber", "a.wad", "MAP01", "0", "-o", "b"], "renumber needs FILE MAP -o OUT.wad");
-    misused(&["renumber", "-", "MAP01", "-o", "b", "--order", "-"], "standard input can be judged once only");
+    misused(&["renumber", "a.wad", "MAP01", "0", "-o", "b"], "renumber takes FILE MAP -o OUT.wad, and '0' is one word too many");
+    misused(&["renumber", "-", "MAP01", "-o", "b", "--order", "-"], "standard input can be read once only");
     misused(&["list", "a.wad", "--name", "A"], "list takes --name and --index together");
     misused(&["list", "a.wad", "--index", "b"], "list takes --name and --index together");
-    misused(&["list", "-", "--name", "A", "--index", "-"], "standard input can be judged once only");
+    misused(&["list", "-", "--name", "A", "--index", "-"], "standard input can be read once only");
     misused(&["index", "a.wad"], "index needs FILE -o OUT.wix, or FILE --check INDEX");
     misused(&["index", "-o", "b"], "index needs FILE -o OUT.wix, or FILE --check INDEX");
-    misused(&["index", "a.wad", "b.wad", "-o", "b"], "index needs FILE -o OUT.wix, or FILE --check INDEX");
+    misused(
+        &["index", "a.wad", "b.wad", "-o", "b"],
+        "index takes FILE -o OUT.wix, or FILE --check INDEX, and 'b.wad' is one word",
+    );
     misused(&["index", "a.wad", "-o", "b", "--check", "c"], "index needs FILE -o OUT.wix, or FILE --check INDEX");
-    misused(&["index", "-", "--check", "-"], "standard input can be judged once only");
+    misused(&["index", "-", "--check", "-"], "standard input can be read once only");
     misused(&["diff", "a.wad"], "diff needs OLD NEW");
-    misused(&["diff", "a.wad", "a.wad", "MAP01"], "diff needs OLD NEW");
-    misused(&["diff", "-", "-"], "standard input can be judged once only");
+    misused(&["diff", "a.wad", "a.wad", "MAP01"], "diff takes OLD NEW, and 'MAP01' is one word too many");
+    misused(&["extract", "a.wad", "MAP01"], "extract needs FILE NAME -o OUT.wad");
+    misused(&["extract", "a.wad", "-o", "b"], "extract needs FILE NAME -o OUT.wad");
+    misused(&["extract", "-", "MAP01", "-o", "b"], "extract reads parts of a file, and not standard input");
+    misused(&["help", "judge", "list"], "help takes one COMMAND, and 'list' is one word too many");
+    misused(&["help", "judje"], "'judje' is no command");
+    misused(&["diff", "-", "-"], "standard input can be read once only");
 }
 
 #[test]
@@ -108,6 +125,10 @@ fn each_command_has_its_options() {
     misused(&["diff", "a.wad", "a.wad", "--quiet"], "diff does not take --quiet");
     misused(&["diff", "a.wad", "a.wad", "--base", "a.wad"], "diff does not take --base");
     misused(&["diff", "a.wad", "a.wad", "-o", "b"], "diff does not take -o");
+    misused(&["diff", "a.wad", "a.wad", "--all"], "diff does not take --all");
+    misused(&["list", "a.wad", "--require-map"], "list does not take --require-map");
+    misused(&["extract", "a.wad", "MAP01", "-o", "b", "--files0-from", "c"], "extract does not take --files0-from");
+    misused(&["extract", "a.wad", "MAP01", "-o", "b", "--map", "MAP01"], "extract does not take --map");
 }
 
 #[test]
@@ -133,21 +154,47 @@ fn a_count_of_sectors_is_a_whole_number() {
     }
 }
 
+/// All commands that have a part of the help.
+const COMMANDS: [&str; 12] =
+    ["judge", "list", "index", "extract", "descend", "order", "picture", "encode", "sidedefs", "renumber", "diff", "text"];
+
 #[test]
 fn help_and_version_are_given() {
     let folder = Folder::new();
-    for arguments in [&["--help"][..], &["-h"], &["judge", "--help"], &["list", "a", "b", "-h"]] {
+    for arguments in [&["--help"][..], &["-h"], &["help"], &["help", "--help"]] {
         let said = folder.run(arguments);
         assert!(said.out.contains("Usage:\n  meshpigeon judge FILE.. [--map NAME].."), "{said:?}");
         assert_eq!((said.status, said.err.as_str()), (0, ""));
+        assert!(COMMANDS.iter().all(|command| said.out.contains(&format!("\n  {command} "))), "{said:?}");
     }
     folder.run(&["--version"]).is(0, &[concat!("meshpigeon ", env!("CARGO_PKG_VERSION"))]);
 }
 
 #[test]
+fn each_command_has_its_own_part_of_the_help() {
+    let folder = Folder::new();
+    for command in COMMANDS {
+        let said = folder.run(&["help", command]);
+        assert!(said.out.contains(&format!("\nUsage:\n  meshpigeon {command} ")), "{said:?}");
+        assert!(said.out.contains("\nExit status"), "{said:?}");
+        assert!(COMMANDS.iter().all(|other| other == &command || !said.out.contains(&format!("\n  meshpigeon {other} "))));
+        assert_eq!((said.status, said.err.as_str()), (0, ""));
+        for arguments in
+            [&[command, "--help"][..], &[command, "a", "b", "c", "-h"], &["-h", command], &["--json", "help", command]]
+        {
+            assert_eq!(folder.run(arguments).out, said.out, "{arguments:?}");
+        }
+    }
+}
+
+#[test]
 fn the_help_fits_a_terminal() {
-    let said = Folder::new().run(&["--help"]);
-    assert!(said.out.lines().all(|line| line.len() <= 84), "{}", said.out);
+    let folder = Folder::new();
+    let pages = [&["help"][..]].into_iter().map(<[_]>::to_vec).chain(COMMANDS.iter().map(|command| vec!["help", command]));
+    for page in pages {
+        let said = folder.run(&page);
+        assert!(said.out.lines().all(|line| line.len() <= 84), "{}", said.out);
+    }
 }
 
 #[test]

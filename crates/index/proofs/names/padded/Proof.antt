@@ -1,7 +1,7 @@
 -- `index::names::padded` meets its contract. The loop's invariant: the first `i` bytes are the name's, zeros follow, and so it is in the
 -- padded name up to what the name has from byte `i` on. The measure is what is left of the eight. Assumes nothing.
 use Prim.Native.Nat.{ℕ, zero, suc, _+_, _-_, _≤_, _<_}
-use mathlib.Core.Bool.{Bool, true, false, cond}
+use mathlib.Core.Bool.{cond}
 use mathlib.Core.List.{List, [], _∷_, _++_}
 use mathlib.Core.Path.{_≡_, refl, sym, ap, _∙_, subst}
 use native.Mathlib.Nat.{le-of-suc-le-suc}

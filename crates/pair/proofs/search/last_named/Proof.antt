@@ -6,6 +6,7 @@ use mathlib.Core.Path.{sym, ap, _∙_}
 use native.Mathlib.Omega.{arith}
 use borrow.Author.Tests.{eq-eqb, ne-eqb}
 use denote.Ref.{now}
+use Rattle.wad.proofs.Answers.{counted-marker}
 use Rattle.refusal.specs.declared.Refusal.the-variants.{EntryMissing}
 use Rattle.wad.specs.declared.map.Marker.the-variants.{Refused as NoMarker}
 use Rattle.wad.specs.declared.map.MarkerSearch.{MarkerSearch}
@@ -13,7 +14,6 @@ use Rattle.wad.specs.Header.{headOf, entryCount}
 use Rattle.wad.specs.Entries.{directoryOf}
 use Rattle.wad.specs.Map.{findMarker, counted}
 use Rattle.wad.proofs.Listing.{file-header}
-use Rattle.pair.proofs.Searching.{counted-marker}
 use Rattle.pair.proofs.search.last_named.Statement.{statement}
 use Rattle.pair.proofs.search.last_named.Tie as tie
 

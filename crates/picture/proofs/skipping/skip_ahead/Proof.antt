@@ -1,5 +1,4 @@
 -- `picture::skipping::skip_ahead` meets its contract: none is stepped over, or as many as fit. Assumes nothing.
-use mathlib.Core.Path.{sym}
 use borrow.Author.Needs.{needs}
 use Rattle.picture.proofs.Inner.{stepped-none}
 use Rattle.picture.proofs.skipping.skip_ahead.Statement.{statement}

@@ -8,7 +8,7 @@ use borrow.Author.Needs.{needs}
 use borrow.Author.Tests.{not-true, not-false}
 use denote.Ref.{now}
 use lib.ListN.{length}
-use Rattle.renumber_order.specs.Lists.{oldAt}
+use Rattle.renumber_order.specs.Orders.{oldAt}
 use Rattle.renumber_order.specs.Places.{freeOk}
 use Rattle.renumber_order.proofs.Filling.{Filling, filling-none, filling-low, filling-more, filling-stop, filling-done}
 use Rattle.renumber_order.proofs.places.fill_places.Statement.{statement}
