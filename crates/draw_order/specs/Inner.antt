@@ -11,7 +11,7 @@ use Rattle.draw_order.specs.declared.Order.the-variants.{Listed, Refused
 use Rattle.draw_order.specs.declared.Visit.{Visit}
 use Rattle.draw_order.specs.Lists.{Listing, listed, stopped}
 
--- what a walk is given: whole nodes, no more than a word can name, and one word more
+-- what a walk is given: whole nodes, at most 32,767, and one word more than there are nodes
 pub record Walkable (nodes : List ℕ) (count : ℕ) (words : List ℕ) : Type 0 where
   pub whole : nodeSize * count ≡ length nodes
   pub most : count ≤ 32767

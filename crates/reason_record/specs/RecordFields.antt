@@ -20,7 +20,7 @@ Counted count = (0 < count) × (count ≤ 65535)
 abbrev pub numberAt : List ℕ → ℕ → ℕ → Field
 numberAt bytes at count = fieldAt bytes at 0 (count - 1)
 
--- the left sidedef, but where there is none and need not be
+-- the left sidedef, unless it is absent and optional
 abbrev pub leftFields : Bool → List ℕ → ℕ → List Field
 leftFields hexen bytes sidedefs =
     cond (eqb (u16At bytes (leftOffset hexen)) noSidedef && not (twoSided (u16At bytes 4))) [] (numberAt bytes (leftOffset hexen) sidedefs ∷ [])

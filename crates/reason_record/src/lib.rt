@@ -45,7 +45,7 @@ pub fn linedef_field(
     first_of(start, first_of(end, first_of(right, left)))
 }
 
-// The left sidedef, but where there is none and need not be.
+// The left sidedef, unless it is absent and optional.
 fn left_field(hexen: bool, linedefs: &[u8], sidedefs: usize, i: usize) -> Field
     requires { ⌜ (i < length (now linedefs) / linedefSize hexen) × Counted sidedefs ⌝ }
     ensures { λ r. ⌜ (r ≡ firstOut (leftFields hexen (recordBytes (now (linedefs .entry)) (linedefSize hexen) i) sidedefs)) × FieldFits r ⌝ }
