@@ -1,5 +1,5 @@
--- Not for the reader of promises: what only contracts of inner functions cite, what is noted of a place that many columns come to. Assumes
--- nothing.
+-- Not for the reader of promises: what only contracts of inner functions cite, what is noted of a place that many
+-- columns come to. Assumes nothing.
 use Prim.Native.Nat.{ℕ, _≤_}
 use mathlib.Core.Bool.{true}
 use mathlib.Core.List.{List}

@@ -1,5 +1,5 @@
--- A field of a record or of a lump, with the range that 01 allows there, and the first of a row of fields that is out of its range (W-211). A range
--- whose least is above its most is empty. Assumes nothing.
+-- A field of a record or of a lump, with the range that 01 allows there, and the first of a row of fields that is out
+-- of its range (W-211). A range whose least is above its most is empty. Assumes nothing.
 use Prim.Native.Nat.{ℕ, _≤_, _<_}
 use mathlib.Core.Bool.{Bool, true, false, _&&_, cond}
 use mathlib.Core.List.{List, [], _∷_, _++_}

@@ -1,5 +1,6 @@
--- The fields of a record that refer to other records, in byte order, each with the range that 01 allows there (W-211). Places and numbers are as
--- stored. 0 to `count - 1` is what is below `count` where that is above 0, as 21 has it of every count here. Assumes nothing.
+-- The fields of a record that refer to other records, in byte order, each with the range that 01 allows there (W-211).
+-- Places and numbers are as stored. 0 to `count - 1` is what is below `count` where that is above 0, as 21 has it of
+-- every count here. Assumes nothing.
 use Prim.Native.Nat.{ℕ, _+_, _-_, _/_, _<_, _≤_}
 use mathlib.Core.Bool.{Bool, not, _&&_, cond}
 use mathlib.Core.List.{List, [], _∷_}

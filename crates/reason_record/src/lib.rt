@@ -1,5 +1,5 @@
-// Why a record is refused (23 to 27): the first of its fields that is out of its range, each over one lump, read in place. The definitions are in
-// specs/. Callers show that the counts are those that 21 lets pass.
+// Why a record is refused (23 to 27): the first of its fields that is out of its range, each over one lump, read in
+// place. The definitions are in specs/. Callers show that the counts are those that 21 lets pass.
 ghost use mathlib.Core.Path.{_≡_};
 ghost use Prim.Native.Nat.{_+_, _-_, _/_, _<_, _≤_};
 ghost use mathlib.Core.Bool.{cond};

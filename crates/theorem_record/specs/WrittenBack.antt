@@ -22,7 +22,8 @@ pub record Unchanged (lump : List ℕ) (read written : Status) (left : List ℕ)
   pub status : written ≡ read
   pub bytes : left ≡ lump
 
--- of a kind whose read answers the status `read` and the record `item`, and whose write promises `Write`: whether the read was refused or not
+-- of a kind whose read answers the status `read` and the record `item`, and whose write promises `Write`: whether the
+-- read was refused or not
 abbrev pub WritesBack : {R : Type 0} → (List ℕ → ℕ → Status) → (List ℕ → ℕ → R) → (List ℕ → ℕ → R → Status → List ℕ → Type 0) → Type 0
 WritesBack read item Write = (lump : List ℕ) (index : ℕ) (answer : Status) (left : List ℕ) → Bytes lump
     → Write lump index (item lump index) answer left → Unchanged lump (read lump index) answer left

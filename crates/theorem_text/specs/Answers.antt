@@ -1,5 +1,5 @@
--- The same answers in two texts, but for places (02, W-206): strings are the same by their bytes, and absent in both or in neither; faults by
--- their numbers. Assumes nothing.
+-- The same answers in two texts, but for places (02, W-206): strings are the same by their bytes, and absent in both or
+-- in neither; faults by their numbers. Assumes nothing.
 use Prim.Native.Nat.{ℕ}
 use mathlib.Core.Bool.{Bool, _&&_}
 use mathlib.Core.List.{List}
@@ -38,8 +38,8 @@ pub record SameValue (a : List ℕ) (at : ℕ) (b : List ℕ) (from : ℕ) : Typ
   pub string : stringBytes a (stringOr (valueAt a at)) ≡ stringBytes b (stringOr (valueAt b from))
   pub absent : isAbsent (stringOr (valueAt a at)) ≡ isAbsent (stringOr (valueAt b from))
 
--- two texts read to their ends: the fault; the block that opened, by its kind; the namespace, by its bytes and whether there is one; the
--- counts; and the block that was asked for with all of its values
+-- two texts read to their ends: the fault; the block that opened, by its kind; the namespace, by its bytes and whether
+-- there is one; the counts; and the block that was asked for with all of its values
 pub record SameStand (a b : List ℕ) (s t : Stand) : Type 0 where
   pub check : SameCheck (s .parse .check) (t .parse .check)
   pub opened : SameCheck (openedCheck (s .parse)) (openedCheck (t .parse))

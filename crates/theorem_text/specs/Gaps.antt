@@ -14,8 +14,8 @@ use Rattle.text_table.specs.Table.{bytes}
 abbrev pub IsGap : List ℕ → Type 0
 IsGap w = gapFrom w Between 0 (length w) ≡ gap Between (length w)
 
--- which bytes are: each white space; a comment up to the first star with a slash behind it; one up to its line's end; and one gap behind
--- another, for example
+-- which bytes are: each white space; a comment up to the first star with a slash behind it; one up to its line's end;
+-- and one gap behind another, for example
 pub record GapsAre : Type 0 where
   pub none : IsGap []
   pub blank : (b : ℕ) → isBlank b ≡ true → IsGap (b ∷ [])

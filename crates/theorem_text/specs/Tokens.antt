@@ -1,5 +1,5 @@
--- Two texts with the same tokens (02, W-206): what stands between tokens does not matter, nor does the case of letters in identifiers and
--- keywords. Assumes nothing.
+-- Two texts with the same tokens (02, W-206): what stands between tokens does not matter, nor does the case of letters
+-- in identifiers and keywords. Assumes nothing.
 use Prim.Native.Nat.{ℕ, zero, suc, _<_}
 use mathlib.Core.Bool.{true}
 use mathlib.Core.List.{List}
