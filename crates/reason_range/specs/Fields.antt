@@ -62,6 +62,6 @@ pub record FieldSaid (out : List ℕ) (f : Field) (left : List ℕ) : Type 0 whe
   pub rest : drop 16 left ≡ drop 16 out
   pub long : length left ≡ length out
 
--- so it is where there is room
+-- this holds if there is room
 abbrev pub FieldsSaid : Type 0
 FieldsSaid = (out : List ℕ) (f : Field) → 16 ≤ length out → FieldSaid out f (putField out f)

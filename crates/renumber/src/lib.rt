@@ -1,5 +1,5 @@
-// NODES renumbered so that children come before their parents (W-212), by a list that nothing is known of. The
-// definitions are in specs/.
+// NODES renumbered so that children come before their parents (W-212), by an untrusted list. The definitions are in
+// specs/.
 mod writing;
 
 ghost use mathlib.Core.Path.{_≡_};
