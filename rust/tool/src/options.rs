@@ -16,7 +16,7 @@ pub struct Parts {
     pub palette: Option<OsString>,
     /// `--offset`.
     pub offset: Option<OsString>,
-    /// `--order`.
+    /// `--list`, or `--order`, as it was called first.
     pub list: Option<OsString>,
     /// `--name`.
     pub name: Option<OsString>,
@@ -45,8 +45,8 @@ pub struct Parts {
 }
 
 /// The long options that take a value.
-const VALUED: [&str; 9] =
-    ["--map", "--base", "--palette", "--offset", "--order", "--name", "--index", "--check", "--files0-from"];
+const VALUED: [&str; 10] =
+    ["--map", "--base", "--palette", "--offset", "--list", "--order", "--name", "--index", "--check", "--files0-from"];
 
 /// Sorts options from words; `--` makes words of all that follows.
 pub fn split(arguments: Vec<OsString>) -> Result<Parts, Misuse> {
@@ -94,7 +94,7 @@ fn put(option: &str, given: Option<OsString>, parts: &mut Parts) -> Result<(), M
         "--base" => &mut parts.base,
         "--palette" => &mut parts.palette,
         "--offset" => &mut parts.offset,
-        "--order" => &mut parts.list,
+        "--list" | "--order" => &mut parts.list,
         "--name" => &mut parts.name,
         "--index" => &mut parts.index,
         "--check" => &mut parts.check,
@@ -128,7 +128,7 @@ impl Parts {
             (self.base.is_some() && !takes(&["judge", "picture"]), "--base"),
             (self.palette.is_some() && !takes(&["picture", "encode"]), "--palette"),
             (self.offset.is_some() && !takes(&["encode"]), "--offset"),
-            (self.list.is_some() && !takes(&["renumber"]), "--order"),
+            (self.list.is_some() && !takes(&["renumber"]), "--list"),
             (self.name.is_some() && !takes(&["list"]), "--name"),
             (self.index.is_some() && !takes(&["list"]), "--index"),
             (self.check.is_some() && !takes(&["index"]), "--check"),

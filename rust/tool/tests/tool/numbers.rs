@@ -226,7 +226,7 @@ fn of_pictures_50_to_56() {
 fn of_orders_and_comparisons_70_to_76() {
     let folder = Folder::with("a.wad", &good()).and("b.wad", &Plan::wad_of(generator::hexen_rooms()));
     let order = |list: &[u8], words: &str| {
-        told_of(&folder, &["renumber", "a.wad", "MAP01", "-o", "out.wad", "--order", "-"], list, words);
+        told_of(&folder, &["renumber", "a.wad", "MAP01", "-o", "out.wad", "--list", "-"], list, words);
     };
     order(
         b"0 0 2",
@@ -250,7 +250,7 @@ fn of_orders_and_comparisons_70_to_76() {
     let folder = folder.and("c.wad", &chain);
     let words = "71: the order has a child behind its parent: every child that is a node must come before its parent; \
                  here node 1 stands behind its parent, node 0";
-    told_of(&folder, &["renumber", "c.wad", "MAP01", "-o", "out.wad", "--order", "-"], b"0 1 2", words);
+    told_of(&folder, &["renumber", "c.wad", "MAP01", "-o", "out.wad", "--list", "-"], b"0 1 2", words);
     let words = "76 (Hexen): one map is Doom's and the other Hexen's: only two maps of one game can be compared";
     told_of(&folder, &["diff", "a.wad", "b.wad"], &[], words);
 }

@@ -187,7 +187,7 @@ fn a_lump_over_the_directory_is_not_changed() {
 /// What is said of a list, in a folder in which nothing may be written.
 fn refused(list: &str, arguments: &[&str]) -> Said {
     let folder = Folder::with("in.wad", &tangled()).and("list.txt", list.as_bytes());
-    let said = folder.run(&[&["renumber", "in.wad", "MAP01", "-o", "out.wad", "--order=list.txt"], arguments].concat());
+    let said = folder.run(&[&["renumber", "in.wad", "MAP01", "-o", "out.wad", "--list=list.txt"], arguments].concat());
     assert_eq!(folder.names(), ["in.wad", "list.txt"]);
     said
 }
@@ -230,10 +230,10 @@ fn a_child_behind_its_parent_is_named() {
         map.subsectors.resize(5, subsector);
     });
     let folder = Folder::with("in.wad", &wad).and("list.txt", b"2 0 1 3");
-    let said = folder.run(&["renumber", "in.wad", "MAP01", "-o", "out.wad", "--order", "list.txt"]);
+    let said = folder.run(&["renumber", "in.wad", "MAP01", "-o", "out.wad", "--list", "list.txt"]);
     let words = "refused 71: the order has a child behind its parent: every child that is a node must come before its parent";
     said.is(1, &[&format!("in.wad:MAP01: {words}; here node 1 stands behind its parent, node 0")]);
-    let said = folder.run(&["renumber", "in.wad", "MAP01", "-o", "out.wad", "--order", "list.txt", "--json"]);
+    let said = folder.run(&["renumber", "in.wad", "MAP01", "-o", "out.wad", "--list", "list.txt", "--json"]);
     assert!(
         said.out.contains(r#""number":71,"place":null,"lump":null,"record":null,"found":{"child":1,"parent":0}"#),
         "{said:?}"
@@ -250,7 +250,7 @@ fn a_refused_map_is_refused_as_it_is_judged() {
         let folder = Folder::with("in.wad", &wad).and("list.txt", b"0 0 0 0");
         for arguments in [
             &["renumber", "in.wad", "MAP01", "-o", "out.wad"][..],
-            &["renumber", "in.wad", "MAP01", "-o", "out.wad", "--order=list.txt"],
+            &["renumber", "in.wad", "MAP01", "-o", "out.wad", "--list=list.txt"],
         ] {
             let said = folder.run(arguments);
             assert_eq!((said.status, &said.out), (1, &folder.run(&["judge", "in.wad"]).out));
@@ -282,7 +282,7 @@ fn a_bad_list_is_told_with_its_line() {
     }
     let folder = Folder::with("in.wad", &tangled()).and("long.txt", &[b' '; MOST_BYTES + 1]);
     for (list, words) in [("no.txt", "No such file"), ("long.txt", "a list of more than 16,777,216 bytes is not read")] {
-        let said = folder.run(&["renumber", "in.wad", "MAP01", "-o", "out.wad", "--order", list]);
+        let said = folder.run(&["renumber", "in.wad", "MAP01", "-o", "out.wad", "--list", list]);
         assert!(said.status == 2 && said.err.starts_with(&format!("meshpigeon: {list}: {words}")), "{said:?}");
     }
     assert_eq!(folder.names(), ["in.wad", "long.txt"]);
@@ -312,7 +312,7 @@ fn file_list_and_output_may_be_pipes() {
     let new = bytes_of(&folder, "out.wad");
     for (arguments, input) in [
         (&["renumber", "-", "MAP01", "-o", "-"][..], tangled()),
-        (&["renumber", "in.wad", "MAP01", "-o", "-", "--order", "-"], b"0 2 4".to_vec()),
+        (&["renumber", "in.wad", "MAP01", "-o", "-", "--list", "-"], b"0 2 4".to_vec()),
         (&["renumber", "in.wad", "MAP01", "-o", "-", "--json"], Vec::new()),
     ] {
         let (bytes, said) = piped(&folder, arguments, &input);
@@ -326,7 +326,7 @@ fn a_file_is_never_written_over_what_it_comes_from() {
     fs::hard_link(folder.file("in.wad"), folder.file("hard.wad")).expect("the folder takes links");
     symlink("list.txt", folder.file("soft.txt")).expect("the folder takes links");
     for output in ["./in.wad", "hard.wad", "list.txt", "soft.txt"] {
-        let said = folder.run(&["renumber", "in.wad", "MAP01", "-o", output, "--order", "list.txt"]);
+        let said = folder.run(&["renumber", "in.wad", "MAP01", "-o", output, "--list", "list.txt"]);
         let words = "meshpigeon: the new file would be written over a file that it comes from\n";
         assert_eq!((said.status, said.out.as_str(), said.err.as_str()), (3, "", words), "{output}");
     }

@@ -26,7 +26,7 @@ fn commands_and_options_must_be_known() {
     misused(&["encode", "a.pam", "-o", "b", "--palette=c", "--palette=d"], "--palette is given twice");
     misused(&["encode", "a.pam", "-o", "b", "--offset", "1,2", "--offset=1,2"], "--offset is given twice");
     misused(&["renumber", "a.wad", "MAP01", "-o", "b", "--order"], "--order needs a value");
-    misused(&["renumber", "a.wad", "MAP01", "-o", "b", "--order=c", "--order", "d"], "--order is given twice");
+    misused(&["renumber", "a.wad", "MAP01", "-o", "b", "--order=c", "--list", "d"], "--list is given twice");
     misused(&["list", "a.wad", "--name"], "--name needs a value");
     misused(&["list", "a.wad", "--index"], "--index needs a value");
     misused(&["index", "a.wad", "--check"], "--check needs a value");
@@ -116,7 +116,7 @@ fn each_command_has_its_options() {
     misused(&["sidedefs", "5", "--base", "a.wad"], "sidedefs does not take --base");
     misused(&["renumber", "a.wad", "MAP01", "-o", "b", "--map", "MAP01"], "renumber does not take --map");
     misused(&["renumber", "a.wad", "MAP01", "-o", "b", "--base", "a.wad"], "renumber does not take --base");
-    misused(&["order", "a.wad", "MAP01", "0", "0", "--order", "b"], "order does not take --order");
+    misused(&["order", "a.wad", "MAP01", "0", "0", "--list", "b"], "order does not take --list");
     misused(&["judge", "a.wad", "--name", "A"], "judge does not take --name");
     misused(&["judge", "a.wad", "--index", "b"], "judge does not take --index");
     misused(&["list", "a.wad", "--check", "b"], "list does not take --check");
