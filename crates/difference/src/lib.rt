@@ -1,5 +1,5 @@
-// What changed between two maps (W-213): the numbers of the records that the new one has otherwise, lump by lump. The definitions are in
-// specs/.
+// What changed between two maps (W-213): the numbers of the records that the new one has otherwise, lump by lump. The
+// definitions are in specs/.
 mod change;
 mod places;
 mod records;

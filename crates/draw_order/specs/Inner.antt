@@ -11,7 +11,7 @@ use Rattle.draw_order.specs.declared.Order.the-variants.{Listed, Refused
 use Rattle.draw_order.specs.declared.Visit.{Visit}
 use Rattle.draw_order.specs.Lists.{Listing, listed, stopped}
 
--- what a walk is given: whole nodes, no more than a word can name, and one word more
+-- what a walk is given: whole nodes, at most 32,767, and one word more than there are nodes
 pub record Walkable (nodes : List ℕ) (count : ℕ) (words : List ℕ) : Type 0 where
   pub whole : nodeSize * count ≡ length nodes
   pub most : count ≤ 32767
@@ -24,8 +24,8 @@ orderOf (Visit.Outside node) = Refused (DescentChild node)
 orderOf Visit.Deep = Refused OrderDepth
 orderOf Visit.Full = Refused OrderLength
 
--- what a walk that begins at place `at` answers and leaves in the words: the place behind the list, and the list; of the words
--- that a refusal leaves nothing is said
+-- what a walk that begins at place `at` answers and leaves in the words: the place behind the list, and the list; it
+-- promises nothing of the words after a refusal
 abbrev pub Walked : Listing → ℕ → List ℕ → Order → List ℕ → Type 0
 Walked (listed xs) at before answer after =
     (answer ≡ Listed (at + length xs)) × (after ≡ sets before at xs) × (at + length xs ≤ length before)

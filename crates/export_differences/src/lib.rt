@@ -4,8 +4,8 @@ ghost use Rattle.export_differences.specs.Differences.{DifferencesGiven}
 use refusal::Status;
 use refusal::status_of;
 
-// The file is noted with a refusal of a map: 1 the old one, 2 the new one. The counts are those of the eight lumps of records, 0 with a
-// refusal.
+// The file is noted with a refusal of a map: 1 the old one, 2 the new one. The counts are those of the eight lumps of
+// records, 0 with a refusal.
 #[repr(C)]
 pub struct DifferencesAnswer {
     pub status: Status,

@@ -25,7 +25,7 @@ pub struct EntryAnswer {
     pub size: usize,
 }
 
-// The one answer of which a refusal fills a field: how many names were compared, with 11 too.
+// `compared` counts the names that the search compared, with 11 (no such entry) too. Any other refusal leaves it 0.
 #[repr(C)]
 pub struct MarkerAnswer {
     pub status: Status,

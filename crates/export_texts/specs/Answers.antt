@@ -1,5 +1,5 @@
--- Answers on a text map: its summary, the next block, and a block's record by its number or from a place on (W-206). Where one is refused all
--- its other fields are 0. Assumes nothing.
+-- Answers on a text map: its summary, the next block, and a block's record by its number or from a place on (W-206).
+-- Where one is refused all its other fields are 0. Assumes nothing.
 use Prim.Native.Nat.{ℕ}
 use mathlib.Core.List.{List}
 use mathlib.Core.Path.{_≡_}

@@ -1,5 +1,5 @@
--- The bytes of an index beside a file (02, W-210): `WIX`, a version, the count of entries and the file's length, and then ten bytes to each
--- record. Assumes nothing.
+-- The bytes of an index beside a file (02, W-210): `WIX`, a version, the count of entries and the file's length, and
+-- then ten bytes to each record. Assumes nothing.
 use Prim.Native.Nat.{ℕ, _+_, _*_}
 use mathlib.Core.List.{List, [], _∷_, _++_}
 use lib.ListN.{length, getD}

@@ -21,7 +21,7 @@ headOk count len index =
     && eqb (u16At index countPlace) count
     && eqb (u32At index lengthPlace) len
 
--- 82: so it is with the count of entries and the length of the file
+-- 82: the head has the count of entries and the length of the file
 abbrev pub indexHeadOk : List ℕ → List ℕ → Bool
 indexHeadOk wad index = headOk (entryCount (headOf wad)) (length wad) index
 

@@ -18,7 +18,7 @@ use Rattle.map_lumps.specs.Lumps.{mapLump, recordCount, eachPlace}
 abbrev pub wholeOk : Bool → List (List ℕ) → ℕ → Bool
 wholeOk hexen lumps place = eqb (length (mapLump lumps place) % recordSize hexen place) 0
 
--- where NODES has none, SSECTORS has exactly one
+-- at NODES: without nodes there is exactly one subsector; at any other place nothing is asked
 abbrev pub aloneOk : List (List ℕ) → ℕ → Bool
 aloneOk lumps place =
     not (eqb place NODES) || ltb 0 (recordCount lumps NODES nodeSize) || eqb (recordCount lumps SSECTORS subsectorSize) 1

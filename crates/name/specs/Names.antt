@@ -1,5 +1,5 @@
--- Names of eight bytes (01, "File and directory", "One map", and W-204; document 004, "Directory"). Which names are good, and
--- which are the same, is said here alone. Assumes nothing.
+-- Names of eight bytes (01, "File and directory", "One map", and W-204; document 004, "Directory"). Only this file
+-- says which names are good, and which are the same. Assumes nothing.
 use Prim.Native.Nat.{ℕ}
 use mathlib.Core.Bool.{Bool, true, false, not, _&&_, _||_, cond}
 use mathlib.Core.List.{List, [], _∷_}

@@ -15,7 +15,7 @@ use Rattle.node.specs.declared.Choice.the-variants.{Right, Left}
 abbrev pub nodesOf : List ℕ → ℕ
 nodesOf nodes = length nodes / nodeSize
 
--- a word from here on is a subsector, with its number above this one; a word below it is a node's number
+-- a word with this bit names a subsector, whose number is the word less this bit; a word below it is a node's number
 abbrev pub subsectorBit : ℕ
 subsectorBit = 32768
 

@@ -1,4 +1,4 @@
--- What it is that a point's descent is its plain walk, as a statement. The proof is proofs/Descends.antt. Assumes nothing.
+-- A point's descent is its plain walk, as a statement. The proof is proofs/Descends.antt. Assumes nothing.
 use Prim.Native.Nat.{ℕ, _≤_}
 use mathlib.Core.List.{List}
 use mathlib.Core.Path.{_≡_}

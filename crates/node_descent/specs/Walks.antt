@@ -38,7 +38,7 @@ descentFrom nodes subsectors x y (suc more) count w =
     (descentFrom nodes subsectors x y more (count + 1) (chosen nodes x y w)))
     (Found (w - subsectorBit) count)
 
--- whole nodes, and no more of them than a word can name
+-- whole nodes, and at most 32,767 of them
 abbrev pub nodesOk : List ℕ → Bool
 nodesOk nodes = eqb (length nodes % nodeSize) 0 && leb (nodesOf nodes) 32767
 

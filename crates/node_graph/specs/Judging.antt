@@ -9,7 +9,7 @@ use Rattle.record.specs.Nodes.{nodeSize}
 use Rattle.node.specs.Ranges.{NodesInRange}
 use Rattle.node_route.specs.Heights.{graphVerdict}
 
--- whole nodes, no more than a word can name, whose children are in range, and four words for each
+-- whole nodes, at most 32,767, whose children are in range, and four words for each
 pub record Judgeable (nodes : List ℕ) (count : ℕ) (words : List ℕ) : Type 0 where
   pub whole : nodeSize * count ≡ length nodes
   pub most : count ≤ 32767

@@ -1,5 +1,5 @@
--- Not for the reader of promises: what only contracts of inner functions cite, what is noted of a place that many columns come to. Assumes
--- nothing.
+-- Not for the reader of promises: what only contracts of inner functions cite, what is noted of a place that many
+-- columns come to. Assumes nothing.
 use Prim.Native.Nat.{ℕ, _≤_}
 use mathlib.Core.Bool.{true}
 use mathlib.Core.List.{List}
@@ -14,6 +14,6 @@ pub data Ends (lump : List ℕ) (height : ℕ) : ℕ → ℕ → Type 0 where
   post : (at row : ℕ) → (startAt lump at ≡ 255 → ⊥) → postEnd lump at ≤ length lump → rowsOk lump height at row ≡ true
       → Ends lump height (postEnd lump at) (endRow lump at) → Ends lump height at row
 
--- so they are for every column that comes to `at` no lower than its start row
+-- the same for every column that comes to `at` no lower than its start row
 abbrev pub Good : List ℕ → ℕ → ℕ → Type 0
 Good lump height at = Ends lump height at (startAt lump at)

@@ -14,7 +14,7 @@ use Rattle.picture.specs.declared.PictureVerdict.the-variants.{Accepted,
 use Rattle.picture_header.specs.Layout.{widthOf, heightOf, pictureOf, tableEnd, columnOffset, startAt, endAt, endRow, postEnd}
 use Rattle.picture_header.specs.Headers.{pictureHeaderCheck}
 
--- the post at `at` starts at `row` or below, where the post before it ended, and ends at the height or above it
+-- the post at `at` starts at `row`, where the post before it ended, or further down, and does not end past the height
 abbrev pub rowsOk : List ℕ → ℕ → ℕ → ℕ → Bool
 rowsOk lump height at row = leb row (startAt lump at) && leb (endRow lump at) height
 

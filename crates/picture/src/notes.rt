@@ -33,7 +33,7 @@ pub fn note(notes: &mut [u8], at: usize)
     notes[slot] = 1;
 }
 
-// How many posts of length 0 stand between `from` and the next place that has a slot, or the lump's end.
+// How many posts of four bytes fit between `from` and the next place that has a slot, or the lump's end.
 pub fn posts_ahead(from: usize, length: usize) -> usize
     requires { ⌜ from ≤ length ⌝ }
     ensures { λ r. ⌜ from + 4 * r ≤ length ⌝ }
@@ -41,7 +41,7 @@ pub fn posts_ahead(from: usize, length: usize) -> usize
     posts_inside(from, length, (1027 - from % 1024) / 4 % 256)
 }
 
-// At most `most` posts of length 0, and no more than there is room for.
+// How many posts of four bytes fit from `from` on, at most `most`.
 pub fn posts_inside(from: usize, length: usize, most: usize) -> usize
     requires { ⌜ from ≤ length ⌝ }
     ensures { λ r. ⌜ from + 4 * r ≤ length ⌝ }

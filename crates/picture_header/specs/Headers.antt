@@ -1,4 +1,5 @@
--- A picture's size, and what is judged before any column (01, "Pictures" and the numbers 50 to 52 of "Refusal numbers"). Assumes nothing.
+-- A picture's size, and what is judged before any column (01, "Pictures" and the numbers 50 to 52 of "Refusal
+-- numbers"). Assumes nothing.
 use Prim.Native.Nat.{ℕ}
 use mathlib.Core.Bool.{Bool, _&&_}
 use mathlib.Core.List.{List}

@@ -1,4 +1,5 @@
--- What is printed with a verdict, how long it is, and what is answered where the output has no room for it (02, W-211). Assumes nothing.
+-- What is printed with a verdict, how long it is, and what is answered where the output has no room for it (02, W-211).
+-- Assumes nothing.
 use Prim.Native.Nat.{ℕ}
 use mathlib.Core.Bool.{Bool, _&&_, cond}
 use mathlib.Core.List.{List}

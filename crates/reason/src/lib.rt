@@ -1,5 +1,5 @@
-// Why a map is judged as it is (W-211): the map check, and with its verdict the reason, printed into a lent output. The definitions are
-// in specs/.
+// Why a map is judged as it is (W-211): the map check, and with its verdict the reason, printed into a lent output. The
+// definitions are in specs/.
 ghost use mathlib.Core.Path.{_≡_};
 ghost use Prim.Native.Nat.{_*_, _+_, _<_, _≤_};
 ghost use lib.ListN.{length};

@@ -1,5 +1,6 @@
--- What 01 allows in BLOCKMAP, field by field, in the order in which 28 looks at them (02, W-211): the header's size, columns and rows, then a cell's
--- offset and its list. Where the lump's size itself is at fault the field is the size, in bytes, at offset 0. Assumes nothing.
+-- What 01 allows in BLOCKMAP, field by field, in the order in which 28 looks at them (02, W-211): the header's size,
+-- columns and rows, then a cell's offset and its list. Where the lump's size itself is at fault the field is the size,
+-- in bytes, at offset 0. Assumes nothing.
 use Prim.Native.Nat.{ℕ, zero, suc, _+_, _-_, _*_, _%_, _≤_}
 use mathlib.Core.Bool.{cond}
 use mathlib.Core.List.{List, [], _∷_, _++_}
@@ -26,7 +27,8 @@ lengthFields lump = sizeField lump (8 + 2 * cellsOf lump) ∷ sizeField lump (le
 abbrev pub headerFields : List ℕ → List Field
 headerFields lump = sizeField lump 8 ∷ wordField lump 2 1 512 ∷ wordField lump 3 1 512 ∷ lengthFields lump
 
--- the last `left` words of the lump, up to the mark, each the number of one of `linedefs` linedefs; without a mark two more bytes are wanted
+-- the last `left` words of the lump, up to the mark, each the number of one of `linedefs` linedefs; without a mark two
+-- more bytes are wanted
 unfoldable pub numberFields : List ℕ → ℕ → ℕ → List Field
 numberFields lump linedefs zero = sizeField lump (length lump + 2) ∷ []
 numberFields lump linedefs (suc left) =

@@ -1,5 +1,6 @@
--- What holds of BLOCKMAP's fields and of the first that is out of its range (02, W-211: "Prove that each printed reason holds of the map's bytes"). Of the
--- map it is used that a lump is no longer than a file, and that there is a linedef (21). Assumes nothing.
+-- What holds of BLOCKMAP's fields and of the first that is out of its range (02, W-211: "Prove that each printed reason
+-- holds of the map's bytes"). It uses that a lump is no longer than a file, and that the map has a linedef (21). Assumes
+-- nothing.
 use Prim.Native.Nat.{ℕ, _+_, _≤_}
 use mathlib.Core.Bool.{true}
 use mathlib.Core.List.{List}

@@ -1,5 +1,5 @@
--- The record, header or cell that a refusal 23 to 28 names, in a map's lumps: its fields with their ranges in byte order (02, W-211).
--- Assumes nothing.
+-- The fields, with their ranges, of the record, header or cell that a refusal 23 to 28 names (02, W-211). A record's fields are in
+-- byte order, and BLOCKMAP's in the order of its checks. Assumes nothing.
 use Prim.Native.Nat.{ℕ}
 use mathlib.Core.Bool.{Bool, _&&_, cond}
 use mathlib.Core.List.{List}

@@ -1,5 +1,5 @@
--- A field of a record or of a lump, with the range that 01 allows there, and the first of a row of fields that is out of its range (W-211). A range
--- whose least is above its most is empty. Assumes nothing.
+-- A field of a record or of a lump, with the range that 01 allows there, and the first of a row of fields that is out
+-- of its range (W-211). A range whose least is above its most is empty. Assumes nothing.
 use Prim.Native.Nat.{ℕ, _≤_, _<_}
 use mathlib.Core.Bool.{Bool, true, false, _&&_, cond}
 use mathlib.Core.List.{List, [], _∷_, _++_}
@@ -62,6 +62,6 @@ pub record FieldSaid (out : List ℕ) (f : Field) (left : List ℕ) : Type 0 whe
   pub rest : drop 16 left ≡ drop 16 out
   pub long : length left ≡ length out
 
--- so it is where there is room
+-- this holds if there is room
 abbrev pub FieldsSaid : Type 0
 FieldsSaid = (out : List ℕ) (f : Field) → 16 ≤ length out → FieldSaid out f (putField out f)

@@ -1,5 +1,5 @@
-// A field with the range that is allowed there: whether it is in it, which of two is named, and how it is written. The definitions are in
-// specs/.
+// A field with the range that is allowed there: whether it is in it, which of two is named, and how it is written. The
+// definitions are in specs/.
 ghost use mathlib.Core.Path.{_≡_};
 ghost use Prim.Native.Nat.{_≤_};
 ghost use lib.ListN.{length};

@@ -1,5 +1,5 @@
--- What holds of a record's fields and of the first that is out of its range (W-211), for each kind of record. Of the counts it is used that they
--- are above 0, and that there are at most 65,535 sidedefs: both by 21. Assumes nothing.
+-- What holds of a record's fields and of the first that is out of its range (W-211), for each kind of record. Of the
+-- counts it is used that they are above 0, and that there are at most 65,535 sidedefs: both by 21. Assumes nothing.
 use Prim.Native.Nat.{ℕ, _+_, _/_, _<_, _≤_}
 use mathlib.Core.Bool.{Bool, false}
 use mathlib.Core.List.{List, [], _∷_}

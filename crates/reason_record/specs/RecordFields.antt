@@ -1,5 +1,6 @@
--- The fields of a record that refer to other records, in byte order, each with the range that 01 allows there (W-211). Places and numbers are as
--- stored. 0 to `count - 1` is what is below `count` where that is above 0, as 21 has it of every count here. Assumes nothing.
+-- The fields of a record that refer to other records, in byte order, each with the range that 01 allows there (W-211).
+-- Places and numbers are as stored. 0 to `count - 1` is what is below `count` where that is above 0, as 21 has it of
+-- every count here. Assumes nothing.
 use Prim.Native.Nat.{ℕ, _+_, _-_, _/_, _<_, _≤_}
 use mathlib.Core.Bool.{Bool, not, _&&_, cond}
 use mathlib.Core.List.{List, [], _∷_}
@@ -20,7 +21,7 @@ Counted count = (0 < count) × (count ≤ 65535)
 abbrev pub numberAt : List ℕ → ℕ → ℕ → Field
 numberAt bytes at count = fieldAt bytes at 0 (count - 1)
 
--- the left sidedef, but where there is none and need not be
+-- the left sidedef, unless it is absent and optional
 abbrev pub leftFields : Bool → List ℕ → ℕ → List Field
 leftFields hexen bytes sidedefs =
     cond (eqb (u16At bytes (leftOffset hexen)) noSidedef && not (twoSided (u16At bytes 4))) [] (numberAt bytes (leftOffset hexen) sidedefs ∷ [])

@@ -1,5 +1,5 @@
-// Why a record is refused (23 to 27): the first of its fields that is out of its range, each over one lump, read in place. The definitions are in
-// specs/. Callers show that the counts are those that 21 lets pass.
+// Why a record is refused (23 to 27): the first of its fields that is out of its range, each over one lump, read in
+// place. The definitions are in specs/. Callers show that the counts are those that 21 lets pass.
 ghost use mathlib.Core.Path.{_≡_};
 ghost use Prim.Native.Nat.{_+_, _-_, _/_, _<_, _≤_};
 ghost use mathlib.Core.Bool.{cond};
@@ -45,7 +45,7 @@ pub fn linedef_field(
     first_of(start, first_of(end, first_of(right, left)))
 }
 
-// The left sidedef, but where there is none and need not be.
+// The left sidedef, unless it is absent and optional.
 fn left_field(hexen: bool, linedefs: &[u8], sidedefs: usize, i: usize) -> Field
     requires { ⌜ (i < length (now linedefs) / linedefSize hexen) × Counted sidedefs ⌝ }
     ensures { λ r. ⌜ (r ≡ firstOut (leftFields hexen (recordBytes (now (linedefs .entry)) (linedefSize hexen) i) sidedefs)) × FieldFits r ⌝ }

@@ -63,7 +63,7 @@ linedefBytes hexen l =
     ++ u16Bytes (l .right)
     ++ u16Bytes (l .left)
 
--- a record of the game that a write accepts, with five arguments: such a one is read back as it was written
+-- a record of the game that a write accepts, with five arguments; it is read back as it was written
 pub record LinedefFits (hexen : Bool) (l : Linedef) : Type 0 where
   pub game : l .hexen ≡ hexen
   pub fields : linedefFieldsOk l ≡ true

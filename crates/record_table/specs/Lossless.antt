@@ -1,5 +1,5 @@
--- That records are read and written without loss (01, "A write changes its record's bytes only, ..", and demand 2), in both
--- games (W-205). What it means for a kind is said in `record_field`. Assumes nothing.
+-- Records are read and written without loss (01, "A write changes its record's bytes only, ..", and demand 2), in
+-- both games (W-205). `record_field` says what that means for a kind. Assumes nothing.
 use Prim.Native.Nat.{ℕ}
 use mathlib.Core.Bool.{Bool, true}
 use mathlib.Core.List.{List}

@@ -84,7 +84,7 @@ hexenThingBytes t =
 abbrev pub thingBytes : Bool → Thing → List ℕ
 thingBytes hexen t = cond hexen (hexenThingBytes t) (doomThingBytes t)
 
--- a record of the game that a write accepts, its fields as wide as they may be: such a one is read back as it was written
+-- a record of the game that a write accepts, its fields as wide as they may be; it is read back as it was written
 pub record ThingFits (hexen : Bool) (t : Thing) : Type 0 where
   pub game : t .hexen ≡ hexen
   pub fields : thingFieldsOk t ≡ true

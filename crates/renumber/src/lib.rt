@@ -1,4 +1,5 @@
-// NODES renumbered so that children come before their parents (W-212), by a list that nothing is known of. The definitions are in specs/.
+// NODES renumbered so that children come before their parents (W-212), by an untrusted list. The definitions are in
+// specs/.
 mod writing;
 
 ghost use mathlib.Core.Path.{_≡_};
@@ -25,8 +26,8 @@ pub enum Renumbering {
     Refused(Refusal),
 }
 
-// The map of the asked name, judged as map_check::judge_map does, over the same words; then the list, and where it is good the renumbered
-// NODES in the front of the output. A refusal writes nothing.
+// The map of the asked name, judged as map_check::judge_map does, over the same words; then the list, and where it is
+// good the renumbered NODES in the front of the output. A refusal writes nothing.
 pub fn renumber(
     wad: &[u8],
     name: &[u8],

@@ -32,7 +32,7 @@ graphCheck (HasDepth depth) nodes order room = renumberCheck nodes order room
 abbrev pub renumberGraphCheck : List ℕ → List ℕ → ℕ → Check
 renumberGraphCheck nodes order room = graphCheck (graphVerdict nodes) nodes order room
 
--- the marked nodes are the reached ones, of which there is none twice
+-- the marked nodes are the reached ones, and none of these is reached twice
 pub record Marks (nodes : List ℕ) (count : ℕ) (words : List ℕ) : Type 0 where
   pub says : (v : ℕ) → member v (reachedNodes nodes) ≡ markedOk words count v
   pub once : repeats (reachedNodes nodes) ≡ false

@@ -1,5 +1,6 @@
--- Not for the reader of promises: what the contracts of the functions cite. After the search of `node_graph` the first `count` work words
--- mark the nodes that are reached; the next `count` words then hold the place of each node in the list. Assumes nothing.
+-- Not for the reader of promises: what the contracts of the functions cite. After the search of `node_graph` the first
+-- `count` work words mark the nodes that are reached; the next `count` words then hold the place of each node in the
+-- list. Assumes nothing.
 use Prim.Native.Nat.{ℕ, zero, suc, _+_, _<_}
 use mathlib.Core.Bool.{Bool, true, _&&_, not, cond}
 use mathlib.Core.List.{List, [], _∷_}

@@ -1,5 +1,5 @@
-// The blocks of a text map (W-206): how many there are, which one is asked for, and the places of their fields' values. The definitions are
-// in specs/.
+// The blocks of a text map (W-206): how many there are, which one is asked for, and the places of their fields' values.
+// The definitions are in specs/.
 ghost use mathlib.Core.Bool.{false, not, cond};
 ghost use mathlib.Core.Path.{_≡_};
 ghost use Prim.Native.Nat.{_≤_, _<_};
@@ -12,8 +12,9 @@ ghost use Rattle.text_block.specs.declared.Asked.the-variants.{Numbered}
 ghost use Rattle.text_block.specs.Blocks.{countOf, counted, isFull, isAsked, stopsThere, stopsInside, noPlaces, stored, isGiven, allGiven};
 use text_table::Scope;
 
-// What is wanted next: a statement; `=` behind an identifier, from its first byte to the byte behind it; a value for a name of the scope,
-// counted from 1, 0 for an unknown one; `;` behind the value at a place for such a name; or nothing more.
+// What is wanted next: a statement; `=` behind an identifier, from its first byte to the byte behind it; a value for a
+// name of the scope, counted from 1, 0 for an unknown one; `;` behind the value at a place for such a name; or nothing
+// more.
 pub enum Wanted {
     Statement,
     Equals(usize, usize),
@@ -22,8 +23,8 @@ pub enum Wanted {
     NoMore,
 }
 
-// Which block is asked for: none; a kind's block of a number; the first of a kind, and nothing behind it; or the first of any known kind,
-// and nothing behind its opening brace.
+// Which block is asked for: none; a kind's block of a number; the first of a kind, and nothing behind it; or the first
+// of any known kind, and nothing behind its opening brace.
 pub enum Asked {
     Nothing,
     Numbered(Scope, usize),

@@ -9,8 +9,8 @@ ghost use Rattle.text_byte.specs.WordBytes.{Unseen};
 ghost use Rattle.text_gap.specs.Passing.{blankAt, byteIs, otherEnd, startsToken, isBetween, Ends};
 use text_byte as bytes;
 
-// How the reading of a gap goes on: between tokens, in a comment up to the line's end, at the star that opens a comment, in that comment,
-// behind a star in it, and at a token's first byte.
+// How the reading of a gap goes on: between tokens, in a comment up to the line's end, at the star that opens a
+// comment, in that comment, behind a star in it, and at a token's first byte.
 pub enum Mode {
     Between,
     Line,

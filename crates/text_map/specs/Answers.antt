@@ -63,8 +63,8 @@ fieldsBy text s (Refused r) = record { check = Refused r; next = 0; namespace = 
 abbrev pub blockFields : List ℕ → Stand → BlockFields
 blockFields text s = fieldsBy text (s .parse) (blockCheck (s .parse))
 
--- of each of its fields the place of its last value, and the rows of its kind. Where it is refused there are none, so that the record that is
--- read from them is all 0
+-- of each of its fields the place of its last value, and the rows of its kind. Where it is refused there are none, so
+-- that the record that is read from them is all 0
 abbrev pub placesBy : List ℕ → Check → List ℕ
 placesBy kept Pass = kept
 placesBy kept (Refused r) = noPlaces

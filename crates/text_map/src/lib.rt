@@ -1,5 +1,5 @@
-// What a text map answers (W-206): its namespace and counts; and a block, by its kind and number or from a place on. The definitions are in
-// specs/.
+// What a text map answers (W-206): its namespace and counts; and a block, by its kind and number or from a place on.
+// The definitions are in specs/.
 ghost use mathlib.Core.Path.{_≡_};
 ghost use Rattle.text_table.specs.Scopes.{scopeNumber};
 ghost use Rattle.text_table.specs.Rows.{namespaceRows};
@@ -36,8 +36,8 @@ pub enum BlockAnswer {
     Refused(Refusal),
 }
 
-// What a block's record is read from, beside the places of its values: the check, the place behind the block, and the namespace of what was
-// read.
+// What a block's record is read from, beside the places of its values: the check, the place behind the block, and the
+// namespace of what was read.
 pub struct BlockFields {
     pub check: Check,
     pub next: usize,
@@ -122,7 +122,8 @@ fn kind_of(kind: Scope) -> u32
     text_table::scope_number(kind) as u32
 }
 
-// What the record of block `number` of a kind is read from, after the whole text was judged, and of each field the place of its last value.
+// What the record of block `number` of a kind is read from, after the whole text was judged, and of each field the
+// place of its last value.
 pub fn fields_numbered(
     text: &[u8],
     kind: Scope,

@@ -1,5 +1,5 @@
-// A text map read statement by statement (W-206): one loop over the whole text, up to its end, its first fault, or what is asked for. The
-// definitions are in specs/: there a text is read token by token.
+// A text map read statement by statement (W-206): one loop over the whole text, up to its end, its first fault, or what
+// is asked for. The definitions are in specs/: there a text is read token by token.
 ghost use mathlib.Core.Bool.{false};
 ghost use mathlib.Core.Path.{_≡_};
 ghost use lib.ListN.{length};
@@ -18,8 +18,8 @@ use text_step::Notes;
 use text_step::Parse;
 use text_table::Scope;
 
-// The text from a place on: where its reading ended, and of each field of the block that was asked for the place of its last value, 0 for
-// none.
+// The text from a place on: where its reading ended, and of each field of the block that was asked for the place of its
+// last value, 0 for none.
 pub fn read(text: &[u8], asked: Asked, from: usize, kept: &mut [usize; 34]) -> Parse
     requires { ⌜ now kept ≡ noPlaces ⌝ }
     ensures { λ r. ⌜ r ≡ textFrom (now (text .entry)) asked from .parse ⌝ }

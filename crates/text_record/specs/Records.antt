@@ -1,5 +1,6 @@
--- The five records of a text map (02, W-206; document 002, "Standardized Fields"), fields in the document's order: of a block whose values
--- stand at `places`, each field by its name. `defaults` has the default of each row of the kind. Assumes nothing.
+-- The five records of a text map (02, W-206; document 002, "Standardized Fields"), fields in the document's order: of a
+-- block whose values stand at `places`, each field by its name. `defaults` has the default of each row of the kind.
+-- Assumes nothing.
 use Prim.Native.Nat.{ℕ, _-_}
 use Prim.Native.String.{String}
 use mathlib.Core.Bool.{Bool, cond}

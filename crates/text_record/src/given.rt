@@ -1,5 +1,5 @@
-// The value of one field of a text map (W-206), by what it holds: that at the place of its last assignment, or the default of its row. The
-// definitions are in specs/.
+// The value of one field of a text map (W-206), by what it holds: that at the place of its last assignment, or the
+// default of its row. The definitions are in specs/.
 ghost use mathlib.Core.Path.{_≡_};
 ghost use Prim.Native.Nat.{_<_};
 ghost use Rattle.text_table.specs.Rows.{defaultAt};

@@ -122,8 +122,9 @@ pub fn vertex_of(text: &[u8], places: &[usize; 34]) -> TextVertex
     }
 }
 
-// The rest of the five take the rows of the kind too, for the defaults: past their end every default is 0. Of a linedef `id` is the default
-// of its id where the namespace decides. The whole numbers come first, since they are those that ask for the rows.
+// The rest of the five take the rows of the kind too, for the defaults: past their end every default is 0. Of a linedef
+// `id` is the default of its id where the namespace decides. The whole numbers come first, since they are those that
+// ask for the rows.
 pub fn linedef_of(text: &[u8], rows: &[u8], places: &[usize; 34], id: i32) -> TextLinedef
     ensures { λ r. ⌜ r ≡ textLinedefOf (now (text .entry)) (now (places .entry)) (defaultAt (now (rows .entry))) id ⌝ }
 {

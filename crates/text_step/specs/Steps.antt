@@ -1,5 +1,6 @@
--- One token of a text map (02, W-206; document 002, "Grammar / Syntax"): what it does where a statement, `=`, a value or `;` is wanted. Each
--- token that does not fit is 90 at its first byte, so that the first place wins by itself. Assumes nothing.
+-- One token of a text map (02, W-206; document 002, "Grammar / Syntax"): what it does where a statement, `=`, a value
+-- or `;` is wanted. Each token that does not fit is 90 at its first byte, so that the first place wins by itself.
+-- Assumes nothing.
 use Prim.Native.Nat.{ℕ, _-_}
 use mathlib.Core.Bool.{Bool, true, not, _&&_, _||_, cond}
 use mathlib.Core.List.{List}
@@ -37,8 +38,8 @@ abbrev pub notes : ℕ → Counts → Bool → Scope → ℕ → ℕ → Notes
 notes namespace counts found kind block next =
     record { namespace = namespace; counts = counts; found = found; kind = kind; block = block; next = next }
 
--- how far a text was read: what is wanted next; in which scope, and where the open block's name stands; the place to go on; the refusal, if
--- any; and what was noted
+-- how far a text was read: what is wanted next; in which scope, and where the open block's name stands; the place to go
+-- on; the refusal, if any; and what was noted
 abbrev pub parse : Wanted → Scope → ℕ → ℕ → Check → Notes → Parse
 parse wanted scope block at check notes =
     record { wanted = wanted; scope = scope; block = block; at = at; check = check; notes = notes }

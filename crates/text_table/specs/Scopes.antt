@@ -1,4 +1,5 @@
--- Where a name stands in a text map (02, W-206): outside of blocks, or in a block of a kind; and how many names it has there. Assumes nothing.
+-- Where a name stands in a text map (02, W-206): outside of blocks, or in a block of a kind; and how many names it has
+-- there. Assumes nothing.
 use Prim.Native.Nat.{ℕ}
 use mathlib.Core.Bool.{cond}
 use lib.Dec.{eqb}

@@ -1,5 +1,6 @@
--- The names of a text map (02, W-206; document 002, "Standardized Fields" and its last note): the kinds of block, the global name, and the
--- fields of each kind in the document's order, each with what it holds and what it is where no value is given. Assumes nothing.
+-- The names of a text map (02, W-206; document 002, "Standardized Fields" and its last note): the kinds of block, the
+-- global name, and the fields of each kind in the document's order, each with what it holds and what it is where no
+-- value is given. Assumes nothing.
 use Prim.Native.Nat.{ℕ}
 use Prim.Native.Char.{code}
 use Prim.Native.String.{String, [] as []ˢ, _∷_ as _∷ˢ_}
@@ -15,8 +16,8 @@ abbrev pub bytes : String → List ℕ
 bytes []ˢ = []
 bytes (c ∷ˢ s) = code c ∷ bytes s
 
--- what a field holds; the last two are rows that are no fields: the name of a kind of block, and a name that is compared byte for byte.
--- (The code's rows have the letters w, d, s, f, b and e.)
+-- what a field holds; the last two are rows that are no fields: the name of a kind of block, and a name that is
+-- compared byte for byte. (The code's rows have the letters w, d, s, f, b and e.)
 abbrev pub whole : ℕ
 whole = 119
 
@@ -35,8 +36,8 @@ blockName = 98
 abbrev pub exactName : ℕ
 exactName = 101
 
--- what a field is where no value is given: nothing, so that one must be given; 0, false or no string; -1; 160; 0 or -1 by the namespace.
--- The last is that of a row that is no field. (The letters are !, 0, m, l, n and a space.)
+-- what a field is where no value is given: nothing, so that one must be given; 0, false or no string; -1; 160; 0 or -1
+-- by the namespace. The last is that of a row that is no field. (The letters are !, 0, m, l, n and a space.)
 abbrev pub required : ℕ
 required = 33
 

@@ -1,4 +1,5 @@
-// The values of a text map (W-206): a token as a whole number, a decimal, the places of a string or a flag. The definitions are in specs/.
+// The values of a text map (W-206): a token as a whole number, a decimal, the places of a string or a flag. The
+// definitions are in specs/.
 mod number;
 
 ghost use mathlib.Core.Path.{_≡_};

@@ -53,7 +53,7 @@ pub record Copies (size : ℕ) (old new list : List ℕ) : Type 0 where
 
 -- ---- two maps
 
--- where the numbers of the lump at a place, 1 to 8, begin in the list: behind those of the lumps before it
+-- the start of a lump's numbers in the list, for place 1 to 8: they follow those of the lumps before it
 abbrev pub listStart : List ℕ → ℕ → ℕ
 listStart counts place = sumOf (λ i. getD counts i 0) (place - 1)
 
@@ -61,8 +61,8 @@ listStart counts place = sumOf (λ i. getD counts i 0) (place - 1)
 abbrev pub listedAt : List ℕ → List ℕ → ℕ → List ℕ
 listedAt counts list place = take (getD counts (place - 1) 0) (drop (listStart counts place) list)
 
--- the maps are accepted, one after the other over the same words, and of one game; each lump's words of the list are
--- its numbers
+-- the maps are accepted, one after the other over the same words, and are of one game; each lump's words of the list
+-- are its numbers
 pub record Handed (oldWad oldName newWad newName words counts list : List ℕ) : Type 0 where
   pub oldDepth : ℕ
   pub old : ℕ
@@ -75,7 +75,7 @@ pub record Handed (oldWad oldName newWad newName words counts list : List ℕ) :
       → Copies (recordSize (gameIn oldWad old) place) (mapLump (lumpsIn oldWad old) place) (mapLump (lumpsIn newWad new) place)
       (listedAt counts list place)
 
--- so it is of the answer of `meshpigeon_differences` and of the lent list afterwards, whenever the status is 0
+-- this holds for the answer of `meshpigeon_differences` and the lent list afterwards, whenever the status is 0
 abbrev pub DifferencesHold : Type 0
 DifferencesHold =
     (oldWad oldName newWad newName words list : List ℕ) (answer : DifferencesAnswer) (wordsThen listThen : List ℕ)

@@ -1,4 +1,5 @@
--- The examples of 01, "Examples", (a) to (l), of W-205 and of W-214, of the definitions. The proof is proofs/Examples.antt. Assumes nothing.
+-- The examples of 01, "Examples", (a) to (l), of W-205 and of W-214, of the definitions. The proof is
+-- proofs/Examples.antt. Assumes nothing.
 use Prim.Native.Nat.{ℕ, zero, suc, _+_, _-_, _*_, _/_, _≤_}
 use mathlib.Core.Bool.{Bool, true, false}
 use mathlib.Core.List.{List, [], _∷_, _++_}

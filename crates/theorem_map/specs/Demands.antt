@@ -74,8 +74,8 @@ pub record HandedOver (wad : List ℕ) (marker : ℕ) : Type 0 where
   pub subsectors : ssectorsSize / subsectorSize ≡ subsectorsAt wad marker
 
 pub record Demand3 (wad name words : List ℕ) : Type 0 where
-  -- where every check below 31 passes, the map is refused for a loop exactly if some list of as many choices as there are
-  -- nodes is still on a node
+  -- if every check below 31 passes, the map is refused for a loop exactly if some list of as many choices as there
+  -- are nodes is still on a node
   pub loop : (marker : ℕ) → Below31 wad name words marker
       → verdict wad name words ≡ Refused NodeLoop ↔ Loop (nodesAt wad marker)
   -- and no other map is refused for a loop
@@ -93,15 +93,16 @@ pub record Demand3 (wad name words : List ℕ) : Type 0 where
   pub exact : (depth marker : ℕ) → verdict wad name words ≡ Accepted depth marker → Depth (nodesAt wad marker) depth
   -- an accepted map reaches one subsector more than nodes, each by one list of choices
   pub oneMore : (depth marker : ℕ) → verdict wad name words ≡ Accepted depth marker → OneMore (nodesAt wad marker)
-  -- the nodes and the subsectors of an accepted map are what its entries hand over
+  -- the nodes and the count of subsectors of an accepted map are what its entries hand over
   pub handed : (depth marker : ℕ) → verdict wad name words ≡ Accepted depth marker → HandedOver wad marker
-  -- on every accepted map every point's descent is not refused, and is its plain walk, with a count of at most the depth
+  -- on every accepted map the descent of every point is not refused, and is its plain walk, with a count of at most
+  -- the depth
   pub descends : (depth marker : ℕ) → verdict wad name words ≡ Accepted depth marker
       → (x y : ℤ) → Descends (nodesAt wad marker) (subsectorsAt wad marker) x y depth
 
 -- ---- W-205: the game
 
--- the game that is told of an accepted map, by its marker, is the one that it was judged by
+-- the game that a caller is told of an accepted map, by its marker, is the one that it was judged by
 abbrev pub GameTold : Type 0
 GameTold =
     (wad name words : List ℕ) (depth marker : ℕ) → verdict wad name words ≡ Accepted depth marker

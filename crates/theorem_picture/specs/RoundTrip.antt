@@ -36,21 +36,22 @@ pub record ReadBack (picture : Picture) (colour cover lump : List ℕ) : Type 0 
   -- it is as long as the layout's sum
   pub long : length lump ≡ writtenLength picture cover
 
--- whatever is given and can be written reads back, with offsets of 16 bits as a header holds them
+-- everything that can be written reads back, with offsets of 16 bits as a header holds them
 abbrev pub RoundTrip : Type 0
 RoundTrip =
     (picture : Picture) (colour cover : List ℕ)
     → SFits w16 (picture .left) → SFits w16 (picture .top) → givenCheck picture colour cover ≡ Pass
     → ReadBack picture colour cover (writtenOf picture colour cover)
 
--- and so does what a lent output holds once it was written to: its first `count` bytes, where `count` is the answer
+-- so does the output that was written to: its first `count` bytes, where `count` is the answer
 abbrev pub OutputRoundTrip : Type 0
 OutputRoundTrip =
     (picture : Picture) (colour cover out : List ℕ) (count : ℕ) (out' : List ℕ)
     → SFits w16 (picture .left) → SFits w16 (picture .top) → Encoded picture colour cover out (Written count) out'
     → ReadBack picture colour cover (take count out')
 
--- what painting such a lump into two buffers answers, and what both hold afterwards: the given pixels, then as they were
+-- the answer of painting such a lump into two buffers, and what both hold afterwards: the given pixels, then as they
+-- were
 pub record PaintedBack (picture : Picture) (colour cover colour₁ cover₁ : List ℕ) (answer : PictureVerdict) (colour₂ cover₂ : List ℕ)
     : Type 0 where
   pub answered : answer ≡ Accepted picture

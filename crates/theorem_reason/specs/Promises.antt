@@ -1,5 +1,6 @@
--- What holds of a reason as a caller is handed it: the answer of `reason::judge_map` and the lent output afterwards, for any file, name, work
--- words and output (02, W-211: "Prove that each printed reason holds of the map's bytes"). Assumes nothing.
+-- What holds of a reason as a caller is handed it: the answer of `reason::judge_map` and the lent output afterwards,
+-- for any file, name, work words and output (02, W-211: "Prove that each printed reason holds of the map's bytes").
+-- Assumes nothing.
 use Prim.Native.Nat.{ℕ}
 use mathlib.Core.Bool.{Bool, true, false}
 use mathlib.Core.List.{List}

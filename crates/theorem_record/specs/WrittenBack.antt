@@ -22,17 +22,18 @@ pub record Unchanged (lump : List ℕ) (read written : Status) (left : List ℕ)
   pub status : written ≡ read
   pub bytes : left ≡ lump
 
--- of a kind whose read answers the status `read` and the record `item`, and whose write promises `Write`: whether the read was refused or not
+-- for a kind whose read answers the status `read` and the record `item`, and whose write promises `Write`, whether
+-- the read was refused or not
 abbrev pub WritesBack : {R : Type 0} → (List ℕ → ℕ → Status) → (List ℕ → ℕ → R) → (List ℕ → ℕ → R → Status → List ℕ → Type 0) → Type 0
 WritesBack read item Write = (lump : List ℕ) (index : ℕ) (answer : Status) (left : List ℕ) → Bytes lump
     → Write lump index (item lump index) answer left → Unchanged lump (read lump index) answer left
 
--- the same where the read was accepted: a refused read of either game answers zeros of Doom, whose records are shorter
+-- the same if the read was accepted: a refused read of either game answers zeros of Doom, whose records are shorter
 abbrev pub WritesBackIfRead : {R : Type 0} → (List ℕ → ℕ → Status) → (List ℕ → ℕ → R) → (List ℕ → ℕ → R → Status → List ℕ → Type 0) → Type 0
 WritesBackIfRead read item Write = (lump : List ℕ) (index : ℕ) (answer : Status) (left : List ℕ) → Bytes lump
     → read lump index ≡ accepted → Write lump index (item lump index) answer left → Unchanged lump (read lump index) answer left
 
--- so it is of each kind; of things and linedefs in both games
+-- this holds for each kind, and for things and linedefs in both games
 pub record RecordsWrittenBack : Type 0 where
   pub thing : (hexen : Bool)
       → WritesBackIfRead (λ l i. thingOut (thingAt hexen l i) .status) (λ l i. thingOut (thingAt hexen l i) .thing) ThingWritten

@@ -25,8 +25,8 @@ use Rattle.renumber.specs.Renumbering.{renumbered}
 abbrev pub ReachedNode : List ℕ → ℕ → Type 0
 ReachedNode nodes v = Reached nodes v × (v < subsectorBit)
 
--- the request's words: the list holds each reached node once and nothing else (so that it has their length), ends with the root if it
--- is not empty, and has every child node before its parent
+-- the request's words: the list holds each reached node once and nothing else (so it has their length), ends with the
+-- root unless it is empty, and has every child node before its parent
 pub record GoodOrder (nodes order : List ℕ) : Type 0 where
   pub holds : HoldsOnce (ReachedNode nodes) order
   pub ends : (order ≡ []) ⊎ ((before : List ℕ) × (order ≡ before ++ (root (nodesOf nodes) ∷ [])))
@@ -51,9 +51,9 @@ pub record SameNodes (nodes order : List ℕ) (subsectors depth : ℕ) : Type 0 
 
 -- of every accepted map
 pub record RenumberHolds (wad name words order : List ℕ) : Type 0 where
-  -- a list is accepted exactly if it is as asked and there is room
+  -- a list is accepted exactly if it is good and there is room
   pub exactly : (depth marker room : ℕ) → verdict wad name words ≡ Accepted depth marker
       → renumberCheck (nodesAt wad marker) order room ≡ Pass ↔ (GoodOrder (nodesAt wad marker) order × (nodeSize * length order ≤ room))
-  -- and what is then written is the same tree
+  -- what is then written is the same tree
   pub same : (depth marker : ℕ) → verdict wad name words ≡ Accepted depth marker → GoodOrder (nodesAt wad marker) order
       → SameNodes (nodesAt wad marker) order (subsectorsAt wad marker) depth

@@ -1,5 +1,5 @@
--- The same answers in two texts, but for places (02, W-206): strings are the same by their bytes, and absent in both or in neither; faults by
--- their numbers. Assumes nothing.
+-- Two texts have the same answers but for places (02, W-206): strings have the same bytes and are absent in both or
+-- in neither, and faults have the same number. Assumes nothing.
 use Prim.Native.Nat.{ℕ}
 use mathlib.Core.Bool.{Bool, _&&_}
 use mathlib.Core.List.{List}
@@ -26,7 +26,7 @@ pub data SameCheck : Check → Check → Type 0 where
 abbrev pub stringBytes : List ℕ → Places → List ℕ
 stringBytes text at = bytesOf text (at .start) (at .end)
 
--- a string is absent where both of its places are 0; an empty one that is given stands behind its opening quote
+-- a string is absent if both of its places are 0; an empty string that is given stands behind its opening quote
 abbrev pub isAbsent : Places → Bool
 isAbsent at = eqb (at .start) 0 && eqb (at .end) 0
 
@@ -38,8 +38,8 @@ pub record SameValue (a : List ℕ) (at : ℕ) (b : List ℕ) (from : ℕ) : Typ
   pub string : stringBytes a (stringOr (valueAt a at)) ≡ stringBytes b (stringOr (valueAt b from))
   pub absent : isAbsent (stringOr (valueAt a at)) ≡ isAbsent (stringOr (valueAt b from))
 
--- two texts read to their ends: the fault; the block that opened, by its kind; the namespace, by its bytes and whether there is one; the
--- counts; and the block that was asked for with all of its values
+-- two texts that are read to their ends have the same fault, open block by its kind, namespace by its bytes and
+-- presence, counts, and asked block with all of its values
 pub record SameStand (a b : List ℕ) (s t : Stand) : Type 0 where
   pub check : SameCheck (s .parse .check) (t .parse .check)
   pub opened : SameCheck (openedCheck (s .parse)) (openedCheck (t .parse))

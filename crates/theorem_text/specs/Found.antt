@@ -24,8 +24,8 @@ abbrev pub checkBelow : Scope → ℕ → TextAnswer → Check
 checkBelow kind number (Summary s) = unless (ltb number (countOf (s .counts) kind)) TextMissing
 checkBelow kind number (NoSummary r) = Refused r
 
--- a block is found exactly if its number is below the kind's count in the summary; where the summary is refused so is every block, with
--- the same number and place
+-- a block is found exactly if its number is below the kind's count in the summary; if the summary is refused, every
+-- block is refused with the same number and place
 abbrev pub FoundBelowTheCount : Type 0
 FoundBelowTheCount = (text : List ℕ) (kind : Scope) (number : ℕ) → isKind kind ≡ true
     → blockFields text (numbered text kind number) .check ≡ checkBelow kind number (textAnswer text)

@@ -10,12 +10,12 @@ use Rattle.text_byte.specs.Bytes.{newline, star, slash, isBlank}
 use Rattle.text_gap.specs.Gaps.{gap, gapFrom}
 use Rattle.text_table.specs.Table.{bytes}
 
--- white space and closed comments, and nothing else: between tokens all of it is passed over, and what follows stands between tokens
+-- white space and closed comments, and nothing else: between tokens the reader passes over all of it
 abbrev pub IsGap : List ℕ → Type 0
 IsGap w = gapFrom w Between 0 (length w) ≡ gap Between (length w)
 
--- which bytes are: each white space; a comment up to the first star with a slash behind it; one up to its line's end; and one gap behind
--- another, for example
+-- these bytes are gaps: each white space; a comment up to the first star with a slash behind it; one up to its line's
+-- end; one gap behind another; and an example
 pub record GapsAre : Type 0 where
   pub none : IsGap []
   pub blank : (b : ℕ) → isBlank b ≡ true → IsGap (b ∷ [])
@@ -25,7 +25,7 @@ pub record GapsAre : Type 0 where
   pub joined : (v w : List ℕ) → IsGap v → IsGap w → IsGap (v ++ w)
   pub mixed : IsGap (bytes " /* a */\t// b\r\n/**/")
 
--- and which are not: a token's byte, a slash alone, a comment without its end; and comments do not nest
+-- these are not: a token's byte, a slash alone, a comment without its end; and comments do not nest
 pub record GapsAreNot : Type 0 where
   pub word : IsGap (bytes "x") → ⊥
   pub slashAlone : IsGap (bytes "/") → ⊥

@@ -25,8 +25,8 @@ use Rattle.theorem_text.specs.Tokens.{tokenPlace, SameFirst, SameTokens}
 use Rattle.theorem_text.specs.Answers.{SameStand}
 use Rattle.theorem_text.specs.Gaps.{IsGap}
 
--- two texts with the same tokens have the same answers but for places, whatever is asked for and from whatever places on: what stands between
--- tokens, and the case of letters in identifiers and keywords, changes nothing else
+-- two texts with the same tokens have the same answers but for places, whatever is asked for and from whatever places
+-- on: neither gaps between tokens nor the case of letters in identifiers and keywords change anything else
 abbrev pub TokensDecide : Type 0
 TokensDecide = (a b : List ℕ) (asked : Asked) (at from : ℕ) → SameTokens a at b from → SameStand a b (textFrom a asked at) (textFrom b asked from)
 
@@ -38,8 +38,8 @@ joinsClean front gap = not (eqb (getD front (length front - 1) 0) slash && eqb (
 abbrev pub gapped : List ℕ → List ℕ → List ℕ → List ℕ
 gapped front gap rest = front ++ (gap ++ rest)
 
--- behind `front`, where the first `n` tokens from `at` on end, `old` may give place to `new`; not to nothing, since the tokens at its sides
--- could become one
+-- `front` ends with the first `n` tokens from `at` on; behind it `new` may replace `old`. After a token `new` may not
+-- be empty if `old` is not, because the tokens at its sides could become one
 pub record GapChanged (front old new rest : List ℕ) (at n : ℕ) : Type 0 where
   pub oldGap : IsGap old
   pub newGap : IsGap new
@@ -48,8 +48,8 @@ pub record GapChanged (front old new rest : List ℕ) (at n : ℕ) : Type 0 wher
   pub tokens : (k : ℕ) → k < n → wordForm ≤ tokenAt (gapped front old rest) (tokenPlace (gapped front old rest) at k) .form
   pub boundary : tokenPlace (gapped front old rest) at n ≡ length front
 
--- white space and comments put between two tokens (`old` is empty, or a part of `new`), or others in their place, change no answer but places,
--- whatever is asked for and from whatever place on
+-- one gap in place of another changes no answer but places, whatever is asked for and from whatever place on; `old`
+-- may be empty
 abbrev pub GapsDoNotMatter : Type 0
 GapsDoNotMatter = (front old new rest : List ℕ) (asked : Asked) (at n : ℕ) → GapChanged front old new rest at n
     → let a = gapped front old rest in let b = gapped front new rest in SameStand a b (textFrom a asked at) (textFrom b asked at)
@@ -88,22 +88,22 @@ pub record EndsAsked (text : List ℕ) (asked : Asked) (s : Stand) : Type 0 wher
   pub before : s .parse .notes .found ≡ false
   pub behind : tokenMore text asked s .parse .notes .found ≡ true
 
--- `place` is that of field `i` in the open block; and if the next token ends the block that is asked for, it is the one that the field is read
--- from, over any number of tokens more
+-- `place` is the place of field `i` in the open block; and if the next token ends the asked block, the field is read
+-- from it, over any number of tokens more
 pub record ValueCounts (text : List ℕ) (asked : Asked) (i place : ℕ) (s : Stand) : Type 0 where
   pub here : getD (s .places) i 0 ≡ place
   pub kept : EndsAsked text asked s → (m : ℕ) → getD (after text asked m (tokenMore text asked s) .kept) i 0 ≡ place
 
--- of a repeated field the last value counts: behind an assignment to field `i` its value's place stays that of the field, over any number of
--- tokens of which none ends another assignment to it or opens a block
+-- the last value of a repeated field counts: after an assignment to field `i` the field keeps that value's place,
+-- over any number of tokens none of which ends another assignment to it or opens a block
 abbrev pub LastValueCounts : Type 0
 LastValueCounts = (text : List ℕ) (asked : Asked) (s : Stand) (i place n : ℕ) → i < length (s .places)
     → s .parse .wanted ≡ Semicolon (i + 1) place → tokenAt text (s .parse .at) .form ≡ semicolon
     → ((k : ℕ) → k < n → touchedNext text i (after text asked k (tokenMore text asked s)) ≡ false)
     → ValueCounts text asked i place (after text asked n (tokenMore text asked s))
 
--- and the block's record is read from it (`blockFields` of `text_map`): if the assignment ends behind the first `m` tokens, and the block that
--- is asked for `n` tokens further on, it is the field's place in the text that was read to its end
+-- the block's record is read from it (`blockFields` of `text_map`): if the assignment ends behind the first `m`
+-- tokens, and the asked block `n` tokens later, then it is the field's place once the text is read to its end
 abbrev pub LastValueIsRead : Type 0
 LastValueIsRead = (text : List ℕ) (asked : Asked) (from m i place n : ℕ)
     → let s = after text asked n (tokenMore text asked (after text asked m (beginsAt from))) in
@@ -121,15 +121,16 @@ assigns NoMore t = false
 abbrev pub namesNext : List ℕ → Stand → Bool
 namesNext text s = isTop (s .parse .scope) && assigns (s .parse .wanted) (tokenAt text (s .parse .at))
 
--- the last namespace counts: behind `m` tokens the next one ends an assignment to it, and none further on does; then its value's place is the
--- one that the answer is read from (`namespaceOf` of `text_map`)
+-- the last namespace counts: if the token behind the first `m` ends an assignment to it, and no later token does,
+-- then the answer is read from that value's place (`namespaceOf` of `text_map`)
 abbrev pub LastNamespaceCounts : Type 0
 LastNamespaceCounts = (text : List ℕ) (asked : Asked) (from m place : ℕ) → let s = after text asked m (beginsAt from) in
     s .parse .wanted ≡ Semicolon 1 place → isTop (s .parse .scope) ≡ true → tokenAt text (s .parse .at) .form ≡ semicolon
     → ((k : ℕ) → namesNext text (after text asked k (tokenMore text asked s)) ≡ false)
     → textFrom text asked from .parse .notes .namespace ≡ place
 
--- four tokens of a text from `at` on assign to a name that the scope does not know, some value within its limits; they end before `next`
+-- four tokens from `at` on assign some value within its limits to a name that the scope does not know; they end
+-- before `next`
 pub record UnknownAssigned (text : List ℕ) (scope : Scope) (at next : ℕ) : Type 0 where
   pub name : isIdentifier text (tokenAt text at) ≡ true
   pub unknown : fieldNamed scope (wordOf text (tokenAt text at)) ≡ 0
@@ -138,7 +139,7 @@ pub record UnknownAssigned (text : List ℕ) (scope : Scope) (at next : ℕ) : T
   pub ends : eqb (nextToken text (nextToken text (nextToken text (tokenAt text at))) .form) semicolon ≡ true
   pub behind : nextToken text (nextToken text (nextToken text (tokenAt text at))) .next ≡ next
 
--- one text is the other with something put between two statements, behind the first `m` tokens; it ends before `next`
+-- text `b` is text `a` with something put between two statements, behind the first `m` tokens; it ends before `next`
 pub record PutBetween (a b : List ℕ) (asked : Asked) (at from m next : ℕ) : Type 0 where
   pub before : SameFirst m a at b from
   pub between : after a asked m (beginsAt at) .parse .wanted ≡ Statement
@@ -170,7 +171,8 @@ pub record UnknownBlock (text : List ℕ) (at next : ℕ) : Type 0 where
 abbrev pub BlockBehind : Type 0
 BlockBehind = UnknownBlock (bytes "x = 1; junk { a = 2; }") 6 22
 
--- such a block at the top changes no answer but places, unless a block of an unknown name is asked for, which no exported function does
+-- such a block at the top changes no answer but places, unless a block of an unknown name is asked for; no exported
+-- function does that
 abbrev pub UnknownBlocksDoNotMatter : Type 0
 UnknownBlocksDoNotMatter = (a b : List ℕ) (asked : Asked) (at from m next : ℕ) → PutBetween a b asked at from m next
     → isTop (after a asked m (beginsAt at) .parse .scope) ≡ true → isAsked asked Unknown 0 ≡ false

@@ -1,5 +1,5 @@
--- Two texts with the same tokens (02, W-206): what stands between tokens does not matter, nor does the case of letters in identifiers and
--- keywords. Assumes nothing.
+-- Two texts with the same tokens (02, W-206). Neither gaps between tokens nor the case of letters in identifiers and
+-- keywords matter. Assumes nothing.
 use Prim.Native.Nat.{ℕ, zero, suc, _<_}
 use mathlib.Core.Bool.{true}
 use mathlib.Core.List.{List}
@@ -23,7 +23,7 @@ pub record SameLexeme (a : List ℕ) (t : Token) (b : List ℕ) (u : Token) : Ty
   pub form : t .form ≡ u .form
   pub bytes : (wordOf a t ≡ wordOf b u) ⊎ ((t .form ≡ wordForm) × SameLetters (wordOf a t) (wordOf b u))
 
--- of a text the place of token `n` from `at` on; behind the last one the text's end again and again
+-- the place of token `n` of a text, from `at` on; behind the last one it is the text's end again and again
 unfoldable pub tokenPlace : List ℕ → ℕ → ℕ → ℕ
 tokenPlace text at zero = at
 tokenPlace text at (suc n) = tokenPlace text (tokenAt text at .next) n

@@ -57,9 +57,9 @@ impl Refusal {
         Some(if self.names_record() { format!("{part} {}", self.record) } else { part.to_string() })
     }
 
-    /// Whether the caller's loan or question is at fault, and not the file: too few words, a short buffer, a number or a name that
-    /// cannot be asked for, a record that cannot be written, an order that is no good one, maps that cannot be compared, an index that is
-    /// not the file's, a block that a text does not have.
+    /// True if the caller's arguments or buffers are at fault, and not the file: too few words, a short buffer, a number or a name
+    /// that cannot be asked for, a record that cannot be written, a bad order of nodes, maps that cannot be compared, an index of
+    /// another file, a block that a text does not have.
     pub fn is_callers(&self) -> bool {
         matches!(self.number, 7 | 10 | 30 | 41 | 45 | 55..=58 | 60 | 61 | 70..=76 | 80 | 82..=86 | 94)
     }

@@ -2,8 +2,8 @@
 //!
 //! Written from paper 01 ("Specification of the build and its rules"), the requests of paper 02, and
 //! documents 002 (text maps) and 004 (field layouts) alone, in plain safe Rust, to be held against the proved library. Every
-//! function answers the papers' refusal number, place and record; where the papers leave an order
-//! open, the list "Readings taken" of the design decides.
+//! function answers the papers' refusal number, place and record. Where the papers leave a point open,
+//! docs/DECISIONS.md decides.
 //!
 //! It allocates freely and favours the obvious way over the fast one, but no input costs more
 //! than a small multiple of its bytes, pictures with shared empty posts excepted.
