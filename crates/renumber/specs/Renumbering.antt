@@ -1,7 +1,7 @@
 -- The renumbered NODES lump, and what is answered and lent back (02, W-212). Assumes nothing.
 use Prim.Native.Nat.{ℕ, _*_}
 use mathlib.Core.Bool.{cond}
-use mathlib.Core.List.{List, _++_}
+use mathlib.Core.List.{List, [], _++_}
 use mathlib.Core.Path.{_≡_}
 use lib.ListN.{length, take}
 use Rattle.endian.specs.Unsigned.{u16Bytes}
@@ -44,10 +44,10 @@ abbrev pub checkBy : Verdict → List ℕ → List ℕ → ℕ → Check
 checkBy (Accepted depth marker) wad order room = renumberCheck (nodesAt wad marker) order room
 checkBy (NotAccepted r) wad order room = Refused r
 
--- the new lump of an accepted map
+-- the new lump of an accepted map; a refused one has none
 abbrev pub lumpBy : Verdict → List ℕ → List ℕ → List ℕ
 lumpBy (Accepted depth marker) wad order = renumbered (nodesAt wad marker) order
-lumpBy (NotAccepted r) wad order = wad
+lumpBy (NotAccepted r) wad order = []
 
 -- how many bytes were written, or the refusal
 abbrev pub renumberingOf : Check → ℕ → Renumbering
