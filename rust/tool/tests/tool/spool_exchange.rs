@@ -2,6 +2,7 @@
 
 use crate::spool::{arrives, folders, looping, names, round};
 use crate::support::{good, Folder};
+use std::collections::HashSet;
 use std::fs;
 use std::sync::atomic::{AtomicBool, Ordering};
 use std::thread;
@@ -10,31 +11,43 @@ use std::thread;
 const FILES: usize = 500;
 
 /// So many rounds are run meanwhile.
-const ROUNDS: usize = 8;
+const ROUNDS: usize = 3;
 
-/// Exchanges the bytes under each name in turn, until it is told to stop: by another file in its place, or in the file itself. How often.
-fn exchange(folder: &Folder, stop: &AtomicBool) -> usize {
-    let (kinds, mut count) = ([good(), looping()], 0);
-    while !stop.load(Ordering::Relaxed) {
-        let (name, bytes) = (format!("{}.wad", count % FILES), &kinds[count / FILES % 2]);
-        if count % 3 == 0 {
-            arrives(folder, &name, bytes);
+/// Exchanges the bytes under each name in turn, until it is told to stop. No two files have the same bytes. What every name had last.
+fn exchange(folder: &Folder, stop: &AtomicBool) -> Vec<Vec<u8>> {
+    let (kinds, mut last) = ([good(), looping()], vec![Vec::new(); FILES]);
+    for count in 0_usize.. {
+        let (number, kind) = (count % FILES, &kinds[count / FILES % 2]);
+        if number == 0 && stop.load(Ordering::Relaxed) {
+            break;
+        }
+        let (name, bytes) = (format!("{number}.wad"), [&kind[..], &count.to_le_bytes()].concat());
+        if is_written_in_place(number) {
+            arrives(folder, &name, &bytes);
         } else {
-            arrives(folder, ".new", bytes);
+            arrives(folder, ".new", &bytes);
             fs::rename(folder.file("in/.new"), folder.file("in").join(&name)).expect("another name");
         }
-        count += 1;
-        if count % 8 == 0 {
-            thread::yield_now();
-        }
+        last[number] = bytes;
     }
-    count
+    last
+}
+
+/// Whether a name's file is written anew again and again. Other names get another file each time.
+fn is_written_in_place(number: usize) -> bool {
+    number.is_multiple_of(3)
+}
+
+/// All files of a folder that are no texts.
+fn files(folder: &Folder, name: &str) -> Vec<Vec<u8>> {
+    let names = names(folder, name).into_iter().filter(|it| it.ends_with(".wad"));
+    names.map(|it| fs::read(folder.file(name).join(it)).expect("a file")).collect()
 }
 
 #[test]
 fn nothing_is_accepted_that_would_be_refused() {
     let (folder, stop) = (folders(), AtomicBool::new(false));
-    let exchanged = thread::scope(|scope| {
+    let last = thread::scope(|scope| {
         let writer = scope.spawn(|| exchange(&folder, &stop));
         for _ in 0..ROUNDS {
             let said = round(&folder, &["--quiet"]);
@@ -43,17 +56,16 @@ fn nothing_is_accepted_that_would_be_refused() {
         stop.store(true, Ordering::Relaxed);
         writer.join().expect("the writer ends")
     });
-    assert!(exchanged > FILES, "{exchanged}");
-    let _ = fs::remove_file(folder.file("in/.new"));
     let said = round(&folder, &["--quiet"]);
     assert!(said.status <= 1, "{said:?}");
     assert_eq!(names(&folder, "in"), [""; 0]);
     folder.run(&["judge", "--quiet", "--require-map", "accepted"]).is(0, &[]);
-    let (accepted, refused) = (names(&folder, "accepted"), names(&folder, "refused"));
-    let refused: Vec<&String> = refused.iter().filter(|name| name.ends_with(".wad")).collect();
+    let [accepted, refused, held] = ["accepted", "refused", "held"].map(|name| files(&folder, name));
     assert!(accepted.len() > 50 && refused.len() > 50, "{} accepted, {} refused", accepted.len(), refused.len());
-    for name in refused {
-        let status = folder.run(&["judge", "--quiet", &format!("refused/{name}")]).status;
-        assert_eq!(status, 1, "{name}");
+    let judged = folder.run(&["judge", "--quiet", "refused"]);
+    assert_eq!(judged.out.lines().count(), refused.len(), "each of them is refused");
+    let kept: HashSet<Vec<u8>> = accepted.into_iter().chain(refused).chain(held).collect();
+    for (number, bytes) in last.iter().enumerate().filter(|(number, _)| !is_written_in_place(*number)) {
+        assert!(kept.contains(bytes), "the last {number}.wad is lost");
     }
 }
