@@ -116,6 +116,7 @@ impl<'a> Arrivals<'a> {
         }
         let leaving = self.folder.join(LEAVING);
         self.disk.make_folder(&leaving)?;
+        self.is_leaving_there()?;
         let leaving = leaving.join(name);
         match self.disk.look(&leaving) {
             Ok(_) => self.put_back(name, place)?,
@@ -133,14 +134,22 @@ impl<'a> Arrivals<'a> {
 
     /// Puts everything back that an earlier run was about to remove: it is judged again.
     pub fn recover(&self, place: &Place) -> io::Result<()> {
-        let entries = match self.disk.entries(&self.folder.join(LEAVING)) {
-            Err(error) if error.kind() == ErrorKind::NotFound => return Ok(()),
-            entries => entries?,
-        };
-        for entry in entries {
-            self.put_back(&entry?.file_name(), place)?;
+        if self.is_leaving_there()? {
+            for entry in self.disk.entries(&self.folder.join(LEAVING))? {
+                self.put_back(&entry?.file_name(), place)?;
+            }
         }
         Ok(())
+    }
+
+    /// Whether the folder is there through which arrivals leave. A link of its name could lead to other files: it is an error.
+    fn is_leaving_there(&self) -> io::Result<bool> {
+        match self.disk.look(&self.folder.join(LEAVING)) {
+            Ok(about) if about.is_dir() => Ok(true),
+            Ok(_) => Err(io::Error::other(format!("{LEAVING} is no folder: take it away"))),
+            Err(error) if error.kind() == ErrorKind::NotFound => Ok(false),
+            Err(error) => Err(error),
+        }
     }
 
     /// Puts one file back under its name, or under a numbered one if its name is taken again.

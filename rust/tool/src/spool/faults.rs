@@ -33,7 +33,11 @@ pub struct Faults {
     count: Cell<usize>,
     /// The names of all steps so far.
     steps: RefCell<Vec<&'static str>>,
+    /// What somebody else does before the first step of a name.
+    meanwhile: RefCell<Option<Meanwhile>>,
 }
+
+type Meanwhile = (&'static str, Box<dyn FnOnce()>);
 
 #[derive(Clone, Copy, Debug, Default, PartialEq, Eq)]
 enum Kind {
@@ -56,6 +60,9 @@ impl Faults {
     /// Counts a step, and strikes if it is the one.
     pub fn strike(&self, name: &'static str) -> io::Result<()> {
         self.steps.borrow_mut().push(name);
+        if let Some((_, act)) = self.meanwhile.borrow_mut().take_if(|(step, _)| *step == name) {
+            act();
+        }
         self.count.set(self.count.get() + 1);
         let (is_here, is_behind) = (self.count.get() == self.at, self.count.get() >= self.at);
         match self.kind {
@@ -226,23 +233,77 @@ fn at_every_step(kind: Kind) {
     panic!("there is no end to the steps");
 }
 
+/// The folders with one arrival, `new.wad`, and nothing else that is to be done.
+fn with_one(name: &str) -> Root {
+    let root = set_up(name);
+    fs::remove_dir_all(root.0.join("in")).expect("it is there");
+    fs::create_dir(root.0.join("in")).expect("a new folder");
+    fs::write(root.0.join("in/new.wad"), sample("accepted.wad")).expect("a file");
+    root
+}
+
+/// Runs the spool over one arrival, while somebody else does something before the first step of a name.
+fn run_while(root: &Root, step: &'static str, act: impl FnOnce() + 'static) {
+    let disk = Disk::default();
+    disk.faults.meanwhile.replace(Some((step, Box::new(act))));
+    rounds(&folders(&root.0), &disk, &mut Report::new(false, true));
+    assert!(disk.faults.meanwhile.take().is_none(), "there was no {step}");
+}
+
+#[test]
+fn an_arrival_that_is_exchanged_before_it_goes_stays() {
+    for (name, step) in [("exchange", "append_to"), ("exchange-late", "rename")] {
+        let root = with_one(name);
+        let path = root.0.join("in/new.wad");
+        run_while(&root, step, move || {
+            fs::write(path.with_extension("other"), sample("hexen.wad")).expect("another file");
+            fs::rename(path.with_extension("other"), path).expect("its name");
+        });
+        assert_eq!(fs::read(root.0.join("accepted/new.wad")).expect("it is there"), sample("accepted.wad"));
+        assert_eq!(files(&root.0.join("in")).into_iter().collect::<Vec<_>>(), [(PathBuf::from("new.wad"), sample("hexen.wad"))]);
+    }
+}
+
+#[test]
+fn an_arrival_that_changes_while_it_is_read_waits() {
+    let root = with_one("grows");
+    let path = root.0.join("in/new.wad");
+    run_while(&root, "read", move || fs::write(path, sample("loop.wad")).expect("it changes"));
+    assert_eq!(files(&root.0.join("in")).into_values().collect::<Vec<_>>(), [sample("loop.wad")]);
+    assert!(!root.0.join("accepted/new.wad").exists() && !root.0.join("refused/new.wad").exists());
+}
+
+#[test]
+fn a_file_that_takes_the_name_meanwhile_stays() {
+    let root = with_one("takes");
+    let path = root.0.join("accepted/new.wad");
+    run_while(&root, "link", move || fs::write(path, b"somebody else's").expect("a file"));
+    assert_eq!(fs::read(root.0.join("accepted/new.wad")).expect("it stays"), b"somebody else's");
+    assert_eq!(fs::read(root.0.join("held/new.wad")).expect("it is held"), sample("accepted.wad"));
+}
+
+#[test]
+fn a_link_in_the_place_of_the_spools_folder_is_not_followed() {
+    let root = with_one("link");
+    std::os::unix::fs::symlink("../accepted", root.0.join("in/.meshpigeon-leaving")).expect("a link");
+    rounds(&folders(&root.0), &Disk::default(), &mut Report::new(false, true));
+    fs::remove_file(root.0.join("in/.meshpigeon-leaving")).expect("it is there");
+    assert_eq!(files(&root.0.join("in")).into_values().collect::<Vec<_>>(), [sample("accepted.wad")]);
+    assert!(root.0.join("accepted/leftover.wad").exists());
+}
+
 /// A power cut loses what is not flushed. So the bytes are flushed before they have their name, and the name is flushed before the arrival
 /// goes.
 #[test]
 fn what_is_on_the_disk_comes_before_what_goes() {
-    let (root, disk) = (set_up("order"), Disk::default());
-    for name in ARRIVALS.iter().filter(|name| **name != "reference.wad") {
-        fs::remove_file(root.0.join("in").join(name)).expect("it is there");
-    }
-    fs::remove_dir_all(root.0.join("in/.meshpigeon-leaving")).expect("it is there");
-    fs::write(root.0.join("in/new.wad"), sample("accepted.wad")).expect("a file");
+    let (root, disk) = (with_one("order"), Disk::default());
     rounds(&folders(&root.0), &disk, &mut Report::new(false, true));
     let steps = disk.faults.steps.take();
     let from = steps.iter().position(|step| *step == "read").expect("it is read");
     let read = ["read", "about"];
     let placed = ["look", "create", "lock", "write", "write", "flush", "link", "remove", "flush_folder"];
     let noted = ["append_to", "about", "write", "flush", "flush_folder"];
-    let removed = ["look", "make_folder", "look", "rename", "look", "remove", "flush_folder"];
+    let removed = ["look", "make_folder", "look", "look", "rename", "look", "remove", "flush_folder"];
     let expected = [&read[..], &placed, &noted, &removed].concat();
     assert_eq!(steps[from..], expected);
 }

@@ -20,10 +20,10 @@ use crate::name;
 use crate::pair::{Base, Lent};
 use crate::report::{self, Report};
 use arrival::{Arrival, Arrivals, Read};
-use disk::Disk;
+use disk::{Disk, Seen};
 use outcome::{Kind, Outcome};
 use place::{Content, Place, Placed};
-use std::collections::HashSet;
+use std::collections::{HashMap, HashSet};
 use std::ffi::{OsStr, OsString};
 use std::fs::{self, File};
 use std::io;
@@ -65,7 +65,7 @@ pub struct Folders {
 /// So many names are read and sorted at a time, whatever arrives.
 const MOST_NAMES: usize = 1_024;
 
-/// So many complaints are remembered.
+/// So many complaints and arrivals are remembered.
 const MOST_SAID: usize = 10_000;
 
 /// So often a waiting program looks for a signal.
@@ -179,13 +179,25 @@ struct Spool<'a> {
     recovered: bool,
     /// Whether the journal has a line of this run.
     noted: bool,
+    /// Arrivals that are where they belong and could not be removed. They are not judged again unless they change.
+    stuck: HashMap<OsString, Seen>,
 }
 
 impl<'a> Spool<'a> {
     fn new(folders: &'a Folders, disk: &'a Disk) -> Self {
         let arrivals = Arrivals::new(disk, &folders.arrivals, folders.settle);
         let (place, lent) = (Place::new(disk), Lent::new());
-        Self { folders, disk, arrivals, place, lent, said: Default::default(), recovered: false, noted: false }
+        Self {
+            folders,
+            disk,
+            arrivals,
+            place,
+            lent,
+            said: Default::default(),
+            recovered: false,
+            noted: false,
+            stuck: HashMap::new(),
+        }
     }
 
     /// Looks at every arrival once, until it is told to stop.
@@ -259,6 +271,11 @@ impl<'a> Spool<'a> {
             tally.waiting += 1;
             return Ok(());
         }
+        if let Some(seen) = self.stuck.remove(name) {
+            if self.remove(name, &seen)? {
+                return Ok(());
+            }
+        }
         let Read { file, seen, bytes } = match self.arrivals.read(name) {
             Ok(Arrival::Read(read)) => read,
             Ok(Arrival::Gone) => return Ok(()),
@@ -288,10 +305,18 @@ impl<'a> Spool<'a> {
             Kind::Refused => tally.refused += 1,
             Kind::Held => tally.held += 1,
         }
-        match self.arrivals.remove(name, &seen, &self.place) {
-            Ok(_) => Ok(()),
-            Err(error) => Err(Trouble::of(&path, "it cannot be removed", &error)),
-        }
+        self.remove(name, &seen).map(|_| ())
+    }
+
+    /// Removes an arrival that is where it belongs. False if it changed, and stays.
+    fn remove(&mut self, name: &OsStr, seen: &Seen) -> Result<bool, Trouble> {
+        self.arrivals.remove(name, seen, &self.place).map_err(|error| {
+            self.recovered = false;
+            if self.stuck.len() < MOST_SAID {
+                self.stuck.insert(name.to_os_string(), *seen);
+            }
+            Trouble::of(&self.folders.arrivals.join(name), "it was dealt with, and cannot be removed", &error)
+        })
     }
 
     /// Puts an arrival into the folder of its outcome. An accepted one whose name is taken is held.

@@ -6,6 +6,8 @@ use std::fs;
 use std::os::unix::fs::{MetadataExt, PermissionsExt};
 use std::os::unix::process::CommandExt;
 use std::process::{Command, Stdio};
+use std::thread;
+use std::time::Duration;
 
 /// Nobody: a user whom permissions stop, where the tests run as root.
 const NOBODY: u32 = 65_534;
@@ -82,4 +84,55 @@ fn a_read_only_folder_and_an_unreadable_file_leave_the_arrivals() {
     assert_eq!(names(&folder, "refused"), [""; 0]);
     let said = round(&folder, &[]);
     assert_eq!((said.status, names(&folder, "in").len(), names(&folder, "accepted").len()), (1, 0, 2), "{said:?}");
+}
+
+#[test]
+fn an_arrival_that_cannot_be_removed_is_dealt_with_once() {
+    let folder = folders();
+    arrives(&folder, "a.wad", &good());
+    FOLDERS.iter().for_each(|name| mode(&folder, name, 0o777));
+    mode(&folder, "in", 0o555);
+    mode(&folder, ".", 0o777);
+    let mut command = folder.command(&[&ROUND[..], &["--every", "1", "--journal", "journal"]].concat());
+    if fs::metadata(folder.file("in")).expect("it is there").uid() == 0 {
+        command.uid(NOBODY).gid(NOBODY);
+    }
+    let Ok(mut running) = command.stdout(Stdio::null()).stderr(Stdio::null()).spawn() else { return };
+    for name in ["b.wad", "c.wad"] {
+        // Only root may still add files. Where nobody may not run the tool at all, there is nothing to see.
+        if fs::write(folder.file("in").join(name), good()).is_err() {
+            break;
+        }
+        while names(&folder, "accepted").len() < names(&folder, "in").len() && running.try_wait().expect("its state").is_none() {
+            thread::sleep(Duration::from_millis(20));
+        }
+    }
+    running.kill().expect("it is killed");
+    running.wait().expect("it ends");
+    mode(&folder, "in", 0o755);
+    let journal = fs::read_to_string(folder.file("journal")).unwrap_or_default();
+    assert!(journal.matches("\"file\":\"a.wad\"").count() <= 1, "{journal}");
+    assert_eq!(round(&folder, &[]).status, 0);
+    assert_eq!((names(&folder, "in").len(), names(&folder, "accepted").first().map(String::as_str)), (0, Some("a.wad")));
+}
+
+#[test]
+fn memory_stays_bounded_whatever_arrives() {
+    let folder = folders();
+    let large = generator::largest_map();
+    let mut bad = large.clone();
+    bad[12..3_000_000].fill(0xFF);
+    arrives(&folder, "base.wad", &large);
+    fs::rename(folder.file("in/base.wad"), folder.file("base.wad")).expect("a base");
+    for number in 0..4 {
+        arrives(&folder, format!("good{number}.wad"), &large);
+        arrives(&folder, format!("bad{number}.wad"), &bad);
+    }
+    arrives(&folder, "long.wad", &[&large[..], &bad, &large, &bad, &large].concat());
+    let line = format!("ulimit -v 131072; exec '{}' {} --base base.wad", env!("CARGO_BIN_EXE_meshpigeon"), ROUND.join(" "));
+    let mut shell = Command::new("sh");
+    let shell = shell.args(["-c", &line]).current_dir(folder.file(".")).stdin(Stdio::null());
+    let said = said(shell.output().expect("the shell runs"));
+    assert_eq!((said.status, said.err.as_str()), (1, ""), "{said:?}");
+    assert_eq!(said.out.lines().last(), Some("4 accepted, 5 refused, 0 held, 0 waiting"));
 }

@@ -66,7 +66,7 @@ fn a_crash_leaves_no_lock() {
     let folder = folders();
     arrives(&folder, "a.wad", &good());
     let mut running = start(&folder);
-    until("the first round", || names(&folder, "accepted").len() == 1);
+    until("the first round", || names(&folder, "accepted").len() == 1 && names(&folder, "in").is_empty());
     assert_eq!(round(&folder, &[]).status, 2);
     running.kill().expect("it is killed");
     running.wait().expect("it ends");
