@@ -135,8 +135,9 @@ impl<'a> Arrivals<'a> {
     /// Puts everything back that an earlier run was about to remove: it is judged again.
     pub fn recover(&self, place: &Place) -> io::Result<()> {
         if self.is_leaving_there()? {
-            for entry in self.disk.entries(&self.folder.join(LEAVING))? {
-                self.put_back(&entry?.file_name(), place)?;
+            let mut entries = self.disk.entries(&self.folder.join(LEAVING))?;
+            while let Some(name) = self.disk.next(&mut entries)? {
+                self.put_back(&name, place)?;
             }
         }
         Ok(())

@@ -1,5 +1,6 @@
 //! All that the spool does to files. Each operation is one step, and a test can make any step fail or end the process there.
 
+use std::ffi::OsString;
 use std::fs::{self, File, Metadata, OpenOptions, ReadDir, TryLockError};
 use std::io::{self, ErrorKind, Read, Write};
 use std::os::unix::fs::{FileExt, MetadataExt, OpenOptionsExt};
@@ -70,6 +71,11 @@ impl Disk {
     /// The entries of a folder.
     pub fn entries(&self, folder: &Path) -> io::Result<ReadDir> {
         self.step("entries", || fs::read_dir(folder))
+    }
+
+    /// The name of the next entry of a folder, if there is one more.
+    pub fn next(&self, entries: &mut ReadDir) -> io::Result<Option<OsString>> {
+        self.step("next", || entries.next().map(|entry| entry.map(|entry| entry.file_name())).transpose())
     }
 
     /// What has a name, be it a link.

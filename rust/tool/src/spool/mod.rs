@@ -25,7 +25,7 @@ use outcome::{Kind, Outcome};
 use place::{Content, Place, Placed};
 use std::collections::{HashMap, HashSet};
 use std::ffi::{OsStr, OsString};
-use std::fs::{self, File};
+use std::fs::{self, File, ReadDir};
 use std::io;
 use std::os::unix::ffi::OsStrExt;
 use std::path::{Path, PathBuf};
@@ -227,13 +227,10 @@ impl<'a> Spool<'a> {
         let base = self.base()?;
         let mut entries = self.disk.entries(arrivals).map_err(|error| unread(&error))?;
         loop {
-            let some: Result<Vec<OsString>, io::Error> =
-                entries.by_ref().take(MOST_NAMES).map(|entry| entry.map(|entry| entry.file_name())).collect();
-            let mut names = some.map_err(|error| unread(&error))?;
+            let names = self.some_names(&mut entries).map_err(|error| unread(&error))?;
             if names.is_empty() {
                 break;
             }
-            names.sort();
             for name in names.iter().filter(|name| !Arrivals::is_own(name)) {
                 if stop() {
                     return Ok(());
@@ -247,6 +244,19 @@ impl<'a> Spool<'a> {
             self.disk.flush_folder(arrivals).map_err(|error| Trouble::of(arrivals, "it is not flushed to the disk", &error))?;
         }
         Ok(())
+    }
+
+    /// The next names of a folder, sorted. None are left behind the last.
+    fn some_names(&self, entries: &mut ReadDir) -> io::Result<Vec<OsString>> {
+        let mut names = Vec::new();
+        while names.len() < MOST_NAMES {
+            match self.disk.next(entries)? {
+                Some(name) => names.push(name),
+                None => break,
+            }
+        }
+        names.sort();
+        Ok(names)
     }
 
     /// Reads the base. One that is refused is no fault of those who send files: nothing is judged until it is good.

@@ -228,8 +228,8 @@ impl<'a> Place<'a> {
     }
 
     fn sweep_one(&self, folder: &Path) -> io::Result<()> {
-        for entry in self.disk.entries(folder)? {
-            let name = entry?.file_name();
+        let mut entries = self.disk.entries(folder)?;
+        while let Some(name) = self.disk.next(&mut entries)? {
             let bytes = name.as_bytes();
             if bytes.starts_with(PREFIX.as_bytes()) && bytes.ends_with(SUFFIX.as_bytes()) {
                 self.sweep_file(&folder.join(name))?;

@@ -110,7 +110,9 @@ fn the_texts_say_why_and_what_to_do() {
     assert_eq!((value(&json, "outcome"), value(&json, "number")), (said("refused"), Value::Number(31)));
     let judged = folder.run(&["judge", "--json", "--all", "refused/loop.wad"]).out.replace("refused/loop.wad", "loop.wad");
     assert!(json.contains(&format!("\"verdicts\":[{}]", judged.trim_end())), "{json}");
-    schema::holds(judged.trim_end());
+    for name in ["refused/loop.wad.json", "refused/no.wad.json", "held/none.wad.json"] {
+        schema::holds(text(&folder, name).trim_end());
+    }
 }
 
 #[test]
@@ -248,7 +250,9 @@ fn the_journal_has_a_line_for_each_outcome() {
         .contains(": 2 files: 1 accepted, 1 refused, 0 held; 1 came again\nb.wad: refused: MAP01: refused 31 at NODES: "));
     assert!(summary.out.ends_with("\n1 line of the journal cannot be read\n"), "{summary:?}");
     assert_eq!((summary.status, summary.err.as_str()), (0, ""));
+    lines[1..].iter().for_each(|line| schema::holds(line));
     let json = folder.run(&["spool", "--summary", "journal", "--json"]).out;
+    schema::holds(json.trim_end());
     assert_eq!((value(&json, "refused"), value(&json, "strange")), (Value::Number(1), Value::Number(1)));
     let said = folder.run(&["spool", "--summary", "none"]);
     assert_eq!((said.status, said.err.as_str()), (2, "meshpigeon: none: No such file or directory\n"));

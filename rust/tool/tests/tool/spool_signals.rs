@@ -87,3 +87,22 @@ fn an_interrupt_ends_a_wait_at_once() {
     let said = said(running.wait_with_output().expect("it ends"));
     assert_eq!((said.status, said.err.as_str()), (0, ""));
 }
+
+#[test]
+fn a_signal_lets_it_finish_the_file_in_hand() {
+    if !can_block() {
+        return;
+    }
+    let (folder, count) = (folders(), 400);
+    for number in 0..count {
+        arrives(&folder, format!("{number}.wad"), &good());
+    }
+    let running = start(&folder);
+    until("some files", || names(&folder, "accepted").len() > 20);
+    signal("TERM", &running);
+    let said = said(running.wait_with_output().expect("it ends"));
+    assert_eq!((said.status, said.err.as_str()), (0, ""));
+    let [left, accepted] = ["in", "accepted"].map(|name| names(&folder, name));
+    assert_eq!(left.len() + accepted.len(), count, "no file is in two places");
+    assert!(accepted.iter().all(|name| !name.starts_with('.')), "no temporary file is left");
+}
