@@ -15,8 +15,9 @@ const KILLS: usize = 200;
 /// So many files arrive before each run, if fewer are there.
 const ARRIVALS: usize = 12;
 
-/// A run is killed after less than so many microseconds.
-const LONGEST: u64 = 12_000;
+/// A run is killed after so many microseconds at first, and up to so many more. A file waits until its time is 20 ms old.
+const FIRST: u64 = 18_000;
+const SPREAD: u64 = 12_000;
 
 /// Numbers that look random, the same in each run.
 struct Dice(u64);
@@ -71,7 +72,8 @@ fn holds(folder: &Folder, sent: &BTreeMap<String, Vec<u8>>) {
 
 #[test]
 fn nothing_is_lost_by_two_hundred_kills() {
-    let (folder, mut dice, mut sent, mut cut) = (folders(), Dice(39), BTreeMap::new(), 0);
+    let (folder, mut dice, mut sent) = (folders(), Dice(39), BTreeMap::new());
+    let (mut delay, mut cut) = (FIRST, 0);
     for kill in 0..KILLS {
         while names(&folder, "in").len() < ARRIVALS {
             let (name, bytes) = file(sent.len());
@@ -80,16 +82,21 @@ fn nothing_is_lost_by_two_hundred_kills() {
         }
         let mut command = folder.command(&[&ROUND[..], &["--quiet", "--journal", "journal"]].concat());
         let mut running = command.stdout(Stdio::null()).stderr(Stdio::null()).spawn().expect("it runs");
-        // A file waits until its time is 20 ms old, so a run with new arrivals needs at least that.
-        thread::sleep(Duration::from_micros(18_000 + dice.roll(LONGEST)));
+        let before = names(&folder, "in").len();
+        thread::sleep(Duration::from_micros(delay + dice.roll(SPREAD)));
         running.kill().expect("it is killed");
-        let status = running.wait().expect("it ends");
-        cut += usize::from(status.code().is_none());
+        let is_finished = running.wait().expect("it ends").code().is_some();
+        // A run that was done is killed sooner the next time, and one that had not begun later.
+        match (is_finished, names(&folder, "in").len() < before) {
+            (true, _) => delay -= delay / 10,
+            (false, false) => delay += delay / 10 + 100,
+            (false, true) => cut += 1,
+        }
         if kill % 10 == 9 {
             holds(&folder, &sent);
         }
     }
-    assert!(cut > KILLS / 4, "only {cut} runs were cut off");
+    assert!(cut > KILLS / 10, "only {cut} runs were cut off in the midst of their work");
     let said = round(&folder, &["--quiet", "--journal", "journal"]);
     assert_eq!((said.status, said.err.as_str(), names(&folder, "in").len()), (1, "", 0));
     holds(&folder, &sent);
