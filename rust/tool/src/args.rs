@@ -3,6 +3,7 @@
 use crate::help;
 use crate::judge::Task;
 use crate::options::{self, Parts};
+use crate::spool;
 use std::ffi::{OsStr, OsString};
 use std::fmt;
 use std::path::Path;
@@ -121,6 +122,8 @@ pub enum Command {
         /// Where the new file goes.
         output: OsString,
     },
+    /// Judge what arrives in a folder.
+    Spool(spool::Task),
     /// Number a map's nodes anew.
     Renumber {
         /// The file.
@@ -159,7 +162,8 @@ pub fn misuse<T>(words: impl Into<String>) -> Result<T, Misuse> {
 }
 
 /// What may be asked for.
-const COMMANDS: &str = "judge, list, index, extract, descend, order, picture, encode, sidedefs, renumber, diff, text or help";
+const COMMANDS: &str =
+    "judge, list, index, extract, descend, order, picture, encode, sidedefs, renumber, diff, text, spool or help";
 
 /// Takes the arguments after the program's name apart.
 pub fn parse(arguments: Vec<OsString>) -> Result<Request, Misuse> {
@@ -192,6 +196,7 @@ pub fn parse(arguments: Vec<OsString>) -> Result<Request, Misuse> {
         Some("diff") => diff(&parts),
         Some("renumber") => renumber(&parts),
         Some("text") => text(&parts),
+        Some("spool") => spool::options::task(&parts).map(Command::Spool),
         _ => unknown(&name),
     }?;
     parts.fit(&name.to_string_lossy())?;

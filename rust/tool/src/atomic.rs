@@ -50,7 +50,7 @@ pub fn write(target: &Path, bytes: &[u8]) -> Result<(), Failure> {
     }
     let target = followed(target)?;
     let old = old(&target)?;
-    fits(bytes.len())?;
+    fits(bytes.len() as u64)?;
     let mut temporary = Temporary::beside(&target)?;
     temporary.file.write_all(bytes)?;
     if let Some(old) = old {
@@ -98,10 +98,10 @@ fn folder_of(target: &Path) -> &Path {
 }
 
 /// Refuses more bytes than this process may write into a file: past that limit the system would end it in the midst of its work.
-fn fits(length: usize) -> io::Result<()> {
+pub fn fits(length: u64) -> io::Result<()> {
     let limits = fs::read_to_string("/proc/self/limits").unwrap_or_default();
     match file_limit(&limits) {
-        Some(most) if length as u64 > most => Err(io::Error::new(ErrorKind::FileTooLarge, TOO_LARGE)),
+        Some(most) if length > most => Err(io::Error::new(ErrorKind::FileTooLarge, TOO_LARGE)),
         _ => Ok(()),
     }
 }

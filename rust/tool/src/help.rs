@@ -4,7 +4,7 @@
 pub const WHOLE: &str = include_str!("help/whole.txt");
 
 /// Each command's own part.
-const PARTS: [(&str, &str); 12] = [
+const PARTS: [(&str, &str); 13] = [
     ("judge", include_str!("help/judge.txt")),
     ("list", include_str!("help/list.txt")),
     ("index", include_str!("help/index.txt")),
@@ -17,6 +17,7 @@ const PARTS: [(&str, &str); 12] = [
     ("renumber", include_str!("help/renumber.txt")),
     ("diff", include_str!("help/diff.txt")),
     ("text", include_str!("help/text.txt")),
+    ("spool", include_str!("help/spool.txt")),
 ];
 
 /// The part of a command, if there is such a command.

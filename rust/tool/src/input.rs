@@ -63,10 +63,15 @@ pub fn read(file: &OsStr) -> Result<Vec<u8>, Fault> {
     let opened = File::open(file).map_err(Fault::Unread)?;
     let about = opened.metadata().map_err(Fault::Unread)?;
     if about.is_file() && about.len() > MOST_BYTES {
-        let digest = Digest { length: Some(about.len()), crc32: None };
-        return Err(Fault::Refused(TOO_LONG, Some(FileFinding::Length(about.len(), "MAP")), digest));
+        return Err(too_long(about.len()));
     }
     most_of(opened).map_err(Fault::Unread)
+}
+
+/// The refusal of a file of this length, which is not read.
+pub fn too_long(length: u64) -> Fault {
+    let digest = Digest { length: Some(length), crc32: None };
+    Fault::Refused(TOO_LONG, Some(FileFinding::Length(length, "MAP")), digest)
 }
 
 /// All bytes of any file, or of standard input for `-`; of a longer one than a WAD file may be, one byte more than that.

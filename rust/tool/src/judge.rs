@@ -61,7 +61,12 @@ fn judge_file(file: &OsStr, opened: &Opened, asked: &[Vec<u8>], task: &Task, len
     let maps = if asked.is_empty() { opened.maps() } else { asked.to_vec() };
     let unnamed = if asked.is_empty() { opened.unnamed() } else { Vec::new() };
     if maps.is_empty() && unnamed.is_empty() {
-        report.verdict(&Verdict::plain(about.clone(), Subject::File, Source::File, Outcome::NoMap(no_map(opened, task))));
+        report.verdict(&Verdict::plain(
+            about.clone(),
+            Subject::File,
+            Source::File,
+            Outcome::NoMap(no_map(opened, task.require_map)),
+        ));
     }
     for map in maps {
         let mut verdict = verdict(&about, opened, &map, lent);
@@ -79,8 +84,8 @@ fn judge_file(file: &OsStr, opened: &Opened, asked: &[Vec<u8>], task: &Task, len
 }
 
 /// What is said of a file without a map.
-fn no_map(opened: &Opened, task: &Task) -> String {
-    let required = if task.require_map { ", and one is required" } else { "" };
+pub fn no_map(opened: &Opened, require_map: bool) -> String {
+    let required = if require_map { ", and one is required" } else { "" };
     let nodes = opened.gl_marker().map_or(String::new(), |(entry, name)| {
         format!("; entry {entry}, {name}, has the GL nodes of a map, which the box cannot read")
     });

@@ -51,6 +51,7 @@ mod renumber;
 mod report;
 mod shared;
 mod sidedefs;
+mod spool;
 mod spot;
 mod svg;
 mod text;
@@ -98,6 +99,7 @@ fn run(request: &Request, report: &mut Report) {
         Command::Index { file, task: IndexTask::Write(output) } => index::write(file, output, report),
         Command::Index { file, task: IndexTask::Check(index) } => index::check(file, index, report),
         Command::Extract { file, name, output } => extract::run(file, name, output, report),
+        Command::Spool(task) => spool::run(task, report),
         Command::Renumber { file, map, list, output } => renumber::run(file, map, list.as_deref(), output, report),
     }
 }

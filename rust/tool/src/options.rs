@@ -1,6 +1,7 @@
 //! The options of a command line, sorted from its words.
 
 use crate::args::{misuse, shown, Misuse};
+use crate::spool;
 use std::ffi::{OsStr, OsString};
 
 /// The options and the other words, apart.
@@ -28,6 +29,8 @@ pub struct Parts {
     pub files: Option<OsString>,
     /// `-o`.
     pub output: Option<OsString>,
+    /// The options of `spool`.
+    pub spool: spool::options::Given,
     /// `--records`.
     pub records: bool,
     /// `--require-map`.
@@ -80,7 +83,7 @@ fn valued(argument: &OsStr) -> Option<(&'static str, Option<OsString>)> {
     if argument == "-o" {
         return Some(("-o", None));
     }
-    VALUED.iter().find_map(|option| match argument.as_bytes().strip_prefix(option.as_bytes())? {
+    VALUED.iter().chain(&spool::options::VALUED).find_map(|option| match argument.as_bytes().strip_prefix(option.as_bytes())? {
         [] => Some((*option, None)),
         [b'=', value @ ..] => Some((*option, Some(OsStr::from_bytes(value).to_os_string()))),
         _ => None,
@@ -100,10 +103,11 @@ fn put(option: &str, given: Option<OsString>, parts: &mut Parts) -> Result<(), M
         "--check" => &mut parts.check,
         "--files0-from" => &mut parts.files,
         "-o" => &mut parts.output,
-        _ => {
+        "--map" => {
             parts.maps.push(given);
             return Ok(());
         }
+        _ => parts.spool.place(option).expect("an option of spool"),
     };
     match place.replace(given) {
         None => Ok(()),
@@ -125,7 +129,7 @@ impl Parts {
         let takes = |commands: &[&str]| commands.contains(&command);
         let strange = [
             (!self.maps.is_empty() && !takes(&["judge", "diff"]), "--map"),
-            (self.base.is_some() && !takes(&["judge", "picture"]), "--base"),
+            (self.base.is_some() && !takes(&["judge", "picture", "spool"]), "--base"),
             (self.palette.is_some() && !takes(&["picture", "encode"]), "--palette"),
             (self.offset.is_some() && !takes(&["encode"]), "--offset"),
             (self.list.is_some() && !takes(&["renumber"]), "--list"),
@@ -137,7 +141,11 @@ impl Parts {
             (self.records && !takes(&["diff"]), "--records"),
             (self.require_map && !takes(&["judge"]), "--require-map"),
             (self.all && !takes(&["judge"]), "--all"),
-            (self.quiet && !takes(&["judge", "picture", "encode", "sidedefs", "renumber", "index", "extract"]), "--quiet"),
+            (
+                self.quiet && !takes(&["judge", "picture", "encode", "sidedefs", "renumber", "index", "extract", "spool"]),
+                "--quiet",
+            ),
+            (self.spool.first().is_some() && !takes(&["spool"]), self.spool.first().unwrap_or_default()),
         ];
         match strange.iter().find(|(is_strange, _)| *is_strange) {
             Some((_, option)) => misuse(format!("{command} does not take {option}")),

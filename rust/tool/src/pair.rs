@@ -90,12 +90,32 @@ impl<'a> Opened<'a> {
         }
     }
 
+    /// A file that was read before, over a base that is not refused.
+    pub fn over(wad: Wad, base: &'a Base) -> Self {
+        let base = if let Base::Good(base) = base { Some(base) } else { None };
+        Self { wad, base }
+    }
+
+    /// The file with length and checksum of the bytes that were judged.
+    pub fn digests(&self, file: &OsStr) -> About {
+        let about = About::of(file, self.wad.digest());
+        match self.base {
+            None => about,
+            Some(base) => about.over(base.digest()),
+        }
+    }
+
+    /// The file's bytes, given back.
+    pub fn into_bytes(self) -> Vec<u8> {
+        self.wad.into_bytes()
+    }
+
     /// The file, with the bytes that were judged where the report shows them.
     pub fn about(&self, file: &OsStr, report: &Report) -> About {
-        match (report.is_json(), self.base) {
-            (false, _) => About::unread(file),
-            (true, None) => About::of(file, self.wad.digest()),
-            (true, Some(base)) => About::of(file, self.wad.digest()).over(base.digest()),
+        if report.is_json() {
+            self.digests(file)
+        } else {
+            About::unread(file)
         }
     }
 

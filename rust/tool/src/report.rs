@@ -91,6 +91,16 @@ impl Report {
         self.worsen(self.refused);
     }
 
+    /// Something could not be done, and was told before.
+    pub fn unfinished(&mut self) {
+        self.worsen(UNREAD);
+    }
+
+    /// Forgets what happened: a run that was told to end did so in good order.
+    pub fn pardon(&mut self) {
+        self.status = 0;
+    }
+
     /// How many of how many files are done.
     pub fn progress(&mut self, done: usize, all: usize) {
         self.progress.show(done, all);

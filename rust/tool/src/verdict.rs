@@ -133,7 +133,8 @@ impl Outcome {
         }
     }
 
-    fn refusal(&self) -> Option<&Refusal> {
+    /// The refusal, if it is one.
+    pub fn refusal(&self) -> Option<&Refusal> {
         match self {
             Self::Refused(refusal, _) => Some(refusal),
             _ => None,
@@ -249,7 +250,7 @@ impl Verdict {
     }
 
     /// What came of it, without number and place.
-    fn text(&self) -> String {
+    pub fn text(&self) -> String {
         match &self.outcome {
             Outcome::Accepted(accepted, nodes, subsectors) => {
                 let (nodes, subsectors) = (counted(*nodes, "node"), counted(*subsectors, "subsector"));

@@ -58,11 +58,23 @@ fn number_at(bytes: &[u8], at: usize) -> usize {
 impl Wad {
     /// Reads a file and has its directory judged.
     pub fn open(file: &OsStr) -> Result<Self, Fault> {
-        let bytes = input::read(file)?;
+        Self::of(input::read(file)?).map_err(|(_, fault)| fault)
+    }
+
+    /// Has the directory of some bytes judged. Refused bytes are given back.
+    pub fn of(bytes: Vec<u8>) -> Result<Self, (Vec<u8>, Fault)> {
         match meshpigeon::directory(&bytes) {
             Ok(directory) => Ok(Self { bytes, directory }),
-            Err(refusal) => Err(Fault::Refused(refusal, FileFinding::of(refusal, &bytes), Digest::of(&bytes))),
+            Err(refusal) => {
+                let fault = Fault::Refused(refusal, FileFinding::of(refusal, &bytes), Digest::of(&bytes));
+                Err((bytes, fault))
+            }
         }
+    }
+
+    /// The whole file, given back.
+    pub fn into_bytes(self) -> Vec<u8> {
+        self.bytes
     }
 
     /// A file of these lumps, one behind the other, and its directory behind them.

@@ -61,6 +61,11 @@ fn the_page_of_the_tool_shows_what_it_prints() {
 }
 
 #[test]
+fn the_page_of_the_spool_shows_what_it_prints() {
+    holds(include_str!("../../../../docs/OPERATING.md"), 10);
+}
+
+#[test]
 fn the_readme_shows_what_the_tool_prints() {
     let page = include_str!("../../../../README.md");
     holds(page, 8);

@@ -155,8 +155,9 @@ fn a_count_of_sectors_is_a_whole_number() {
 }
 
 /// All commands that have a part of the help.
-const COMMANDS: [&str; 12] =
-    ["judge", "list", "index", "extract", "descend", "order", "picture", "encode", "sidedefs", "renumber", "diff", "text"];
+const COMMANDS: [&str; 13] = [
+    "judge", "list", "index", "extract", "descend", "order", "picture", "encode", "sidedefs", "renumber", "diff", "text", "spool",
+];
 
 #[test]
 fn help_and_version_are_given() {
