@@ -68,7 +68,7 @@ fn the_page_of_the_spool_shows_what_it_prints() {
 #[test]
 fn the_readme_shows_what_the_tool_prints() {
     let page = include_str!("../../../../README.md");
-    holds(page, 8);
+    holds(page, 7);
     let all = run(&folder(), "meshpigeon judge samples/*.wad");
     assert!(all.iter().all(|line| page.contains(&format!("\n    {line}\n"))), "{all:?}");
 }
