@@ -1,5 +1,7 @@
 // One bit of a byte, read and set. Whoever notes something for each of many numbers keeps a bit for each in a local array.
 // The definitions are in specs/.
+#![tactic(auto)]
+
 ghost use Rattle.std.specs.Prelude.{◌≡◌, ◌<◌};
 ghost use Rattle.bits.specs.Bits.{bit_of, with_bit};
 

@@ -1,5 +1,7 @@
 // What changed between two maps (W-213): the numbers of the records that the new one has otherwise, lump by lump. The
 // definitions are in specs/.
+#![tactic(auto)]
+
 mod change;
 mod places;
 mod records;
@@ -20,7 +22,7 @@ pub const OLD: u32 = 1;
 pub const NEW: u32 = 2;
 
 // The check, the file that it refused, and how many records of each of the eight lumps are listed.
-#[derive(Drop)]
+#[derive(Clone, Copy)]
 pub struct Differences {
     pub check: Check,
     pub file: u32,

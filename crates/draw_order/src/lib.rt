@@ -1,5 +1,7 @@
 // The draw order: for a camera point the subsectors of a node graph, front first (W-208). The walk of a child and the walk of a
 // node call each other, and the nodes that may still be passed fall with each node.
+#![tactic(auto)]
+
 ghost use Rattle.std.specs.Prelude.{◌≡◌, ◌+◌, ◌*◌, ◌<◌, ◌≤◌, length};
 ghost use Rattle.record.specs.Nodes.{node_size};
 ghost use Rattle.draw_order.specs.Lists.{other, node_order, child_order, root_order, order_check};
@@ -14,7 +16,7 @@ use refusal::{Check, Refusal};
 const MOST_PASSED: usize = 256;
 
 // What the draw order answers.
-#[derive(Drop)]
+#[derive(Clone, Copy)]
 pub enum Order {
     // how many subsectors are listed
     Listed(usize),
@@ -22,7 +24,7 @@ pub enum Order {
 }
 
 // What a walk finds: flat, since each node on the way back hands it on.
-#[derive(Drop)]
+#[derive(Clone, Copy)]
 pub enum Visit {
     // the place behind its list
     Listed(usize),

@@ -1,5 +1,7 @@
 // Little-endian numbers of 16 and 32 bits, unsigned and signed, read out of bytes and written into them. The definitions
 // are in specs/. Callers show that the bytes lie inside the slice.
+#![tactic(auto)]
+
 ghost use Rattle.std.specs.Prelude.{◌≡◌, ◌+◌, ◌<◌, length};
 ghost use Rattle.endian.specs.Unsigned.{u16_at, u32_at, put_u16, put_u32};
 ghost use Rattle.endian.specs.Signed.{signed, bits_of, i16_at, i32_at, between, natural};

@@ -1,4 +1,6 @@
 // What changed between two maps, as C and Rust ask for it.
+#![tactic(auto)]
+
 ghost use Rattle.std.specs.Prelude.{◌≡◌};
 ghost use Rattle.export_differences.specs.Differences.{DifferencesGiven};
 
@@ -7,7 +9,7 @@ use refusal::{Status, status_of};
 // The file is noted with a refusal of a map: 1 the old one, 2 the new one. The counts are those of the eight lumps of
 // records, 0 with a refusal.
 #[repr(C)]
-#[derive(Drop)]
+#[derive(Clone, Copy)]
 pub struct DifferencesAnswer {
     pub status: Status,
     pub file: u32,

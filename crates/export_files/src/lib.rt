@@ -1,4 +1,6 @@
 // A file's directory.
+#![tactic(auto)]
+
 ghost use Rattle.std.specs.Prelude.{◌≡◌};
 ghost use Rattle.wad.specs.Entries.{directory_answer};
 ghost use Rattle.wad.specs.Lump.{entry_answer};
@@ -9,7 +11,7 @@ use refusal::{Status, nothing_refused, refused};
 use wad::{Directory, Entry, Marker};
 
 #[repr(C)]
-#[derive(Drop)]
+#[derive(Clone, Copy)]
 pub struct DirectoryAnswer {
     pub status: Status,
     pub count: usize,
@@ -17,7 +19,7 @@ pub struct DirectoryAnswer {
 }
 
 #[repr(C)]
-#[derive(Drop)]
+#[derive(Clone, Copy)]
 pub struct EntryAnswer {
     pub status: Status,
     pub offset: usize,
@@ -26,7 +28,7 @@ pub struct EntryAnswer {
 
 // `compared` counts the names that the search compared, with 11 (no such entry) too. Any other refusal leaves it 0.
 #[repr(C)]
-#[derive(Drop)]
+#[derive(Clone, Copy)]
 pub struct MarkerAnswer {
     pub status: Status,
     pub marker: usize,

@@ -1,4 +1,6 @@
 // A name index beside a file: its full check, the lookup by it, and (`build`) the index built.
+#![tactic(auto)]
+
 mod build;
 
 ghost use Rattle.std.specs.Prelude.{◌≡◌};
@@ -8,7 +10,7 @@ use refusal::{Status, nothing_refused, refused, status_of};
 use wad::Marker;
 
 #[repr(C)]
-#[derive(Drop)]
+#[derive(Clone, Copy)]
 pub struct IndexAnswer {
     pub status: Status,
     pub entry: usize,

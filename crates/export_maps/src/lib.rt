@@ -1,4 +1,6 @@
 // A map, its game, a point's descent, its draw order, and its first hazard.
+#![tactic(auto)]
+
 mod hazards;
 
 ghost use Rattle.std.specs.Prelude.{◌≡◌};
@@ -14,7 +16,7 @@ use node_descent::Descent;
 use refusal::{Status, nothing_refused, refused};
 
 #[repr(C)]
-#[derive(Drop)]
+#[derive(Clone, Copy)]
 pub struct MapAnswer {
     pub status: Status,
     pub depth: usize,
@@ -22,14 +24,14 @@ pub struct MapAnswer {
 }
 
 #[repr(C)]
-#[derive(Drop)]
+#[derive(Clone, Copy)]
 pub struct GameAnswer {
     pub status: Status,
     pub hexen: bool,
 }
 
 #[repr(C)]
-#[derive(Drop)]
+#[derive(Clone, Copy)]
 pub struct DescentAnswer {
     pub status: Status,
     pub subsector: usize,
@@ -37,7 +39,7 @@ pub struct DescentAnswer {
 }
 
 #[repr(C)]
-#[derive(Drop)]
+#[derive(Clone, Copy)]
 pub struct OrderAnswer {
     pub status: Status,
     pub count: usize,

@@ -1,4 +1,6 @@
 // A pair of files: a patch over a base.
+#![tactic(auto)]
+
 ghost use Rattle.std.specs.Prelude.{◌≡◌};
 ghost use Rattle.pair.specs.Answers.{pair_entry};
 ghost use Rattle.export_pairs.specs.Pairs.{pair_entry_out, PairMapJudged};
@@ -9,7 +11,7 @@ use wad::Entry;
 
 // The file is noted with 1 to 6, 12 and above, and acceptance: 1 the base, 2 the patch; 0 with 10 and 11.
 #[repr(C)]
-#[derive(Drop)]
+#[derive(Clone, Copy)]
 pub struct PairEntryAnswer {
     pub status: Status,
     pub file: u32,
@@ -18,7 +20,7 @@ pub struct PairEntryAnswer {
 }
 
 #[repr(C)]
-#[derive(Drop)]
+#[derive(Clone, Copy)]
 pub struct PairMapAnswer {
     pub status: Status,
     pub file: u32,

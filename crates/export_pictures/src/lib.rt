@@ -1,4 +1,6 @@
 // Pictures.
+#![tactic(auto)]
+
 ghost use Rattle.std.specs.Prelude.{◌≡◌};
 ghost use Rattle.export_pictures.specs.Pictures.{picture_out, picture_judged, PicturePainted, PictureWritten};
 
@@ -8,7 +10,7 @@ use picture_write::Encoding;
 use refusal::{LengthAnswer, Status, length_given, length_refused, nothing_refused, refused};
 
 #[repr(C)]
-#[derive(Drop)]
+#[derive(Clone, Copy)]
 pub struct PictureAnswer {
     pub status: Status,
     pub picture: Picture,

@@ -1,5 +1,7 @@
 // The eight kinds of map record, read and written by number: 60. Things and linedefs are read by their game, and say which
 // they are of; a write of one may be refused 61.
+#![tactic(auto)]
+
 ghost use Rattle.std.specs.Prelude.{◌≡◌};
 ghost use Rattle.record_thing.specs.Things.{thing_at};
 ghost use Rattle.record_linedef.specs.Linedefs.{linedef_at};
@@ -18,7 +20,7 @@ use record_thing::Thing;
 use refusal::{Check, Status, nothing_refused, refused, status_of};
 
 #[repr(C)]
-#[derive(Drop)]
+#[derive(Clone, Copy)]
 pub struct ThingAnswer {
     pub status: Status,
     pub thing: Thing,
@@ -50,7 +52,7 @@ pub extern "C" fn meshpigeon_write_thing(lump: &mut [u8], index: usize, thing: T
 }
 
 #[repr(C)]
-#[derive(Drop)]
+#[derive(Clone, Copy)]
 pub struct LinedefAnswer {
     pub status: Status,
     pub linedef: Linedef,
@@ -86,7 +88,7 @@ pub extern "C" fn meshpigeon_write_linedef(
 }
 
 #[repr(C)]
-#[derive(Drop)]
+#[derive(Clone, Copy)]
 pub struct SidedefAnswer {
     pub status: Status,
     pub sidedef: Sidedef,
@@ -122,7 +124,7 @@ pub extern "C" fn meshpigeon_write_sidedef(
 }
 
 #[repr(C)]
-#[derive(Drop)]
+#[derive(Clone, Copy)]
 pub struct VertexAnswer {
     pub status: Status,
     pub vertex: Vertex,
@@ -154,7 +156,7 @@ pub extern "C" fn meshpigeon_write_vertex(lump: &mut [u8], index: usize, vertex:
 }
 
 #[repr(C)]
-#[derive(Drop)]
+#[derive(Clone, Copy)]
 pub struct SegAnswer {
     pub status: Status,
     pub seg: Seg,
@@ -186,7 +188,7 @@ pub extern "C" fn meshpigeon_write_seg(lump: &mut [u8], index: usize, seg: Seg) 
 }
 
 #[repr(C)]
-#[derive(Drop)]
+#[derive(Clone, Copy)]
 pub struct SubsectorAnswer {
     pub status: Status,
     pub subsector: Subsector,
@@ -222,7 +224,7 @@ pub extern "C" fn meshpigeon_write_subsector(
 }
 
 #[repr(C)]
-#[derive(Drop)]
+#[derive(Clone, Copy)]
 pub struct NodeAnswer {
     pub status: Status,
     pub node: Node,
@@ -254,7 +256,7 @@ pub extern "C" fn meshpigeon_write_node(lump: &mut [u8], index: usize, node: Nod
 }
 
 #[repr(C)]
-#[derive(Drop)]
+#[derive(Clone, Copy)]
 pub struct SectorAnswer {
     pub status: Status,
     pub sector: Sector,

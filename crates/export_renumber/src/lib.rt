@@ -1,4 +1,6 @@
 // NODES of a map renumbered, as C and Rust ask for it.
+#![tactic(auto)]
+
 ghost use Rattle.std.specs.Prelude.{◌≡◌};
 ghost use Rattle.export_renumber.specs.Renumberings.{length_out, RenumberingGiven};
 

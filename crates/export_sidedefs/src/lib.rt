@@ -1,4 +1,6 @@
 // SIDEDEFS as they arrive.
+#![tactic(auto)]
+
 ghost use Rattle.std.specs.Prelude.{◌≡◌};
 ghost use Rattle.sidedefs_stream.specs.Scraps.{started, fed};
 ghost use Rattle.export_sidedefs.specs.Sidedefs.{sidedefs_judged};

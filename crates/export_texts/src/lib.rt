@@ -1,4 +1,6 @@
 // Text maps: the summary, the next block, and the records of blocks.
+#![tactic(auto)]
+
 mod records;
 
 ghost use Rattle.std.specs.Prelude.{◌≡◌};
@@ -14,7 +16,7 @@ use text_map::{BlockAnswer, TextAnswer};
 use text_table::Scope;
 
 #[repr(C)]
-#[derive(Drop)]
+#[derive(Clone, Copy)]
 pub struct TextMapAnswer {
     pub status: Status,
     pub namespace_start: usize,
@@ -27,7 +29,7 @@ pub struct TextMapAnswer {
 }
 
 #[repr(C)]
-#[derive(Drop)]
+#[derive(Clone, Copy)]
 pub struct TextBlockAnswer {
     pub status: Status,
     pub kind: u32,

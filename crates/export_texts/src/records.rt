@@ -8,7 +8,7 @@ use text_map::BlockFields;
 use text_record::{TextLinedef, TextSector, TextSidedef, TextThing, TextVertex};
 
 #[repr(C)]
-#[derive(Drop)]
+#[derive(Clone, Copy)]
 pub struct TextVertexAnswer {
     pub status: Status,
     pub vertex: TextVertex,
@@ -16,7 +16,7 @@ pub struct TextVertexAnswer {
 }
 
 #[repr(C)]
-#[derive(Drop)]
+#[derive(Clone, Copy)]
 pub struct TextLinedefAnswer {
     pub status: Status,
     pub linedef: TextLinedef,
@@ -24,7 +24,7 @@ pub struct TextLinedefAnswer {
 }
 
 #[repr(C)]
-#[derive(Drop)]
+#[derive(Clone, Copy)]
 pub struct TextSidedefAnswer {
     pub status: Status,
     pub sidedef: TextSidedef,
@@ -32,7 +32,7 @@ pub struct TextSidedefAnswer {
 }
 
 #[repr(C)]
-#[derive(Drop)]
+#[derive(Clone, Copy)]
 pub struct TextSectorAnswer {
     pub status: Status,
     pub sector: TextSector,
@@ -40,7 +40,7 @@ pub struct TextSectorAnswer {
 }
 
 #[repr(C)]
-#[derive(Drop)]
+#[derive(Clone, Copy)]
 pub struct TextThingAnswer {
     pub status: Status,
     pub thing: TextThing,

@@ -1,4 +1,6 @@
 // A map with the reason of its verdict, as C and Rust ask for it.
+#![tactic(auto)]
+
 ghost use Rattle.std.specs.Prelude.{◌≡◌};
 ghost use Rattle.export_why.specs.Reasons.{reason_out, ReasonGiven};
 
@@ -6,7 +8,7 @@ use map_check::Verdict;
 use refusal::{Status, nothing_refused, refused};
 
 #[repr(C)]
-#[derive(Drop)]
+#[derive(Clone, Copy)]
 pub struct ReasonAnswer {
     pub status: Status,
     pub depth: usize,

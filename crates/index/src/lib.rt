@@ -1,5 +1,7 @@
 // The records of a name index (W-210): a name and an entry number, and which comes first. The definitions are in
 // specs/.
+#![tactic(auto)]
+
 pub mod keys;
 pub mod names;
 
@@ -8,7 +10,7 @@ ghost use Rattle.index.specs.Records.{record_at, precedes};
 
 // A name's eight bytes, zeros after the first zero, and the number of an entry that has it.
 #[repr(C)]
-#[derive(Drop)]
+#[derive(Clone, Copy)]
 pub struct IndexRecord {
     pub name: [u8; 8],
     pub number: u16,

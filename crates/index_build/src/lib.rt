@@ -1,6 +1,8 @@
 // Builds a name index (W-210): every entry is put into a lent slice of records, the slice is sorted in place and then
 // written out. The definitions are in specs/. `build`, `fill`, `sort` and `write` take a slice of records; a walk of
 // their MIR by hand proves them.
+#![tactic(auto)]
+
 ghost use Rattle.std.specs.Prelude.{◌≡◌};
 ghost use Rattle.index_build.specs.Building.{Builds};
 ghost use Rattle.index_build.specs.Inner.{entries_in};
@@ -13,7 +15,7 @@ use index::IndexRecord;
 use refusal::Refusal;
 
 // How many bytes were written, or why none were.
-#[derive(Drop)]
+#[derive(Clone, Copy)]
 pub enum Building {
     Written(usize),
     Refused(Refusal),

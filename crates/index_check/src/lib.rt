@@ -1,4 +1,6 @@
 // The full check of a name index beside its file (W-210). The definitions are in specs/.
+#![tactic(auto)]
+
 mod head;
 mod records;
 

@@ -7,14 +7,14 @@ ghost use Rattle.index_find.specs.Inner.{comparison, gone_by};
 use index::keys::key_of;
 
 // What one comparison tells of a record's name: it is above the asked name, or equal to it, or neither.
-#[derive(Drop)]
+#[derive(Clone, Copy)]
 pub struct Comparison {
     pub above: bool,
     pub equal: bool,
 }
 
 // How many records were gone past, whether the last of them has the asked name, and how many names were compared.
-#[derive(Drop)]
+#[derive(Clone, Copy)]
 pub struct GonePast {
     pub past: usize,
     pub equal: bool,

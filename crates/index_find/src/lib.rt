@@ -1,4 +1,6 @@
 // The last entry of a name by an index (W-210). The definitions are in specs/.
+#![tactic(auto)]
+
 mod halves;
 
 ghost use Rattle.std.specs.Prelude.{◌≡◌, ◌*◌, ◌≤◌, length};

@@ -1,6 +1,8 @@
 // BLOCKMAP: refusal 28. Cells may share lists and lists may overlap, so no list is walked by itself: one pass from the lump's
 // end notes for each place that an offset can reach whether the words from there on end a list well. The definitions are in
 // specs/.
+#![tactic(auto)]
+
 ghost use Rattle.std.specs.Prelude.{true, ◌&&◌, cond, ◌≡◌, ◌+◌, ◌-◌, ◌<◌, ◌≤◌, min, ltb, eqb, length};
 ghost use Rattle.refusal.specs.Checks.{each};
 ghost use Rattle.map_blockmap.specs.Blockmap.{word_count, word_at, cells_of, side_ok, header_ok, list_ok, cell_check, blockmap_check};

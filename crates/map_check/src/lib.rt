@@ -1,4 +1,6 @@
 // The map check: one map of a file, by its name, judged whole. The definitions are in specs/.
+#![tactic(auto)]
+
 mod lumps;
 
 ghost use Rattle.std.specs.Prelude.{◌≡◌, ◌*◌, ◌/◌, ◌<◌, ◌≤◌, length};
@@ -17,7 +19,7 @@ use refusal::{Check, Refusal};
 use wad::Marker;
 
 // What is answered of a map.
-#[derive(Drop)]
+#[derive(Clone, Copy)]
 pub enum Verdict {
     // the largest number of nodes on a route, and the marker's entry number
     Accepted { depth: usize, marker: usize },

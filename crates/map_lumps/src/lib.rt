@@ -1,5 +1,7 @@
 // The ten lumps of a map as parts of the file; their names and the map's game (`run`); their sizes and counts (`size`). The
 // definitions are in specs/.
+#![tactic(auto)]
+
 mod run;
 mod size;
 

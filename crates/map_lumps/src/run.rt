@@ -7,7 +7,7 @@ ghost use Rattle.map_lumps.specs.Games.{game_at, game_answer};
 use refusal::{Check, Refusal};
 
 // What is answered of a map's game.
-#[derive(Drop)]
+#[derive(Clone, Copy)]
 pub enum Game {
     Doom,
     Hexen,

@@ -1,5 +1,7 @@
 // The references of a map's records to each other: refusals 23 to 27, each over one lump. Each lump's count is how many whole
 // records it has. The definitions are in specs/.
+#![tactic(auto)]
+
 ghost use Rattle.std.specs.Prelude.{◌≡◌, ◌+◌, ◌*◌, ◌/◌, ◌<◌, ◌≤◌, ltb, length};
 ghost use Rattle.endian.specs.Unsigned.{u16_at};
 ghost use Rattle.refusal.specs.Checks.{each};

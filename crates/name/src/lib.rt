@@ -1,5 +1,7 @@
 // Names of eight bytes: which are good, which are the same, and which are a map's. What follows a name's first zero is not
 // looked at.
+#![tactic(auto)]
+
 ghost use Rattle.std.specs.Prelude.{◌≡◌, length};
 ghost use Rattle.name.specs.Names.{name_of, within, character_ok, name_ok, same_name, episode_name, low_name, high_name, map_name_ok};
 

@@ -1,4 +1,6 @@
 // A node's two children, and whether they are in range. The definitions are in specs/.
+#![tactic(auto)]
+
 ghost use Rattle.std.specs.Prelude.{◌≡◌, ◌+◌, ◌*◌, ◌≤◌, ◌<◌, length};
 ghost use Rattle.endian.specs.Unsigned.{u16_at};
 ghost use Rattle.record.specs.Nodes.{node_size};
@@ -10,7 +12,7 @@ use record::Node;
 pub const SUBSECTOR_BIT: usize = 32768;
 
 // A choice at a node: which child is taken.
-#[derive(Drop)]
+#[derive(Clone, Copy)]
 pub enum Choice {
     Right,
     Left,

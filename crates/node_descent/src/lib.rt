@@ -1,4 +1,6 @@
 // The descent of a point to its subsector; `side` says on which side of a line the point is. The definitions are in specs/.
+#![tactic(auto)]
+
 mod side;
 
 ghost use Rattle.std.specs.Prelude.{◌≡◌, ◌+◌, ◌*◌, ◌≤◌, ◌<◌, length};
@@ -16,7 +18,7 @@ pub use side::side_at;
 const MOST: usize = 32767;
 
 // What the descent of a point answers.
-#[derive(Drop)]
+#[derive(Clone, Copy)]
 pub enum Descent {
     // the subsector, and how many nodes were passed
     Found { subsector: usize, count: usize },

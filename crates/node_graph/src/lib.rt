@@ -1,6 +1,8 @@
 // Loop, shared child or depth of a node graph, by a search from the root: always to a child not met yet, back where there is
 // none. Each node is put on the path once and taken off it once; then the children of the nodes met are looked at once more.
 // specs/Looks.antt says what the work words hold.
+#![tactic(auto)]
+
 ghost use Rattle.std.specs.Prelude.{◌≡◌, max, ◌+◌, ◌≤◌, ◌<◌, length};
 ghost use Rattle.node_route.specs.Heights.{graph_verdict};
 ghost use Rattle.node_graph.specs.Judging.{Judgeable, GraphJudged, cleared};
@@ -15,7 +17,7 @@ use node_route::Graph;
 pub const ON_PATH: u16 = 65535;
 
 // What the marks say of a child.
-#[derive(Drop)]
+#[derive(Clone, Copy)]
 pub enum Look {
     // a node not met yet
     New(usize),
@@ -26,7 +28,7 @@ pub enum Look {
 }
 
 // What a step finds.
-#[derive(Drop)]
+#[derive(Clone, Copy)]
 pub enum Step {
     Looped,
     // the path's new length
@@ -34,7 +36,7 @@ pub enum Step {
 }
 
 // What the search finds.
-#[derive(Drop)]
+#[derive(Clone, Copy)]
 pub enum Search {
     // a loop, and how many choices lead into it
     Looping(usize),

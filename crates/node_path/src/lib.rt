@@ -1,5 +1,7 @@
 // Why a node graph is judged as it is (W-211): the choices that lead into a loop, or a route as long as the depth. The search that
 // judges the graph leaves both in its marks; they are printed before the words are cleared.
+#![tactic(auto)]
+
 ghost use Rattle.std.specs.Prelude.{◌≡◌, cond, ◌++◌, ◌+◌, ◌*◌, ◌<◌, ◌≤◌, length, drop};
 ghost use Rattle.node.specs.declared.Choice.TheVariants.{Right, Left};
 ghost use Rattle.node.specs.Nodes.{subsector_bit};
@@ -15,7 +17,7 @@ use node_graph::Search;
 use node_route::Graph;
 
 // The graph's verdict, and how many bytes there are to print with it.
-#[derive(Drop)]
+#[derive(Clone, Copy)]
 pub struct Told {
     pub verdict: Graph,
     pub length: usize,

@@ -1,4 +1,6 @@
 // Whether two of a graph's marked nodes, or the two choices at one, lead to the same child (W-202). One look at each child.
+#![tactic(auto)]
+
 ghost use Rattle.std.specs.Prelude.{◌≡◌, ◌+◌, ◌*◌, ◌<◌, ◌≤◌, length};
 ghost use Rattle.node_route.specs.Heights.{repeats};
 ghost use Rattle.record.specs.Nodes.{node_size};

@@ -1,5 +1,7 @@
 // The box's pair of files: a lump or a map by its name, out of a patch where it has the name, otherwise out of the base. Both
 // files are judged whole first. The definitions are in specs/.
+#![tactic(auto)]
+
 mod search;
 
 ghost use Rattle.std.specs.Prelude.{◌≡◌};
@@ -11,14 +13,14 @@ use search::{search_lump, search_map};
 use wad::{Entry, Marker};
 
 // What is answered of a lump.
-#[derive(Drop)]
+#[derive(Clone, Copy)]
 pub struct PairEntry {
     pub file: u32,
     pub entry: Entry,
 }
 
 // What is answered of a map.
-#[derive(Drop)]
+#[derive(Clone, Copy)]
 pub struct PairVerdict {
     pub file: u32,
     pub verdict: Verdict,

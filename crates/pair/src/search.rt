@@ -16,7 +16,7 @@ pub const BASE: u32 = 1;
 pub const PATCH: u32 = 2;
 
 // What a search of both files answers: the file that has the entry, or is refused, and the entry or the refusal.
-#[derive(Drop)]
+#[derive(Clone, Copy)]
 pub struct PairSearch {
     pub file: u32,
     pub marker: Marker,

@@ -1,4 +1,6 @@
 // Pictures, judged. The format and the order of the refusals are in specs/.
+#![tactic(auto)]
+
 ghost use Rattle.std.specs.Prelude.{◌≡◌};
 ghost use Rattle.picture.specs.Judging.{picture_check, picture_answer};
 
@@ -11,7 +13,7 @@ use refusal::{Check, Refusal};
 pub use skipping::skip_posts;
 
 // What is answered of a lump: by the judge, and by the painter in the crate above.
-#[derive(Drop)]
+#[derive(Clone, Copy)]
 pub enum PictureVerdict {
     // a picture, by its header
     Accepted(Picture),

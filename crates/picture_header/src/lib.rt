@@ -1,4 +1,6 @@
 // A picture's header, and the checks that come before any column: 50, 51 and 52. The definitions are in specs/.
+#![tactic(auto)]
+
 ghost use Rattle.std.specs.Prelude.{◌≡◌, ◌≤◌, ◌<◌, length};
 ghost use Rattle.picture_header.specs.Layout.{width_of, height_of, picture_of};
 ghost use Rattle.picture_header.specs.Headers.{size_ok, picture_header_check};
@@ -7,7 +9,7 @@ use refusal::{Check, Refusal};
 
 // A picture's header: its size in pixels, and the offsets of its origin.
 #[repr(C)]
-#[derive(Drop)]
+#[derive(Clone, Copy)]
 pub struct Picture {
     pub width: usize,
     pub height: usize,

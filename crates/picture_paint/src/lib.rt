@@ -1,4 +1,6 @@
 // Painting: a picture into two lent planes, colour and cover. Nothing is written before the whole picture has passed.
+#![tactic(auto)]
+
 ghost use Rattle.std.specs.Prelude.{◌≡◌, ◌++◌, ◌+◌, ◌*◌, ◌≤◌, ◌<◌, length, drop, replicate};
 ghost use Rattle.refusal.specs.declared.Check.TheVariants.{Pass};
 ghost use Rattle.refusal.specs.Checks.{◌and_then◌, each};

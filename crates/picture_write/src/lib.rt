@@ -1,4 +1,6 @@
 // A picture lump written from lent colour and cover. Nothing is written before all is judged and the lump's length is known.
+#![tactic(auto)]
+
 ghost use Rattle.std.specs.Prelude.{◌≡◌, ◌*◌, ◌≤◌, length};
 ghost use Rattle.refusal.specs.declared.Check.TheVariants.{Pass};
 ghost use Rattle.picture_header.specs.declared.Picture.{Picture};
@@ -14,7 +16,7 @@ use picture_header::Picture;
 use refusal::{Check, Refusal};
 
 // What is answered of pixels to be written.
-#[derive(Drop)]
+#[derive(Clone, Copy)]
 pub enum Encoding {
     // the lump, by its length
     Written(usize),

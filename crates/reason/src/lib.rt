@@ -1,5 +1,7 @@
 // Why a map is judged as it is (W-211): the map check, and with its verdict the reason, printed into a lent output. The
 // definitions are in specs/.
+#![tactic(auto)]
+
 ghost use Rattle.std.specs.Prelude.{◌≡◌, ◌*◌, ◌+◌, ◌<◌, ◌≤◌, length};
 ghost use Rattle.refusal.specs.declared.Check.TheVariants.{Pass};
 ghost use Rattle.wad.specs.Header.{head_of, entry_count};
@@ -21,7 +23,7 @@ use wad::Marker;
 const FIELD_SIZE: usize = 16;
 
 // The verdict, and how many bytes were printed with it. 85 stands alone.
-#[derive(Drop)]
+#[derive(Clone, Copy)]
 pub struct Reason {
     pub verdict: Verdict,
     pub length: usize,

@@ -1,5 +1,7 @@
 // Why BLOCKMAP is refused 28: the first field of its header, or of one cell, that is out of its range. The cell's list is
 // walked once. The definitions are in specs/.
+#![tactic(auto)]
+
 ghost use Rattle.std.specs.Prelude.{◌++◌, ◌≡◌, ◌+◌, ◌-◌, ◌<◌, ◌≤◌, length};
 ghost use Rattle.map_blockmap.specs.Blockmap.{word_count, word_at, cells_of};
 ghost use Rattle.reason_range.specs.Fields.{first_out};

@@ -1,4 +1,6 @@
 // The field that a refusal 23 to 28 names (W-211), read in place in the map's lumps, and printed.
+#![tactic(auto)]
+
 ghost use Rattle.std.specs.Prelude.{◌≡◌, ◌<◌, ◌≤◌, length};
 ghost use Rattle.wad.specs.Header.{most_bytes};
 ghost use Rattle.reason_range.specs.Fields.{FieldFits, put_field, first_out};

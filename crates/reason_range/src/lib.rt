@@ -1,10 +1,12 @@
 // A field with the range that is allowed there: whether it is in it, which of two is named, and how it is written. The
 // definitions are in specs/.
+#![tactic(auto)]
+
 ghost use Rattle.std.specs.Prelude.{◌≡◌, ◌≤◌, length};
 ghost use Rattle.reason_range.specs.Fields.{in_range, first_of, no_field, put_field, FieldFits};
 
 // A field of a record, or of BLOCKMAP.
-#[derive(Drop)]
+#[derive(Clone, Copy)]
 pub struct Field {
     // where it stands, in bytes from the record's start, or the lump's
     pub offset: usize,

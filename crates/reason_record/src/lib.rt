@@ -1,5 +1,7 @@
 // Why a record is refused (23 to 27): the first of its fields that is out of its range, each over one lump, read in
 // place. The definitions are in specs/. Callers show that the counts are those that 21 lets pass.
+#![tactic(auto)]
+
 ghost use Rattle.std.specs.Prelude.{◌≡◌, ◌+◌, ◌-◌, ◌/◌, ◌<◌, ◌≤◌, cond, length};
 ghost use Rattle.endian.specs.Unsigned.{u16_at};
 ghost use Rattle.reason_range.specs.Fields.{FieldFits, field_at, no_field, first_of, first_out};

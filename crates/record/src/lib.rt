@@ -1,5 +1,7 @@
 // Sidedefs, vertices and sectors, and the three kinds that a node builder makes of a map: segs, subsectors and nodes, read and
 // written by number. specs/ has the definitions; things and linedefs, which differ by the game, are crates of their own.
+#![tactic(auto)]
+
 pub mod node;
 pub mod sector;
 pub mod seg;

@@ -6,7 +6,7 @@ ghost use Rattle.record.specs.Nodes.{node_size, node_of, node_bytes, node_at};
 use refusal::Check;
 
 #[repr(C)]
-#[derive(Drop)]
+#[derive(Clone, Copy)]
 pub struct Node {
     // a point of the line, and its direction
     pub x: i16,
@@ -22,7 +22,7 @@ pub struct Node {
 }
 
 // What a read answers: the record is all 0 where refused.
-#[derive(Drop)]
+#[derive(Clone, Copy)]
 pub struct NodeRead {
     pub check: Check,
     pub node: Node,

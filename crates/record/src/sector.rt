@@ -6,7 +6,7 @@ ghost use Rattle.record.specs.Sectors.{sector_size, sector_of, sector_bytes, sec
 use refusal::Check;
 
 #[repr(C)]
-#[derive(Drop)]
+#[derive(Clone, Copy)]
 pub struct Sector {
     // heights
     pub floor: i16,
@@ -20,7 +20,7 @@ pub struct Sector {
 }
 
 // What a read answers: the record is all 0 where refused.
-#[derive(Drop)]
+#[derive(Clone, Copy)]
 pub struct SectorRead {
     pub check: Check,
     pub sector: Sector,

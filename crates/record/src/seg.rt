@@ -6,7 +6,7 @@ ghost use Rattle.record.specs.Segs.{seg_size, seg_of, seg_bytes, seg_at};
 use refusal::Check;
 
 #[repr(C)]
-#[derive(Drop)]
+#[derive(Clone, Copy)]
 pub struct Seg {
     // numbers of vertices
     pub start: u16,
@@ -21,7 +21,7 @@ pub struct Seg {
 }
 
 // What a read answers: the record is all 0 where refused.
-#[derive(Drop)]
+#[derive(Clone, Copy)]
 pub struct SegRead {
     pub check: Check,
     pub seg: Seg,

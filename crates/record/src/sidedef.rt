@@ -6,7 +6,7 @@ ghost use Rattle.record.specs.Sidedefs.{sidedef_size, sidedef_of, sidedef_bytes,
 use refusal::Check;
 
 #[repr(C)]
-#[derive(Drop)]
+#[derive(Clone, Copy)]
 pub struct Sidedef {
     pub x_offset: i16,
     pub y_offset: i16,
@@ -19,7 +19,7 @@ pub struct Sidedef {
 }
 
 // What a read answers: the record is all 0 where refused.
-#[derive(Drop)]
+#[derive(Clone, Copy)]
 pub struct SidedefRead {
     pub check: Check,
     pub sidedef: Sidedef,

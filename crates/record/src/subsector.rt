@@ -6,7 +6,7 @@ ghost use Rattle.record.specs.Subsectors.{subsector_size, subsector_of, subsecto
 use refusal::Check;
 
 #[repr(C)]
-#[derive(Drop)]
+#[derive(Clone, Copy)]
 pub struct Subsector {
     // how many segs, and the number of the first
     pub number: u16,
@@ -14,7 +14,7 @@ pub struct Subsector {
 }
 
 // What a read answers: the record is all 0 where refused.
-#[derive(Drop)]
+#[derive(Clone, Copy)]
 pub struct SubsectorRead {
     pub check: Check,
     pub subsector: Subsector,

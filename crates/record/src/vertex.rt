@@ -6,14 +6,14 @@ ghost use Rattle.record.specs.Vertexes.{vertex_size, vertex_of, vertex_bytes, ve
 use refusal::Check;
 
 #[repr(C)]
-#[derive(Drop)]
+#[derive(Clone, Copy)]
 pub struct Vertex {
     pub x: i16,
     pub y: i16,
 }
 
 // What a read answers: the record is all 0 where refused.
-#[derive(Drop)]
+#[derive(Clone, Copy)]
 pub struct VertexRead {
     pub check: Check,
     pub vertex: Vertex,

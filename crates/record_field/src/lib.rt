@@ -1,5 +1,7 @@
 // What every kind of record shares: a record as a part of its lump, `size` bytes from `size * index` on, and the fields that
 // are no single numbers. specs/ has the definitions.
+#![tactic(auto)]
+
 ghost use Rattle.std.specs.Prelude.{◌≡◌, ◌+◌, ◌≤◌, ◌<◌, ◌/◌, length, take, set};
 ghost use Rattle.std.proofs.Math.Seq.{paste};
 ghost use Rattle.record_field.specs.Fields.{name_at, four_at, put_four, args_at, args_zero, put_action};

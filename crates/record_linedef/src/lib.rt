@@ -1,5 +1,7 @@
 // A record of LINEDEFS: a line between two vertices, with a sidedef on its right and perhaps one on its left, of Doom's
 // fourteen bytes or of Hexen's sixteen.
+#![tactic(auto)]
+
 ghost use Rattle.std.specs.Prelude.{true, false, ◌≡◌, ◌≤◌, length};
 ghost use Rattle.record_field.specs.Records.{WrittenIf};
 ghost use Rattle.record_linedef.specs.Linedefs.{linedef_size, right_offset, left_offset, linedef_of, linedef_fields_ok, linedef_bytes, linedef_at};
@@ -11,7 +13,7 @@ pub const NO_SIDEDEF: usize = 65535;
 
 // What its game lacks is 0: the arguments in Doom, the tag in Hexen.
 #[repr(C)]
-#[derive(Drop)]
+#[derive(Clone, Copy)]
 pub struct Linedef {
     // Hexen's record, else Doom's
     pub hexen: bool,
@@ -30,7 +32,7 @@ pub struct Linedef {
 }
 
 // What a read answers: the record is all 0 where refused.
-#[derive(Drop)]
+#[derive(Clone, Copy)]
 pub struct LinedefRead {
     pub check: Check,
     pub linedef: Linedef,

@@ -1,4 +1,6 @@
 // The table of a map's lumps, by their places after the marker, 1 to 10.
+#![tactic(auto)]
+
 ghost use Rattle.std.specs.Prelude.{◌≡◌, ◌<◌, ◌≤◌, get_or};
 ghost use Rattle.record_table.specs.Lumps.{lump_name, record_size, least_count, most_count, kinds, no_kind};
 
@@ -12,7 +14,7 @@ pub const REJECT: usize = 9;
 pub const BLOCKMAP: usize = 10;
 
 // A lump's name, zero padded, and its record's size in bytes in Doom and in Hexen, 0 where it has no records.
-#[derive(Drop)]
+#[derive(Clone, Copy)]
 pub struct LumpRow {
     pub name: [u8; 8],
     pub size: usize,
@@ -74,7 +76,7 @@ pub const LUMPS: [LumpRow; 10] = [
 ];
 
 // How many records the lump may have: the least and the most.
-#[derive(Drop)]
+#[derive(Clone, Copy)]
 pub struct CountRow(pub usize, pub usize);
 
 // THINGS to SECTORS; REJECT and BLOCKMAP have no records to count.
@@ -90,7 +92,7 @@ pub const COUNTS: [CountRow; 8] = [
 ];
 
 // What a kind of record carries as constants of its type: place, size, and size in Hexen.
-#[derive(Drop)]
+#[derive(Clone, Copy)]
 pub struct KindRow(pub usize, pub usize, pub usize);
 
 const KINDS: [KindRow; 8] = [

@@ -1,4 +1,6 @@
 // A record of THINGS: a monster, an item or a start, of Doom's ten bytes or of Hexen's twenty.
+#![tactic(auto)]
+
 ghost use Rattle.std.specs.Prelude.{true, false, ◌≡◌, ◌≤◌, length};
 ghost use Rattle.record_field.specs.Records.{WrittenIf};
 ghost use Rattle.record_thing.specs.Things.{thing_size, thing_of, thing_fields_ok, doom_thing, hexen_thing, doom_thing_bytes, hexen_thing_bytes, thing_bytes, thing_at};
@@ -7,7 +9,7 @@ use refusal::Check;
 
 // What its game lacks is 0: id, height, action and arguments in Doom.
 #[repr(C)]
-#[derive(Drop)]
+#[derive(Clone, Copy)]
 pub struct Thing {
     // Hexen's record, else Doom's
     pub hexen: bool,
@@ -28,7 +30,7 @@ pub struct Thing {
 }
 
 // What a read answers: the record is all 0 where refused.
-#[derive(Drop)]
+#[derive(Clone, Copy)]
 pub struct ThingRead {
     pub check: Check,
     pub thing: Thing,

@@ -1,5 +1,7 @@
 // The table of refusals as one enum, with the three numbers that a caller is given for each, and the answer of a check.
 // The table itself is specs/Table.antt.
+#![tactic(auto)]
+
 mod status;
 
 ghost use Rattle.std.specs.Prelude.{◌≡◌};
@@ -11,7 +13,7 @@ pub use status::{
 };
 
 // One case for each number of the table, with the place or the record that varies.
-#[derive(Drop)]
+#[derive(Clone, Copy)]
 pub enum Refusal {
     // 1: the file's length
     FileLength,
@@ -130,14 +132,14 @@ pub enum Refusal {
 }
 
 // What a check answers.
-#[derive(Drop)]
+#[derive(Clone, Copy)]
 pub enum Check {
     Pass,
     Refused(Refusal),
 }
 
 // A row of the table: number, place and record. An unnamed part is 0.
-#[derive(Drop)]
+#[derive(Clone, Copy)]
 pub struct Row(pub u32, pub usize, pub usize);
 
 // The refusal's row.

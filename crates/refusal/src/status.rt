@@ -6,7 +6,7 @@ use crate::{Check, Refusal};
 
 // The refusal's number, place and record; all 0 where nothing was refused.
 #[repr(C)]
-#[derive(Drop)]
+#[derive(Clone, Copy)]
 pub struct Status {
     pub number: u32,
     pub place: usize,
@@ -44,7 +44,7 @@ pub fn status_of(c: Check) -> Status
 
 // How many bytes were written; 0 with a refusal.
 #[repr(C)]
-#[derive(Drop)]
+#[derive(Clone, Copy)]
 pub struct LengthAnswer {
     pub status: Status,
     pub length: usize,

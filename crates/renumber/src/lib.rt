@@ -1,5 +1,7 @@
 // NODES renumbered so that children come before their parents (W-212), by an untrusted list. The definitions are in
 // specs/.
+#![tactic(auto)]
+
 mod writing;
 
 ghost use Rattle.std.specs.Prelude.{◌≡◌, ◌*◌, ◌<◌, eqb};
@@ -19,7 +21,7 @@ use refusal::{Check, Refusal};
 use wad::Marker;
 
 // How many bytes were written, or why none were.
-#[derive(Drop)]
+#[derive(Clone, Copy)]
 pub enum Renumbering {
     Written(usize),
     Refused(Refusal),

@@ -1,6 +1,8 @@
 // The node graph and the list to renumber by (W-212), judged: 31 and 32, then 73, 70, 72, 71 and 74. The search of `node_graph`
 // leaves its marks in the first run of words. `places` then keeps the place of each node in the second run. Each test looks at
 // each number of the list once.
+#![tactic(auto)]
+
 mod places;
 
 ghost use Rattle.std.specs.Prelude.{◌≡◌, ◌+◌, ◌*◌, ◌≤◌, ◌<◌, length};

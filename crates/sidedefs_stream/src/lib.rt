@@ -1,5 +1,7 @@
 // SIDEDEFS judged as they arrive, in scraps of any length: refusals 80, 81, 20, 21 and 24. The state is kept by the caller,
 // and of the bytes one half of a sector at most. The definitions are in specs/.
+#![tactic(auto)]
+
 ghost use Rattle.std.specs.Prelude.{◌≡◌, cond, ◌+◌, ◌%◌, ◌≤◌, ◌<◌, length};
 ghost use Rattle.record.specs.Sidedefs.{sidedef_size};
 ghost use Rattle.wad.specs.Header.{most_bytes};
@@ -17,7 +19,7 @@ const HIGH: usize = 29;
 
 // What is known of the lump between two scraps.
 #[repr(C)]
-#[derive(Drop)]
+#[derive(Clone, Copy)]
 pub struct Stream {
     // as given at the start
     pub sectors: usize,

@@ -1,5 +1,7 @@
 // The blocks of a text map (W-206): how many there are, which one is asked for, and the places of their fields' values.
 // The definitions are in specs/.
+#![tactic(auto)]
+
 ghost use Rattle.std.specs.Prelude.{false, not, cond, ◌≡◌, ◌≤◌, ◌<◌, eqb, length};
 ghost use Rattle.text_table.specs.Rows.{rows_of, required_at};
 ghost use Rattle.text_table.specs.Scopes.{scope_number};
@@ -12,7 +14,7 @@ use text_table::Scope;
 // What is wanted next: a statement; `=` behind an identifier, from its first byte to the byte behind it; a value for a
 // name of the scope, counted from 1, 0 for an unknown one; `;` behind the value at a place for such a name; or nothing
 // more.
-#[derive(Drop)]
+#[derive(Clone, Copy)]
 pub enum Wanted {
     Statement,
     Equals(usize, usize),
@@ -23,7 +25,7 @@ pub enum Wanted {
 
 // Which block is asked for: none; a kind's block of a number; the first of a kind, and nothing behind it; or the first
 // of any known kind, and nothing behind its opening brace.
-#[derive(Drop)]
+#[derive(Clone, Copy)]
 pub enum Asked {
     Nothing,
     Numbered(Scope, usize),
@@ -32,7 +34,7 @@ pub enum Asked {
 }
 
 // How many blocks of each kind.
-#[derive(Drop)]
+#[derive(Clone, Copy)]
 pub struct Counts {
     pub vertices: usize,
     pub linedefs: usize,

@@ -1,4 +1,6 @@
 // Which bytes are what in a text map (W-206). The definitions are in specs/.
+#![tactic(auto)]
+
 ghost use Rattle.std.specs.Prelude.{◌≡◌, get_or};
 ghost use Rattle.text_byte.specs.Bytes.{is_blank, is_mark, opens_line, opens_comment, ends_word, is_digit, is_hex_digit, is_letter, is_name_byte, lower, lower_at};
 ghost use Rattle.text_byte.specs.WordBytes.{is_plain, stops_word};

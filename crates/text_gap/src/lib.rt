@@ -1,4 +1,6 @@
 // White space and comments between the tokens of a text map (W-206). The definitions are in specs/.
+#![tactic(auto)]
+
 ghost use Rattle.std.specs.Prelude.{◌≡◌, ◌+◌, ◌-◌, ◌≤◌, ◌<◌, length};
 ghost use Rattle.text_gap.specs.declared.Mode.TheVariants.{Between, Line, Opening, Comment};
 ghost use Rattle.text_gap.specs.Gaps.{is_open, gap_from};
@@ -10,7 +12,7 @@ use text_byte as bytes;
 
 // How the reading of a gap goes on: between tokens, in a comment up to the line's end, at the star that opens a
 // comment, in that comment, behind a star in it, and at a token's first byte.
-#[derive(Drop)]
+#[derive(Clone, Copy)]
 pub enum Mode {
     Between,
     Line,
@@ -20,7 +22,7 @@ pub enum Mode {
     Stop,
 }
 
-#[derive(Drop)]
+#[derive(Clone, Copy)]
 pub struct Gap {
     pub mode: Mode,
     pub at: usize,

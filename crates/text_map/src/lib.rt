@@ -1,5 +1,7 @@
 // What a text map answers (W-206): its namespace and counts; and a block, by its kind and number or from a place on.
 // The definitions are in specs/.
+#![tactic(auto)]
+
 ghost use Rattle.std.specs.Prelude.{◌≡◌};
 ghost use Rattle.text_table.specs.Scopes.{scope_number};
 ghost use Rattle.text_table.specs.Rows.{namespace_rows};
@@ -14,26 +16,26 @@ use text_step::Parse;
 use text_table::Scope;
 
 // The namespace's string, and how many blocks of each kind there are.
-#[derive(Drop)]
+#[derive(Clone, Copy)]
 pub struct TextSummary {
     pub namespace: Places,
     pub counts: Counts,
 }
 
-#[derive(Drop)]
+#[derive(Clone, Copy)]
 pub enum TextAnswer {
     Summary(TextSummary),
     Refused(Refusal),
 }
 
 // A block: its kind, 1 to 5, and the place of its name.
-#[derive(Drop)]
+#[derive(Clone, Copy)]
 pub struct TextBlock {
     pub kind: u32,
     pub start: usize,
 }
 
-#[derive(Drop)]
+#[derive(Clone, Copy)]
 pub enum BlockAnswer {
     Block(TextBlock),
     Refused(Refusal),
@@ -41,7 +43,7 @@ pub enum BlockAnswer {
 
 // What a block's record is read from, beside the places of its values: the check, the place behind the block, and the
 // namespace of what was read.
-#[derive(Drop)]
+#[derive(Clone, Copy)]
 pub struct BlockFields {
     pub check: Check,
     pub next: usize,

@@ -1,4 +1,6 @@
 // The identifiers of a text map (W-206): a letter, and then letters and digits. The definitions are in specs/.
+#![tactic(auto)]
+
 ghost use Rattle.std.specs.Prelude.{◌≡◌, ◌-◌, ◌≤◌, length, get_or};
 ghost use Rattle.text_byte.specs.Bytes.{is_name_byte};
 ghost use Rattle.text_byte.specs.Spans.{span_end};
@@ -9,7 +11,7 @@ use text_byte as bytes;
 use text_token::Token;
 
 // A token, and whether it is an identifier.
-#[derive(Drop)]
+#[derive(Clone, Copy)]
 pub struct Name {
     pub token: Token,
     pub good: bool,

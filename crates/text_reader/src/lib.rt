@@ -1,5 +1,7 @@
 // A text map read statement by statement (W-206): one loop over the whole text, up to its end, its first fault, or what
 // is asked for. The definitions are in specs/: there a text is read token by token.
+#![tactic(auto)]
+
 ghost use Rattle.std.specs.Prelude.{false, ◌≡◌, length};
 ghost use Rattle.text_table.specs.Rows.{kind_rows, rows_of};
 ghost use Rattle.text_block.specs.declared.Asked.{Asked};

@@ -9,7 +9,7 @@ use text_value::{Reading, Value};
 
 // A string in the text: after its opening quote, and at its closing one; both 0 where there is none.
 #[repr(C)]
-#[derive(Drop)]
+#[derive(Clone, Copy)]
 pub struct Places {
     pub start: usize,
     pub end: usize,

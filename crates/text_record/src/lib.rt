@@ -1,5 +1,7 @@
 // The records of a text map (W-206): the fields of a block by document 002, in its order, read off the places of their values. The
 // definitions are in specs/.
+#![tactic(auto)]
+
 mod given;
 
 ghost use Rattle.std.specs.Prelude.{◌≡◌};
@@ -10,14 +12,14 @@ use given as fields;
 pub use given::{Places, string_at};
 
 #[repr(C)]
-#[derive(Drop)]
+#[derive(Clone, Copy)]
 pub struct TextVertex {
     pub x: f64,
     pub y: f64,
 }
 
 #[repr(C)]
-#[derive(Drop)]
+#[derive(Clone, Copy)]
 pub struct TextLinedef {
     pub id: i32,
     pub v1: i32,
@@ -56,7 +58,7 @@ pub struct TextLinedef {
 }
 
 #[repr(C)]
-#[derive(Drop)]
+#[derive(Clone, Copy)]
 pub struct TextSidedef {
     pub offsetx: i32,
     pub offsety: i32,
@@ -68,7 +70,7 @@ pub struct TextSidedef {
 }
 
 #[repr(C)]
-#[derive(Drop)]
+#[derive(Clone, Copy)]
 pub struct TextSector {
     pub heightfloor: i32,
     pub heightceiling: i32,
@@ -81,7 +83,7 @@ pub struct TextSector {
 }
 
 #[repr(C)]
-#[derive(Drop)]
+#[derive(Clone, Copy)]
 pub struct TextThing {
     pub id: i32,
     pub x: f64,

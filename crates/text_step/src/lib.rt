@@ -1,4 +1,6 @@
 // What a token of a text map does (W-206) where a statement, `=`, a value or `;` is wanted. The definitions are in specs/.
+#![tactic(auto)]
+
 ghost use Rattle.std.specs.Prelude.{false, cond, ◌≡◌, ◌≤◌, length};
 ghost use Rattle.refusal.specs.declared.Refusal.TheVariants.{TextGrammar, TextNumber};
 ghost use Rattle.refusal.specs.declared.Check.TheVariants.{Refused};
@@ -17,7 +19,7 @@ use text_value::{Reading, Value};
 
 // What was noted so far: the place of the last namespace's value, 0 for none; the counts; and whether the block that is asked for was
 // found, its kind, the place of its name, and the place behind it.
-#[derive(Drop)]
+#[derive(Clone, Copy)]
 pub struct Notes {
     pub namespace: usize,
     pub counts: Counts,
@@ -29,7 +31,7 @@ pub struct Notes {
 
 // How far a text was read: what is wanted next; in which scope, and where the open block's name stands; the place to go on; the
 // refusal, if any; and what was noted.
-#[derive(Drop)]
+#[derive(Clone, Copy)]
 pub struct Parse {
     pub wanted: Wanted,
     pub scope: Scope,

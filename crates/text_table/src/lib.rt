@@ -1,4 +1,6 @@
 // The names that a text map knows, as constant rows, a table for each scope (W-206). The definitions are in specs/.
+#![tactic(auto)]
+
 mod field;
 mod scope;
 

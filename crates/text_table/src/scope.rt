@@ -3,7 +3,7 @@ ghost use Rattle.std.specs.Prelude.{cond, ◌≡◌, ◌≤◌};
 ghost use Rattle.text_table.specs.Scopes.{row_count, scope_number, scope_of};
 
 // Where a name stands: outside of blocks, in a block of a known kind, or in one of another name.
-#[derive(Drop)]
+#[derive(Clone, Copy)]
 pub enum Scope {
     Top,
     Vertex,

@@ -1,5 +1,7 @@
 // The tokens of a text map (W-206): behind white space and comments a mark, a string or a word is cut out, as places in the text. The
 // definitions are in specs/.
+#![tactic(auto)]
+
 ghost use Rattle.std.specs.Prelude.{true, false, not, ◌≡◌, ◌+◌, ◌-◌, ◌≤◌, ◌<◌, length};
 ghost use Rattle.text_byte.specs.Bytes.{is_mark};
 ghost use Rattle.text_byte.specs.Spans.{span_end};
@@ -20,7 +22,7 @@ pub const WORD: u8 = 2;
 pub const STRING: u8 = 34;
 
 // A token's form, its first byte, the byte behind its last (of a string: the closing quote), and the place to go on.
-#[derive(Drop)]
+#[derive(Clone, Copy)]
 pub struct Token {
     pub form: u8,
     pub start: usize,

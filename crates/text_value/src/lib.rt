@@ -1,5 +1,7 @@
 // The values of a text map (W-206): a token as a whole number, a decimal, the places of a string or a flag. The
 // definitions are in specs/.
+#![tactic(auto)]
+
 mod number;
 
 ghost use Rattle.std.specs.Prelude.{◌≡◌, ◌-◌, ◌≤◌, ◌<◌, min, length};
@@ -12,7 +14,7 @@ use text_byte as bytes;
 use text_token::Token;
 
 // A value: of a string the places after its opening quote and of its closing one.
-#[derive(Drop)]
+#[derive(Clone, Copy)]
 pub enum Value {
     Whole(i32),
     Decimal(f64),
@@ -21,7 +23,7 @@ pub enum Value {
 }
 
 // What stands where a value is wanted: a value; a whole number or a decimal past its limits; or no value.
-#[derive(Drop)]
+#[derive(Clone, Copy)]
 pub enum Reading {
     Good(Value),
     WholePast,

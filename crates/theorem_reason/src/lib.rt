@@ -1,1 +1,2 @@
 // No code: specs/ says what holds of a reason (W-211), proofs/ has the proof.
+#![tactic(auto)]

@@ -1,4 +1,6 @@
 // The script: what its statements lend is written into one store of two parts, and the registers hold how far each goes.
+#![tactic(auto)]
+
 ghost use Rattle.std.specs.Prelude.{◌≡◌, length};
 
 mod asked;

@@ -1,5 +1,7 @@
 // The papers' vectors. Each statement of standard input puts one question to the library; what is answered is held to the
 // file stdout. The head of the file stdin says how a statement is written.
+#![tactic(auto)]
+
 mod ask;
 mod differences;
 mod index;

@@ -10,7 +10,7 @@ use crate::parts::part;
 use refusal::{Check, Refusal};
 
 // What is answered of a file's directory.
-#[derive(Drop)]
+#[derive(Clone, Copy)]
 pub enum Directory {
     // its count of lumps and its start
     Listed { count: usize, start: usize },

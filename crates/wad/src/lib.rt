@@ -1,5 +1,7 @@
 // A WAD file's header and directory (refusals 1 to 6), its entries, and the search for a map's marker. Every question judges the
 // whole directory first, so that its answer can be relied on whatever the bytes are. The definitions are in specs/.
+#![tactic(auto)]
+
 mod entries;
 mod header;
 mod lumps;

@@ -7,7 +7,7 @@ use crate::parts::part_if;
 use refusal::{Check, Refusal};
 
 // What is answered of an entry.
-#[derive(Drop)]
+#[derive(Clone, Copy)]
 pub enum Entry {
     // where its part of the file starts, and the part's size
     At { offset: usize, size: usize },

@@ -8,7 +8,7 @@ use crate::parts::part;
 use refusal::{Check, Refusal};
 
 // What is answered of a map's marker.
-#[derive(Drop)]
+#[derive(Clone, Copy)]
 pub enum Marker {
     // its entry number
     Entry(usize),
@@ -16,7 +16,7 @@ pub enum Marker {
 }
 
 // What the search for it answers: the marker, and how many names were compared.
-#[derive(Drop)]
+#[derive(Clone, Copy)]
 pub struct MarkerSearch {
     pub marker: Marker,
     pub compared: usize,
