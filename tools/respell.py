@@ -52,6 +52,20 @@ def declared(text):
     return names
 
 
+def record_fields(text):
+    """The fields of the records that a file declares."""
+    inside = False
+    for line in text.split("\n"):
+        if RECORD.match(line) or re.match(r"\s*(?:abbrev )?(?:pub )?(?:abbrev )?record ", line):
+            inside = True
+        elif inside:
+            m = re.match(r"\s+(?:pub )?([^\s:(){}«»]+) :", line)
+            if m:
+                yield m.group(1)
+            elif not line.strip() or not line[0].isspace():
+                inside = False
+
+
 def imported(text):
     """Pairs of module and name, of each `use` line."""
     for line in text.split("\n"):
@@ -127,6 +141,8 @@ def main(argv):
                 elif camel:
                     print(f"both in specs: {new}")
 
+    # a field of a record is named, in a literal or behind a dot, where nothing imports it
+    fields = {n for t in texts.values() for n in record_fields(t) if n in table}
     changed = 0
     for p in paths:
         text = texts[p]
@@ -138,7 +154,6 @@ def main(argv):
                 own[name] = False
             else:
                 kit.add(name)
-        fields = {n for n in table if re.search(r"[a-z0-9][A-Z]", n) and "-" not in n}
         here = {n: table[n] for n in table if n in own and n not in kit}
         mixfix = {n.strip("◌"): table[n].strip("◌") for n in here if "◌" in n}
         words = set(WORD.findall(text))
@@ -161,7 +176,7 @@ def main(argv):
                 dotted = at > 0 and code[at - 1] == "."
                 if word in mixfix and p.endswith(".antt"):
                     return mixfix[word]
-                if dotted and word in fields:
+                if word in fields and p.endswith(".antt"):
                     return table[word]
                 if dotted and not code.lstrip().startswith(("use ", "ghost use ", "pub use ")):
                     return word

@@ -87,7 +87,7 @@ module _ (nodes : List ℕ) (count : ℕ) (least : 1 ≤ count) (most : count �
       push some c is due = (
         record {
           room = (let e = push_less in let r = s.room in omega arith);
-          rootMet = kept (count - 1) (omega arith) s.root_met;
+          root_met = kept (count - 1) (omega arith) s.root_met;
           first = λ h. below 0 some ∙ s.first some;
           in_range =
               λ j h.
@@ -165,7 +165,7 @@ module _ (nodes : List ℕ) (count : ℕ) (least : 1 ≤ count) (most : count �
       finish = (
         record {
           room = (let e = finish_same in let r = s.room in omega arith);
-          rootMet = still (count - 1) (omega arith) s.root_met;
+          root_met = still (count - 1) (omega arith) s.root_met;
           first = λ k. below 0 k ∙ s.first some;
           in_range = λ j k. rw (below j k) (s.in_range j (omega arith));
           marked =
@@ -233,7 +233,7 @@ module _ (nodes : List ℕ) (count : ℕ) (least : 1 ≤ count) (most : count �
       let less = unmet_less (λ i. 0) mark (count - 1) refl (λ e. omega arith) count l other in
       record {
         room = omega arith;
-        rootMet = λ e. omega arith;
+        root_met = λ e. omega arith;
         first = λ h. at;
         in_range = λ j h. (let z : j ≡ 0 = omega arith in rw (z, at) l);
         marked = λ j h. (let z : j ≡ 0 = omega arith in rw (z, at) put);

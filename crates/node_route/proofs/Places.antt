@@ -131,8 +131,8 @@ module _ (nodes : List ℕ) where
             (follow_only other.choices start p.node p.node' (subst (λ (x : List Choice). Follow nodes start x p.node) cs one.leads) other.leads)
             c;
         stand = child_of nodes p.node p.choice;
-        leadsOne = follow_more one.choices start p.node one.leads p.made p.choice;
-        leadsOther =
+        leads_one = follow_more one.choices start p.node one.leads p.made p.choice;
+        leads_other =
             subst (λ (x : ℕ). Follow nodes start (other.choices ++ p.choice' ∷ []) x) (sym p.child)
             (follow_more other.choices start p.node' other.leads p.made' p.choice');
       }

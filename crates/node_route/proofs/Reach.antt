@@ -179,12 +179,12 @@ module _ (nodes : List ℕ) where
     pub one_more_lem : OneMore nodes
     one_more_lem =
         record {
-          nodeWords = nodes_in (nodes_of nodes) (root (nodes_of nodes));
-          subsectorWords = ends_in (nodes_of nodes) (root (nodes_of nodes));
-          reachedNodes = nodes_held;
-          reachedSubsectors =
+          node_words = nodes_in (nodes_of nodes) (root (nodes_of nodes));
+          subsector_words = ends_in (nodes_of nodes) (root (nodes_of nodes));
+          reached_nodes = nodes_held;
+          reached_subsectors =
               held (λ v. not (is_node v)) (λ v. subsector_bit ≤ v)
               (λ v h. ap not (le-ltb v subsector_bit h)) (λ v e. ltb-false v subsector_bit (not-true (is_node v) e));
-          oneMore = counted (nodes_of nodes) (root (nodes_of nodes)) off;
+          one_more = counted (nodes_of nodes) (root (nodes_of nodes)) off;
           few = nodes_few;
         }

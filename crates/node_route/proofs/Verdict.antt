@@ -93,7 +93,7 @@ module _ (nodes : List ℕ) where
   loops e =
       let on = cases.loop (sym verdict-is ∙ e) in
       let (m, node) = stands_made nodes (nodes_of nodes) (root (nodes_of nodes)) on in
-      record { choices = m.choices; many = m.many; stand = m.stand; leads = m.leads; onNode = node }
+      record { choices = m.choices; many = m.many; stand = m.stand; leads = m.leads; on_node = node }
 
   pub loop-on : Loop nodes → looping nodes ≡ true
   loop-on l =

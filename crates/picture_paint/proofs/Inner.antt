@@ -24,16 +24,16 @@ Said = (ℕ → ℕ) → List ℕ → List ℕ → Type 0
 
 pub both_none : {P : Said} (colour cover : List ℕ) → ((by : ℕ → ℕ) (plane : List ℕ) → P by plane plane)
     → Both P colour cover colour cover
-both_none colour cover f = record { on-colour = f by_colour colour; on-cover = f by_cover cover }
+both_none colour cover f = record { on_colour = f by_colour colour; on_cover = f by_cover cover }
 
 pub both_as : {P Q : Said} {a b c d : List ℕ} → Both P a b c d
     → ((by : ℕ → ℕ) (x y : List ℕ) → P by x y → Q by x y) → Both Q a b c d
-both_as s f = record { on-colour = f by_colour _ _ s.on-colour; on-cover = f by_cover _ _ s.on-cover }
+both_as s f = record { on_colour = f by_colour _ _ s.on_colour; on_cover = f by_cover _ _ s.on_cover }
 
 pub both_then : {P Q R : Said} {a b c d e f : List ℕ} → Both P a b c d → Both Q c d e f
     → ((by : ℕ → ℕ) (x y z : List ℕ) → P by x y → Q by y z → R by x z) → Both R a b e f
 both_then s t f =
-    record { on-colour = f by_colour _ _ _ s.on-colour t.on-colour; on-cover = f by_cover _ _ _ s.on-cover t.on-cover }
+    record { on_colour = f by_colour _ _ _ s.on_colour t.on_colour; on_cover = f by_cover _ _ _ s.on_cover t.on_cover }
 
 -- ---- one column
 

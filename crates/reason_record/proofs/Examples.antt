@@ -8,9 +8,9 @@ unfolding first_out
 examples =
     record {
       left = refl;
-      hexenLeft = refl;
+      hexen_left = refl;
       missing = refl;
-      oneSided = refl;
+      one_sided = refl;
       sector = refl;
       end = refl;
       against = refl;

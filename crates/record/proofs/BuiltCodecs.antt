@@ -13,8 +13,8 @@ use Rattle.record.specs.Nodes.{node_size, node_of, node_bytes, NodeFits}
 pub seg : Codec seg_size seg_of seg_bytes SegFits
 seg =
     record {
-      length-encode = λ s. refl;
-      decode-encode = λ s h. λ i. record {
+      length_encode = λ s. refl;
+      decode_encode = λ s h. λ i. record {
         start = u16_whole s.start i;
         end = u16_whole s.end i;
         angle = u16_whole s.angle i;
@@ -22,22 +22,22 @@ seg =
         direction = u16_whole s.direction i;
         offset = i16_whole s.offset h i;
       };
-      encode-decode = written-whole (number ∷ number ∷ number ∷ number ∷ number ∷ signed16 ∷ []);
+      encode_decode = written-whole (number ∷ number ∷ number ∷ number ∷ number ∷ signed16 ∷ []);
     }
 
 pub subsector : Codec subsector_size subsector_of subsector_bytes SubsectorFits
 subsector =
     record {
-      length-encode = λ s. refl;
-      decode-encode = λ s h. simp u16_whole;
-      encode-decode = written-whole (number ∷ number ∷ []);
+      length_encode = λ s. refl;
+      decode_encode = λ s h. simp u16_whole;
+      encode_decode = written-whole (number ∷ number ∷ []);
     }
 
 pub node : Codec node_size node_of node_bytes NodeFits
 node =
     record {
-      length-encode = λ n. refl;
-      decode-encode = λ n h. λ i. record {
+      length_encode = λ n. refl;
+      decode_encode = λ n h. λ i. record {
         x = i16_whole n.x h.0 i;
         y = i16_whole n.y h.1 i;
         dx = i16_whole n.dx h.2 i;
@@ -47,6 +47,6 @@ node =
         right = u16_whole n.right i;
         left = u16_whole n.left i;
       };
-      encode-decode = written-whole (signed16 ∷ signed16 ∷ signed16 ∷ signed16 ∷ signed16 ∷ signed16 ∷ signed16
+      encode_decode = written-whole (signed16 ∷ signed16 ∷ signed16 ∷ signed16 ∷ signed16 ∷ signed16 ∷ signed16
           ∷ signed16 ∷ signed16 ∷ signed16 ∷ signed16 ∷ signed16 ∷ number ∷ number ∷ []);
     }

@@ -13,8 +13,8 @@ use Rattle.record.specs.Sectors.{sector_size, sector_of, sector_bytes, SectorFit
 pub sidedef : Codec sidedef_size sidedef_of sidedef_bytes SidedefFits
 sidedef =
     record {
-      length-encode = λ s. refl;
-      decode-encode = λ s h. λ i. record {
+      length_encode = λ s. refl;
+      decode_encode = λ s h. λ i. record {
         x_offset = i16_whole s.x_offset h.0 i;
         y_offset = i16_whole s.y_offset h.1 i;
         upper = name-whole s.upper h.2 i;
@@ -22,25 +22,25 @@ sidedef =
         middle = name-whole s.middle h.4 i;
         sector = u16_whole s.sector i;
       };
-      encode-decode = written-whole (signed16 ∷ signed16 ∷ name ∷ name ∷ name ∷ number ∷ []);
+      encode_decode = written-whole (signed16 ∷ signed16 ∷ name ∷ name ∷ name ∷ number ∷ []);
     }
 
 pub vertex : Codec vertex_size vertex_of vertex_bytes VertexFits
 vertex =
     record {
-      length-encode = λ v. refl;
-      decode-encode = λ v h. λ i. record {
+      length_encode = λ v. refl;
+      decode_encode = λ v h. λ i. record {
         x = i16_whole v.x h.0 i;
         y = i16_whole v.y h.1 i;
       };
-      encode-decode = written-whole (signed16 ∷ signed16 ∷ []);
+      encode_decode = written-whole (signed16 ∷ signed16 ∷ []);
     }
 
 pub sector : Codec sector_size sector_of sector_bytes SectorFits
 sector =
     record {
-      length-encode = λ s. refl;
-      decode-encode = λ s h. λ i. record {
+      length_encode = λ s. refl;
+      decode_encode = λ s h. λ i. record {
         floor = i16_whole s.floor h.0 i;
         ceiling = i16_whole s.ceiling h.1 i;
         floor_flat = name-whole s.floor_flat h.2 i;
@@ -49,5 +49,5 @@ sector =
         special = u16_whole s.special i;
         tag = u16_whole s.tag i;
       };
-      encode-decode = written-whole (signed16 ∷ signed16 ∷ name ∷ name ∷ number ∷ number ∷ number ∷ []);
+      encode_decode = written-whole (signed16 ∷ signed16 ∷ name ∷ name ∷ number ∷ number ∷ number ∷ []);
     }

@@ -19,15 +19,15 @@ pub lossless : {R : Type 0} (size : ℕ) (decode : List ℕ → R) (encode : R �
     → Codec size decode encode InRange → Lossless size decode encode InRange
 lossless {R} size decode encode InRange k =
     record {
-      write-back = λ lump index h.
+      write_back = λ lump index h.
           replaced-same lump size index _
           (λ (e : inside lump size index ≡ true).
           ap (λ (b : Bool). encode (decode (cond b (record_bytes lump size index) (replicate size 0)))) e
-          ∙ k.encode-decode (record_bytes lump size index)
+          ∙ k.encode_decode (record_bytes lump size index)
           (length-record_bytes lump size index (inside-fits lump size index e)) (bytes-record_bytes lump size index h));
       read_back = λ lump index r h e.
-          ap decode (bytes_or_zeros-replaced lump size index (encode r) (k.length-encode r) e) ∙ k.decode-encode r h;
-      before = λ lump index r. take-replaced lump size index (encode r) (k.length-encode r);
-      after = λ lump index r. drop-replaced lump size index (encode r) (k.length-encode r);
-      same_length = λ lump index r. length-replaced lump size index (encode r) (k.length-encode r);
+          ap decode (bytes_or_zeros-replaced lump size index (encode r) (k.length_encode r) e) ∙ k.decode_encode r h;
+      before = λ lump index r. take-replaced lump size index (encode r) (k.length_encode r);
+      after = λ lump index r. drop-replaced lump size index (encode r) (k.length_encode r);
+      same_length = λ lump index r. length-replaced lump size index (encode r) (k.length_encode r);
     }

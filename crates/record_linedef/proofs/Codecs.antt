@@ -35,8 +35,8 @@ special_first bytes special =
 pub linedef : (hexen : Bool) → Codec (linedef_size hexen) (linedef_of hexen) (linedef_bytes hexen) (LinedefFits hexen)
 linedef false =
     record {
-      length-encode = λ l. refl;
-      decode-encode = λ l h. λ i. record {
+      length_encode = λ l. refl;
+      decode_encode = λ l h. λ i. record {
         hexen = sym h.game i;
         start = u16_whole l.start i;
         end = u16_whole l.end i;
@@ -47,12 +47,12 @@ linedef false =
         right = u16_whole l.right i;
         left = u16_whole l.left i;
       };
-      encode-decode = written-whole (number ∷ number ∷ number ∷ number ∷ number ∷ number ∷ number ∷ []);
+      encode_decode = written-whole (number ∷ number ∷ number ∷ number ∷ number ∷ number ∷ number ∷ []);
     }
 linedef true =
     record {
-      length-encode = λ l. refl;
-      decode-encode = λ l h.
+      length_encode = λ l. refl;
+      decode_encode = λ l h.
           let good = both (leb l.special 255) (eqb l.tag 0) (sym (ap (fields l) h.game) ∙ h.fields) in
           λ i. record {
             hexen = sym h.game i;
@@ -65,7 +65,7 @@ linedef true =
             right = u16_whole l.right i;
             left = u16_whole l.left i;
           };
-      encode-decode = λ bytes e h.
+      encode_decode = λ bytes e h.
           let low : get_or bytes 6 0 ≤ 255 = (let small = h 6 in omega arith) in
           ap (special_first bytes) (byte-whole (get_or bytes 6 0) low)
           ∙ written-whole (number ∷ number ∷ number ∷ byte ∷ byte ∷ byte ∷ byte ∷ byte ∷ byte ∷ number ∷ number ∷ []) bytes e h;

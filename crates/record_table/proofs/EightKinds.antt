@@ -18,9 +18,9 @@ pub kinds_lossless : KindsLossless
 kinds_lossless =
     record {
       thing = λ hexen. lossless (thing_size hexen) (thing_of hexen) (thing_bytes hexen) (ThingFits hexen) (thing hexen);
-      thingAccepted = λ hexen bytes h. thing-good hexen bytes;
+      thing_accepted = λ hexen bytes h. thing-good hexen bytes;
       linedef = λ hexen. lossless (linedef_size hexen) (linedef_of hexen) (linedef_bytes hexen) (LinedefFits hexen) (linedef hexen);
-      linedefAccepted = linedef-good;
+      linedef_accepted = linedef-good;
       sidedef = lossless 30 sidedef_of sidedef_bytes SidedefFits sidedef;
       vertex = lossless 4 vertex_of vertex_bytes VertexFits vertex;
       seg = lossless 12 seg_of seg_bytes SegFits seg;

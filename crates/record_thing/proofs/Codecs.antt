@@ -44,8 +44,8 @@ plain t h =
 pub thing : (hexen : Bool) → Codec (thing_size hexen) (thing_of hexen) (thing_bytes hexen) (ThingFits hexen)
 thing false =
     record {
-      length-encode = λ t. refl;
-      decode-encode = λ t h.
+      length_encode = λ t. refl;
+      decode_encode = λ t h.
           let z = plain t h in
           λ i. record {
             hexen = sym h.game i;
@@ -59,12 +59,12 @@ thing false =
             action = z.action i;
             args = z.args i;
           };
-      encode-decode = written-whole (signed16 ∷ signed16 ∷ number ∷ number ∷ number ∷ []);
+      encode_decode = written-whole (signed16 ∷ signed16 ∷ number ∷ number ∷ number ∷ []);
     }
 thing true =
     record {
-      length-encode = λ t. refl;
-      decode-encode = λ t h. λ i. record {
+      length_encode = λ t. refl;
+      decode_encode = λ t h. λ i. record {
         hexen = sym h.game i;
         id = i16_whole t.id h.id i;
         x = i16_whole t.x h.x i;
@@ -76,7 +76,7 @@ thing true =
         action = t.action;
         args = args-whole t.args h.args i;
       };
-      encode-decode =
+      encode_decode =
           written-whole (signed16 ∷ signed16 ∷ signed16 ∷ signed16 ∷ number ∷ number ∷ number
           ∷ byte ∷ byte ∷ byte ∷ byte ∷ byte ∷ byte ∷ []);
     }

@@ -19,11 +19,11 @@ examples =
       foreign = refl;
       root-first = refl;
       child-first = refl;
-      child-after = refl;
+      child_after = refl;
       no_room = refl;
       short-and-twice = refl;
       twice-and-root = refl;
-      root-and-child = refl;
-      child-and-room = refl;
+      root-and_child = refl;
+      child_and-room = refl;
       written = refl;
     }

@@ -85,13 +85,13 @@ module _ (oldWad oldName newWad newName words list : List ℕ) (answer : Differe
       (and_then_pass (unless (same_game hexen (game_in newWad new)) DifferenceGames) room p).0 in
       let rest = drop (length (change_list oldWad old newWad new)) list in
       record {
-        oldDepth = d;
+        old_depth = d;
         old = old;
-        newDepth = e;
+        new_depth = e;
         new = new;
-        oldAccepted = v;
-        newAccepted = w;
-        oneGame = game;
+        old_accepted = v;
+        new_accepted = w;
+        one_game = game;
         copies = λ place low high.
             subst (Copies (record_size hexen place) (map_lump (lumps_in oldWad old) place) (map_lump (lumps_in newWad new) place))
             (sym (listed hexen (lumps_in oldWad old) (lumps_in newWad new) rest place low high)

@@ -102,9 +102,9 @@ module _ (nodes : List ℕ) (subsectors : ℕ) (x y : ℤ) (p : Passed nodes sub
         begins = begins;
         count = d.count;
         descends = d.found;
-        nodeWords = nodes_in nodes (nodes_of nodes) (root (nodes_of nodes));
-        eachNode = nodes_held nodes off alone inside;
-        oneMore = long;
+        node_words = nodes_in nodes (nodes_of nodes) (root (nodes_of nodes));
+        each_node = nodes_held nodes off alone inside;
+        one_more = long;
       }
 
 -- an accepted map has passed what is asked

@@ -209,12 +209,12 @@ module _ (wad name words : List ℕ) where
       let seven : m + NODES < count = omega arith in
       let six : m + SSECTORS < count = omega arith in
       record {
-        nodesOffset = entry_offset dir (m + NODES);
-        nodesEntry = at (m + NODES) seven ∙ ap (At (entry_offset dir (m + NODES))) (sized (m + NODES) seven);
-        nodesPart = ap (part_of wad) (at (m + NODES) seven);
-        ssectorsOffset = entry_offset dir (m + SSECTORS);
-        ssectorsSize = entry_size dir (m + SSECTORS);
-        ssectorsEntry = at (m + SSECTORS) six;
+        nodes_offset = entry_offset dir (m + NODES);
+        nodes_entry = at (m + NODES) seven ∙ ap (At (entry_offset dir (m + NODES))) (sized (m + NODES) seven);
+        nodes_part = ap (part_of wad) (at (m + NODES) seven);
+        ssectors_offset = entry_offset dir (m + SSECTORS);
+        ssectors_size = entry_size dir (m + SSECTORS);
+        ssectors_entry = at (m + SSECTORS) six;
         subsectors = ap (λ (n : ℕ). n / subsector_size) (sized (m + SSECTORS) six);
       }
 
@@ -227,19 +227,19 @@ module _ (wad name words : List ℕ) where
                   holds.loop.0 (graph_loop (graph_verdict (nodes_at wad m)) m (sym (graphs m b) ∙ e)),
               λ (l : Loop (nodes_at wad m)). graphs m b ∙ ap (λ (g : Graph). graph_answer g m) (holds.loop.1 l),
             );
-        loopOnly = loop-only;
+        loop_only = loop-only;
         shared = λ (m : ℕ) (b : Below31 wad name words m) (none : Loop (nodes_at wad m) → ⊥).
             let holds = (verdict-holds (nodes_at wad m)).shared none in (
               λ (e : verdict wad name words ≡ NotAccepted NodeShared).
                   holds.0 (graph_shared (graph_verdict (nodes_at wad m)) m (sym (graphs m b) ∙ e)),
               λ (l : Shared (nodes_at wad m)). graphs m b ∙ ap (λ (g : Graph). graph_answer g m) (holds.1 l),
             );
-        sharedOnly = shared-only;
+        shared_only = shared-only;
         neither = λ (m : ℕ) (b : Below31 wad name words m) (none : Loop (nodes_at wad m) → ⊥) (alone : Shared (nodes_at wad m) → ⊥).
             let d = (verdict-holds (nodes_at wad m)).neither none alone in
             (d.0, graphs m b ∙ ap (λ (g : Graph). graph_answer g m) d.1);
         exact = λ (d m : ℕ) (e : verdict wad name words ≡ Accepted d m). (verdict-holds (nodes_at wad m)).deep d (known d m e).deep;
-        oneMore = λ (d m : ℕ) (e : verdict wad name words ≡ Accepted d m). one-more_of d m (known d m e);
+        one_more = λ (d m : ℕ) (e : verdict wad name words ≡ Accepted d m). one-more_of d m (known d m e);
         handed = λ (d m : ℕ) (e : verdict wad name words ≡ Accepted d m). handed_over d m (known d m e);
         descends = λ (d m : ℕ) (e : verdict wad name words ≡ Accepted d m) (x y : ℤ).
             let k = known d m e in

@@ -45,32 +45,32 @@ module _ (lump : List ℕ) (index : ℕ) (answer : Status) (left : List ℕ) (h 
       → Unchanged lump (status_of (inside_check lump (thing_size hexen) index)) answer left
   thing-back true e w =
       unchanged lump 20 index _ _ answer left e (kinds_lossless.thing_accepted true (bytes_or_zeros lump 20 index) (read_bytes lump 20 index h e))
-      ((kinds_lossless.thing true).write-back lump index h)
+      ((kinds_lossless.thing true).write_back lump index h)
       (subst (λ (b : Bool). ThingWritten lump index (thing_of b (bytes_or_zeros lump 20 index)) answer left) e w)
   thing-back false e w =
       unchanged lump 10 index _ _ answer left e (kinds_lossless.thing_accepted false (bytes_or_zeros lump 10 index) (read_bytes lump 10 index h e))
-      ((kinds_lossless.thing false).write-back lump index h) w
+      ((kinds_lossless.thing false).write_back lump index h) w
 
   linedef-back : (hexen : Bool) → inside lump (linedef_size hexen) index ≡ true
       → LinedefWritten lump index (linedef_of (hexen && inside lump (linedef_size hexen) index) (bytes_or_zeros lump (linedef_size hexen) index)) answer left
       → Unchanged lump (status_of (inside_check lump (linedef_size hexen) index)) answer left
   linedef-back true e w =
       unchanged lump 16 index _ _ answer left e (kinds_lossless.linedef_accepted true (bytes_or_zeros lump 16 index) (read_bytes lump 16 index h e))
-      ((kinds_lossless.linedef true).write-back lump index h)
+      ((kinds_lossless.linedef true).write_back lump index h)
       (subst (λ (b : Bool). LinedefWritten lump index (linedef_of b (bytes_or_zeros lump 16 index)) answer left) e w)
   linedef-back false e w =
       unchanged lump 14 index _ _ answer left e (kinds_lossless.linedef_accepted false (bytes_or_zeros lump 14 index) (read_bytes lump 14 index h e))
-      ((kinds_lossless.linedef false).write-back lump index h) w
+      ((kinds_lossless.linedef false).write_back lump index h) w
 
 pub records_written-back : RecordsWrittenBack
 records_written-back =
     record {
       thing = λ hexen lump index answer left h e w. thing-back lump index answer left h hexen (read_inside (inside lump (thing_size hexen) index) e) w;
       linedef = λ hexen lump index answer left h e w. linedef-back lump index answer left h hexen (read_inside (inside lump (linedef_size hexen) index) e) w;
-      sidedef = λ lump index answer left h w. record { status = w.answers; bytes = w.leaves ∙ kinds_lossless.sidedef.write-back lump index h };
-      vertex = λ lump index answer left h w. record { status = w.answers; bytes = w.leaves ∙ kinds_lossless.vertex.write-back lump index h };
-      seg = λ lump index answer left h w. record { status = w.answers; bytes = w.leaves ∙ kinds_lossless.seg.write-back lump index h };
-      subsector = λ lump index answer left h w. record { status = w.answers; bytes = w.leaves ∙ kinds_lossless.subsector.write-back lump index h };
-      node = λ lump index answer left h w. record { status = w.answers; bytes = w.leaves ∙ kinds_lossless.node.write-back lump index h };
-      sector = λ lump index answer left h w. record { status = w.answers; bytes = w.leaves ∙ kinds_lossless.sector.write-back lump index h };
+      sidedef = λ lump index answer left h w. record { status = w.answers; bytes = w.leaves ∙ kinds_lossless.sidedef.write_back lump index h };
+      vertex = λ lump index answer left h w. record { status = w.answers; bytes = w.leaves ∙ kinds_lossless.vertex.write_back lump index h };
+      seg = λ lump index answer left h w. record { status = w.answers; bytes = w.leaves ∙ kinds_lossless.seg.write_back lump index h };
+      subsector = λ lump index answer left h w. record { status = w.answers; bytes = w.leaves ∙ kinds_lossless.subsector.write_back lump index h };
+      node = λ lump index answer left h w. record { status = w.answers; bytes = w.leaves ∙ kinds_lossless.node.write_back lump index h };
+      sector = λ lump index answer left h w. record { status = w.answers; bytes = w.leaves ∙ kinds_lossless.sector.write_back lump index h };
     }

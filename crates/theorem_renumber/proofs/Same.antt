@@ -216,8 +216,8 @@ module _ (nodes order : List ℕ) (subsectors : ℕ) (passed : Passed nodes subs
         other = s.other;
         different = s.different;
         stand = a.stand;
-        leadsOne = a.leads;
-        leadsOther = subst (λ (v : ℕ). Follow nodes (root (nodes_of nodes)) s.other v) same b.leads;
+        leads_one = a.leads;
+        leads_other = subst (λ (v : ℕ). Follow nodes (root (nodes_of nodes)) s.other v) same b.leads;
       }
 
   deeper : (d d' : ℕ) → Depth nodes d → Depth new d' → d ≤ d'

@@ -225,8 +225,8 @@ gaps_do_not_matter front old new rest asked at n h =
 pub comment_put_in : CommentPutIn
 unfolding gap_from span_end token_place
 comment_put_in = record {
-  oldGap = refl;
-  newGap = refl;
+  old_gap = refl;
+  new_gap = refl;
   some = λ _ h. absurd (omega (arith, h));
   clean = λ _. refl;
   tokens = word;

@@ -176,7 +176,7 @@ pub gaps_are_not : GapsAreNot
 unfolding gap_from
 gaps_are_not = record {
   word = λ e. true≢false (sym (ap ends e));
-  slashAlone = λ e. true≢false (sym (ap ends e));
+  slash_alone = λ e. true≢false (sym (ap ends e));
   half = λ e. true≢false (sym (ap ends e));
   unclosed = λ e. true≢false (sym (ap ends e));
   endless = λ e. true≢false (sym (ap ends e));

@@ -33,8 +33,8 @@ paint_posts_requires c κs =
       (h, column_pass s.args.lump.now s.args.width _ l.column _ s.requires.0.1 h asked.u32-at.ensures),
       (
         record {
-          colours = rw l.invariant.1.on-colour.same s.requires.1.0.colours;
-          covers = rw l.invariant.1.on-cover.same s.requires.1.0.covers;
+          colours = rw l.invariant.1.on_colour.same s.requires.1.0.colours;
+          covers = rw l.invariant.1.on_cover.same s.requires.1.0.covers;
         },
         l.invariant.2,
       ),
@@ -54,10 +54,10 @@ loop-again c =
     )
 
 same_length : tie.Need-same-length invariant-loop decreases-loop
-same_length c = c.before.loop.invariant.1.on-colour.same
+same_length c = c.before.loop.invariant.1.on_colour.same
 
 same-length_2 : tie.Need-same-length-2 invariant-loop decreases-loop
-same-length_2 c = c.before.loop.invariant.1.on-cover.same
+same-length_2 c = c.before.loop.invariant.1.on_cover.same
 
 returns : tie.Need-returns invariant-loop decreases-loop
 returns c =

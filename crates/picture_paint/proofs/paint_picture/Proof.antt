@@ -39,12 +39,12 @@ mul_area : tie.Need-overflow-mul-area
 mul_area c = omega (arith, area c, area_small (good (start c)).header)
 
 clear_requires : tie.Need-clear-requires
-clear_requires c κs = let read = c.before in omega (arith, area read, (good (start read)).colours-fit)
+clear_requires c κs = let read = c.before in omega (arith, area read, (good (start read)).colours_fit)
 
 clear_requires_2 : tie.Need-clear-requires-2
 clear_requires_2 c κs =
     let read = c.before.before.before.before.before in
-    omega (arith, area read, (good (start read)).covers-fit)
+    omega (arith, area read, (good (start read)).covers_fit)
 
 paint_columns_requires : tie.Need-paint-columns-requires
 paint_columns_requires c κs =
@@ -57,7 +57,7 @@ paint_columns_requires c κs =
         subst (λ (w : ℕ). table_end w ≤ length l) (sym (wide read)) g.header.table,
         subst (λ (w : ℕ). each (column_check l w (height_of l)) w ≡ Pass) (sym (wide read)) g.columns,
       ),
-      record { colours = omega (arith, e, g.colours-fit); covers = omega (arith, e, g.covers-fit) },
+      record { colours = omega (arith, e, g.colours_fit); covers = omega (arith, e, g.covers_fit) },
     )
 
 returns : tie.Need-returns
@@ -67,11 +67,11 @@ returns c =
     let read = filled.before.before.before.before.before.before in
     let a = (start read).args in
     let g = good (start read) in
-    let w = g.header.some-width in (
-      plane_painted by_colour a.lump.now _ _ a.colour.now (wide read) read.height-of.ensures.0 w g.colours-fit
-          filled.before.before.before.before.clear.ensures called.paint-columns.ensures.on-colour,
-      plane_painted by_cover a.lump.now _ _ a.cover.now (wide read) read.height-of.ensures.0 w g.covers-fit
-          filled.clear2.ensures called.paint-columns.ensures.on-cover,
+    let w = g.header.some_width in (
+      plane_painted by_colour a.lump.now _ _ a.colour.now (wide read) read.height-of.ensures.0 w g.colours_fit
+          filled.before.before.before.before.clear.ensures called.paint-columns.ensures.on_colour,
+      plane_painted by_cover a.lump.now _ _ a.cover.now (wide read) read.height-of.ensures.0 w g.covers_fit
+          filled.clear2.ensures called.paint-columns.ensures.on_cover,
     )
 
 pub paint_picture_spec : {M : Type 1} → statement M

@@ -44,13 +44,13 @@ colour_fits : (c : tie.In-loop invariant-loop decreases-loop) → to c < length 
 colour_fits c =
     let s = c.before.before.before.before in
     pixel_fits by_colour s.args.lump.now s.args.at _ _ _ _ s.requires.0.0 (row_ok c) s.requires.1.colours
-    c.before.loop.invariant.1.on-colour
+    c.before.loop.invariant.1.on_colour
 
 cover_fits : (c : tie.In-loop invariant-loop decreases-loop) → to c < length c.before.loop.cover
 cover_fits c =
     let s = c.before.before.before.before in
     pixel_fits by_cover s.args.lump.now s.args.at _ _ _ _ s.requires.0.0 (row_ok c) s.requires.1.covers
-    c.before.loop.invariant.1.on-cover
+    c.before.loop.invariant.1.on_cover
 
 add_to : tie.Need-overflow-add-to invariant-loop decreases-loop
 add_to c =
@@ -80,16 +80,16 @@ loop-again c =
     let ok = row_ok c.before in (
       search rules,
       record {
-        on-colour = stroke_pixel by_colour lump at _ _ _ l.i inside ok s.requires.1.colours l.invariant.1.on-colour;
-        on-cover = stroke_pixel by_cover lump at _ _ _ l.i inside ok s.requires.1.covers l.invariant.1.on-cover;
+        on_colour = stroke_pixel by_colour lump at _ _ _ l.i inside ok s.requires.1.colours l.invariant.1.on_colour;
+        on_cover = stroke_pixel by_cover lump at _ _ _ l.i inside ok s.requires.1.covers l.invariant.1.on_cover;
       },
     )
 
 same_length : tie.Need-same-length invariant-loop decreases-loop
-same_length c = c.before.loop.invariant.1.on-colour.same
+same_length c = c.before.loop.invariant.1.on_colour.same
 
 same-length_2 : tie.Need-same-length-2 invariant-loop decreases-loop
-same-length_2 c = c.before.loop.invariant.1.on-cover.same
+same-length_2 c = c.before.loop.invariant.1.on_cover.same
 
 returns : tie.Need-returns invariant-loop decreases-loop
 returns c =

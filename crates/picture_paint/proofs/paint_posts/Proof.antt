@@ -27,10 +27,10 @@ shared_slice_read_start : tie.Need-shared-slice-read-start invariant-loop decrea
 shared_slice_read_start c = painting_inside _ _ _ _ c.before.loop.invariant.0
 
 same_length : tie.Need-same-length invariant-loop decreases-loop
-same_length c = c.before.before.loop.invariant.0.planes.on-colour.same
+same_length c = c.before.before.loop.invariant.0.planes.on_colour.same
 
 same-length_2 : tie.Need-same-length-2 invariant-loop decreases-loop
-same-length_2 c = c.before.before.loop.invariant.0.planes.on-cover.same
+same-length_2 c = c.before.before.loop.invariant.0.planes.on_cover.same
 
 returns : tie.Need-returns invariant-loop decreases-loop
 returns c = let i = c.before.before.loop.invariant in (painting_done _ _ _ _ i.0 c.if1.true, i.1)
@@ -42,8 +42,8 @@ paint_post_requires c κs =
     let n = painting_next _ _ _ _ p c.before.before.if1.false in (
       (pre.0.0, n.inside, n.rows),
       record {
-        colours = rw p.planes.on-colour.same pre.1.0.colours;
-        covers = rw p.planes.on-cover.same pre.1.0.covers;
+        colours = rw p.planes.on_colour.same pre.1.0.colours;
+        covers = rw p.planes.on_cover.same pre.1.0.covers;
       },
     )
 
