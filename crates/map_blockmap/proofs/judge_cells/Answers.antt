@@ -1,8 +1,16 @@
 -- `map_blockmap::judge_cells` meets its contract: the cells before `i` pass. The measure is what is left of them.
 -- Assumes nothing.
 use Prim.Native.Nat.{◌-◌}
-use Rattle.refusal.proofs.Scans.{scanned_none}
+use mathlib.Core.Path.{refl}
+use borrow.Author.Rules.{rules}
+use Rattle.refusal.proofs.Scans.{scanned_none, tested_more, tested_stop}
 use Rattle.map_blockmap.proofs.judge_cells.Goals as goal
 
 pub loop-i-init : goal.loop-i-init
 loop-i-init c = scanned_none
+
+pub returns-then-not-cell_ok : goal.returns-then-not-cell_ok
+returns-then-not-cell_ok c = tested_stop c.loop-i.invariant (search rules) c.cell_ok.ensures c.if-not-cell_ok.true-raw refl
+
+pub loop-i-preserved : goal.loop-i-preserved
+loop-i-preserved c = tested_more c.loop-i.invariant _ (search rules) c.cell_ok.ensures c.if-not-cell_ok.false-raw refl

@@ -11,12 +11,12 @@ loop-column-init c = (scanned_none, c.requires.notes, search rules)
 
 pub returns-in-Refused : goal.returns-in-Refused
 returns-in-Refused c =
-    scanned_stop c.loop-column.invariant.0 (search rules) c.judge_column.ensures.value c.r-1.given.1
+    scanned_stop c.loop-column.invariant.0 (search rules) c.judge_column.ensures.value c.in-Refused.is
 
 pub loop-column-preserved : goal.loop-column-preserved
 loop-column-preserved c =
     let l = c.loop-column in (
-      scanned_more l.invariant.0 (search rules) c.judge_column.ensures.value c.enum_told-1.given.1,
-      c.judge_column.ensures.notes_2 (sym c.judge_column.ensures.value ∙ c.enum_told-1.given.1),
+      scanned_more l.invariant.0 (search rules) c.judge_column.ensures.value c.in_default.is,
+      c.judge_column.ensures.notes_2 (sym c.judge_column.ensures.value ∙ c.in_default.is),
       search rules,
     )

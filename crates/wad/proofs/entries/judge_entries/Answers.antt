@@ -1,7 +1,17 @@
+-- `wad::entries::judge_entries` meets its contract: the entries before `i` pass. The measure is what is left of the entries.
+-- Assumes nothing.
+use Prim.Native.Nat.{◌-◌}
+use borrow.Author.Rules.{rules}
+use Rattle.refusal.proofs.Scans.{scanned_none, scanned_more, scanned_stop}
 use Rattle.wad.proofs.entries.judge_entries.Goals as goal
 
+pub loop-i-init : goal.loop-i-init
+loop-i-init c = scanned_none
+
 pub returns-in-Refused : goal.returns-in-Refused
-returns-in-Refused c = let h = c.in-Refused in ?
+returns-in-Refused c =
+    scanned_stop c.loop-i.invariant (search rules) c.judge_entry.ensures c.in-Refused.is
 
 pub loop-i-preserved : goal.loop-i-preserved
-loop-i-preserved c = let h = c.in_default in ?
+loop-i-preserved c =
+    scanned_more c.loop-i.invariant (search rules) c.judge_entry.ensures c.in_default.is

@@ -1,0 +1,20 @@
+-- `map_lumps::size::judge_sizes` meets its contract: the places up to `i` pass. The measure is what is left of the eight.
+-- Assumes nothing.
+use Prim.Native.Nat.{◌-◌}
+use borrow.Author.Rules.{rules}
+use Rattle.refusal.proofs.Scans.{scanned_none, scanned_more, scanned_stop, scanned_done}
+use Rattle.map_lumps.proofs.size.judge_sizes.Goals as goal
+
+pub loop-i-init : goal.loop-i-init
+loop-i-init c = scanned_none
+
+pub returns-in-Refused : goal.returns-in-Refused
+returns-in-Refused c =
+    scanned_stop c.loop-i.invariant (search rules) c.judge_size.ensures c.in-Refused.is
+
+pub loop-i-preserved : goal.loop-i-preserved
+loop-i-preserved c =
+    scanned_more c.loop-i.invariant (search rules) c.judge_size.ensures c.in_default.is
+
+pub returns : goal.returns
+returns c = scanned_done c.loop-i.invariant (search rules)
