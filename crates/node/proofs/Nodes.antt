@@ -36,6 +36,7 @@ pub nodes_of-whole : (nodes : List ℕ) (count : ℕ) → node_size * count ≡ 
 nodes_of-whole nodes count e = omega arith
 
 pub root-last : (count : ℕ) → 0 < count → root count ≡ count - 1
+root-last zero h = absurd (omega arith)
 root-last (suc last) h = omega arith
 
 -- a root that is a node is in range

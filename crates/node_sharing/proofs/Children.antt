@@ -77,6 +77,9 @@ module _ (nodes marks : List ℕ) where
           rw (children_more n some, ← r)
           (repeats_tail (child_of nodes n Left) (right ∷ child_words nodes marks n) (repeats_head right (child_words nodes marks n) m))
 
+      two : child_words nodes marks (n + 1) ≡ left ∷ right ∷ child_words nodes marks n
+      two = children_more n some ∙ (λ i. sym l i ∷ sym r i ∷ child_words nodes marks n)
+
       noted_right : Noted (with_note seen right) (right ∷ child_words nodes marks n)
       noted_right = noted_more seen (child_words nodes marks n) right (rw s.places (omega arith)) s.noted
 
@@ -84,7 +87,7 @@ module _ (nodes marks : List ℕ) where
         pub met-left : is_noted (with_note seen right) left ≡ true → repeats (child_words nodes marks (n + 1)) ≡ true
         met-left e =
             let m : member left (right ∷ child_words nodes marks n) ≡ true = sym (noted_right left lowLeft) ∙ e in
-            rw (children_more n some, ← r, ← l) (repeats_head left (right ∷ child_words nodes marks n) m)
+            rw two (repeats_head left (right ∷ child_words nodes marks n) m)
 
         pub seen_both : is_noted seen right ≡ false → is_noted (with_note seen right) left ≡ false
             → Seen nodes marks (n + 1) (with_note (with_note seen right) left)
@@ -95,6 +98,6 @@ module _ (nodes marks : List ℕ) where
             let k : member left (right ∷ child_words nodes marks n) ≡ false = sym (noted_right left lowLeft) ∙ b in
             record {
               places = length-note (with_note seen right) left ∙ long;
-              noted = rw (children_more n some, ← r, ← l) all;
-              once = rw (children_more n some, ← r, ← l, k, m, s.once);
+              noted = rw two all;
+              once = rw (two, k, m, s.once);
             }

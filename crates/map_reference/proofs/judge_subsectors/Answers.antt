@@ -1,0 +1,16 @@
+-- `map_reference::judge_subsectors` meets its contract: the records before `i` pass. The measure is what is left of them.
+-- Assumes nothing.
+use Prim.Native.Nat.{◌-◌}
+use mathlib.Core.Path.{refl}
+use borrow.Author.Rules.{rules}
+use Rattle.refusal.proofs.Scans.{scanned_none, tested_more, tested_stop}
+use Rattle.map_reference.proofs.judge_subsectors.Goals as goal
+
+pub loop-i-init : goal.loop-i-init
+loop-i-init c = scanned_none
+
+pub returns-then-not-subsector_ok : goal.returns-then-not-subsector_ok
+returns-then-not-subsector_ok c = tested_stop c.loop-i.invariant (search rules) c.subsector_ok.ensures c.if-not-subsector_ok.true-raw refl
+
+pub loop-i-preserved : goal.loop-i-preserved
+loop-i-preserved c = tested_more c.loop-i.invariant _ (search rules) c.subsector_ok.ensures c.if-not-subsector_ok.false-raw refl
