@@ -9,28 +9,21 @@ use Rattle.sidedefs_stream.specs.declared.Stream.{Stream}
 use Rattle.wad.specs.Header.{most_bytes}
 use Rattle.sidedefs_stream.specs.Scraps.{fed}
 use Rattle.sidedefs_stream.proofs.Scraps.{fed-cut}
-use Rattle.sidedefs_stream.proofs.feed_records.Statement.{statement}
-use Rattle.sidedefs_stream.proofs.feed_records.Tie as tie
+use Rattle.sidedefs_stream.proofs.feed_records.Goals as goal
 
-returns : tie.Need-returns
+pub returns : goal.returns
 returns c =
-    let a = c.before.before.before.before.before.args in
+    let a = c.args in
     let scrap = a.scrap.now in
-    let n = c.before.before.least.result in
+    let n = c.least-n.result in
     let whole : n - 0 ≡ n = omega arith in
-    let answer : c.feed-part.result ≡ fed a.state (take n scrap) =
-    c.feed-part.ensures.0 ∙ ap (λ (k : ℕ). fed a.state (take k scrap)) whole in
-    let total : c.feed-part.result.bytes ≡ a.state.bytes + n =
-    c.feed-part.ensures.1
+    let answer : c.feed_part.result ≡ fed a.state (take n scrap) =
+    c.feed_part.ensures.0 ∙ ap (λ (k : ℕ). fed a.state (take k scrap)) whole in
+    let total : c.feed_part.result.bytes ≡ a.state.bytes + n =
+    c.feed_part.ensures.1
     ∙ ap (λ (k : ℕ). a.state.bytes + length (take k scrap)) whole
     ∙ ap (λ (k : ℕ). a.state.bytes + k) (length-take-le n scrap (search rules)) in
-    let full : n < length scrap → most_bytes < c.feed-part.result.bytes =
-    λ h. omega (arith, total, c.before.before.least.ensures.2 h) in
+    let full : n < length scrap → most_bytes < c.feed_part.result.bytes =
+    λ h. omega (arith, total, c.least-n.ensures.2 h) in
     answer
     ∙ fed-cut a.state scrap n (λ h. subst (λ (s : Stream). most_bytes < s.bytes) answer (full h))
-
-pub feed_records_spec : {M : Type 1} → statement M
-feed_records_spec =
-    tie.close
-    (tie.spec (λ c. search rules) (λ c. search rules) (λ c κs. search rules) (λ c. search rules) (λ c. search rules)
-    (λ c. search rules) (λ c κs. search rules) returns)
