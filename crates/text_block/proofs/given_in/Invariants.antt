@@ -1,5 +1,5 @@
 -- `text_block::given_in` meets its contract: what was passed is given. Assumes nothing.
-use Prim.Native.Nat.{◌-◌, ◌≤◌}
+use Prim.Native.Nat.{◌≤◌}
 use mathlib.Core.Bool.{true}
 use mathlib.Core.Path.{◌≡◌}
 use Rattle.text_table.specs.Names.{every}
@@ -10,7 +10,3 @@ use Rattle.text_block.proofs.given_in.Given as goal
 abbrev pub invariant-loop-k : goal.invariant-loop-k
 invariant-loop-k l =
     (l.k ≤ l.n) × (true ≡ every (is_given (required_at l.rows) l.places) l.k)
-
-abbrev pub decreases-loop-k : goal.decreases-loop-k
-decreases-loop-k l =
-    l.n - l.k
