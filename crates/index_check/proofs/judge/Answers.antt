@@ -8,6 +8,7 @@ use Rattle.endian.specs.Unsigned.{Bytes}
 use Rattle.refusal.specs.declared.Check.TheVariants.{Pass}
 use Rattle.refusal.proofs.Checks.{pass_then}
 use Rattle.wad.specs.Entries.{directory_of}
+use Rattle.wad.proofs.Listing.{file-header, file_sound}
 use Rattle.index_check.specs.Checking.{index_head_check}
 use Rattle.index_check.specs.Inner.{records_check}
 use Rattle.index_check.proofs.Heads.{passed}
@@ -18,6 +19,13 @@ use Rattle.index_check.proofs.judge.Goals.{In_default}
 passes : (c : In_default)
     → index_head_check c.args.wad.now c.args.index.now ≡ Pass
 passes c = sym c.judge_head.ensures ∙ c.in_default.is
+
+pub judge_records-requires : goal.judge_records-requires
+judge_records-requires c =
+    let a = c.args in
+    let file = file-header a.wad.now (passed a.wad.now a.index.now (passes (goal.at.judge_records-requires c).In_default)).file in
+    let few = (file_sound a.wad.now file).few in
+    (omega (arith, few, c.entry_count.ensures), omega (arith, c.directory_of.ensures.result_len, c.entry_count.ensures))
 
 pub returns : goal.returns
 returns c =
