@@ -6,6 +6,7 @@ mod build;
 ghost use Rattle.std.specs.Prelude.{◌≡◌};
 ghost use Rattle.export_index.specs.Answers.{IndexJudged, IndexFound};
 
+pub use build::meshpigeon_index_build;
 use refusal::{Status, nothing_refused, refused, status_of};
 use wad::Marker;
 

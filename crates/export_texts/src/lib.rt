@@ -8,7 +8,7 @@ ghost use Rattle.export_texts.specs.Answers.{TextJudged, BlockFound};
 ghost use Rattle.export_texts.specs.Answers.{VertexNumbered, LinedefNumbered, SidedefNumbered, SectorNumbered, ThingNumbered};
 ghost use Rattle.export_texts.specs.Answers.{VertexFrom, LinedefFrom, SidedefFrom, SectorFrom, ThingFrom};
 
-use records::{
+pub use records::{
     TextLinedefAnswer, TextSectorAnswer, TextSidedefAnswer, TextThingAnswer, TextVertexAnswer,
 };
 use refusal::{Status, nothing_refused, refused};
