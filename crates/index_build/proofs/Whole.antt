@@ -113,10 +113,6 @@ module _ (wad : List ℕ) (ys : List IndexRecord) (os : List ℕ) where
       ∙ ap (λ (n : ℕ). index_bytes wad ++ drop n os) (zero-add (length (index_bytes wad)))
   written-by (Refused r) e = sym (written_none (sorted_over (directory_of wad) 0 ys) os)
 
-  pub builds : Builds wad ys os (building_of check (record_offset count)) (sorted_over (directory_of wad) (entries_by check) ys)
-      (written (sorted_over (directory_of wad) (entries_by check) ys) (entries_by check) (begun check wad os))
-  builds = record { answers = refl; sorts = sorted-by check; writes = written-by check refl }
-
   -- the same of a number that is as many, and of an answer, records and an output that are these
   pub fits_by : (n : ℕ) → n ≡ entries_by check → Fitting n
   fits_by n e = subst Fitting (sym e) fitting
