@@ -5,4 +5,5 @@ pub mod NameKeys
 pub mod Sorting
 pub mod Holds
 pub mod Padded
+pub mod Filled
 pub mod Bytes

@@ -1,7 +1,5 @@
--- The laws of building, and what its walks share. Assumes nothing.
+-- The laws of building. Assumes nothing.
 
-pub mod Again
-pub mod Walk
 pub mod Moves
 pub mod Heaps
 pub mod SortedOver

@@ -20,6 +20,7 @@ use Rattle.index.specs.Records.{no_record}
 use Rattle.index.specs.Index.{index_head_size, index_record_size, record_offset, index_head, index_record_bytes, sorted_records, index_bytes}
 use Rattle.index.proofs.Bytes.{row-length, index_size}
 use Rattle.index.proofs.Holds.{index_length}
+use Rattle.index_build.specs.declared.Building.{Building}
 use Rattle.index_build.specs.Building.{build_check, building_of, records_after, Builds}
 use Rattle.index_build.specs.Inner.{entries_in, EntriesThere, sorted_over, begun, written}
 use Rattle.index_build.proofs.Bytes.{written_none, written-suc}
@@ -51,10 +52,10 @@ module _ (records : List IndexRecord) (head out : List ℕ) (eleven : length hea
 -- ---- what is built
 
 module _ (wad : List ℕ) (ys : List IndexRecord) (os : List ℕ) where
-  abbrev count : ℕ
+  abbrev pub count : ℕ
   count = entry_count (head_of wad)
 
-  abbrev check : Check
+  abbrev pub check : Check
   check = build_check wad (length ys) (length os)
 
   -- how many entries are put in
@@ -112,6 +113,17 @@ module _ (wad : List ℕ) (ys : List IndexRecord) (os : List ℕ) where
       ∙ ap (λ (n : ℕ). index_bytes wad ++ drop n os) (zero-add (length (index_bytes wad)))
   written-by (Refused r) e = sym (written_none (sorted_over (directory_of wad) 0 ys) os)
 
-  pub builds : Builds wad ys os (building_of check (record_offset count)) (sorted_over (directory_of wad) (entries_by check) ys)
-      (written (sorted_over (directory_of wad) (entries_by check) ys) (entries_by check) (begun check wad os))
-  builds = record { answers = refl; sorts = sorted-by check; writes = written-by check refl }
+  -- the same of a number that is as many, and of an answer, records and an output that are these
+  pub fits_by : (n : ℕ) → n ≡ entries_by check → Fitting n
+  fits_by n e = subst Fitting (sym e) fitting
+
+  pub builds_by : {answer : Building} {n : ℕ} {zs : List IndexRecord} {mid out : List ℕ} → answer ≡ building_of check (record_offset count)
+      → n ≡ entries_by check → zs ≡ sorted_over (directory_of wad) n ys → mid ≡ begun check wad os → out ≡ written zs n mid
+      → Builds wad ys os answer zs out
+  builds_by {n = n} {zs = zs} a e z m o =
+      let sorted : zs ≡ sorted_over (directory_of wad) (entries_by check) ys = z ∙ ap (λ (k : ℕ). sorted_over (directory_of wad) k ys) e in
+      record {
+        answers = a;
+        sorts = sorted ∙ sorted-by check;
+        writes = o ∙ (λ x. written (sorted x) (e x) (m x)) ∙ written-by check refl;
+      }

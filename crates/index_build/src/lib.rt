@@ -1,6 +1,5 @@
 // Builds a name index (W-210): every entry is put into a lent slice of records, the slice is sorted in place and then
-// written out. The definitions are in specs/. `build`, `fill`, `sort` and `write` take a slice of records; a walk of
-// their MIR by hand proves them.
+// written out. The definitions are in specs/.
 #![tactic(auto)]
 
 ghost use Rattle.std.specs.Prelude.{◌≡◌};

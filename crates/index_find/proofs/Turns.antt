@@ -2,14 +2,11 @@
 -- smaller search. Assumes nothing.
 use Prim.Native.Nat.{ℕ, zero, suc, ◌+◌, ◌-◌, ◌/◌, ◌≤◌, ◌<◌}
 use mathlib.Core.Bool.{Bool, true, false, cond}
-use mathlib.Core.List.{List}
-use mathlib.Core.Path.{◌≡◌, refl, sym, ap, ◌∙◌}
+use mathlib.Core.Path.{◌≡◌, sym, ap, ◌∙◌}
 use native.Mathlib.Omega.{arith}
 use borrow.Author.Tests.{ne_eqb}
 use lib.Dec.{eqb}
-use Rattle.refusal.specs.declared.Refusal.TheVariants.{EntryMissing}
-use Rattle.wad.specs.declared.map.Marker.TheVariants.{Refused as NoMarker}
-use Rattle.index_find.specs.Finding.{past_by, compared_by, is_equal, number_in, believed, last_past}
+use Rattle.index_find.specs.Finding.{past_by, compared_by}
 use Rattle.index_find.specs.Inner.{of_last}
 use Rattle.index_find.proofs.Halving.{past-none, past-step, compared_none, compared_step}
 
@@ -55,9 +52,6 @@ module _ (low : ℕ → Bool) where
     pub few : compared + left ≤ count
     pub goes : past_by low count 0 count ≡ past_by low left past left
     pub counts : compared_by low count 0 count ≡ compared + compared_by low left past left
-
-  pub searching_all : (count : ℕ) → Searching count 0 count 0
-  searching_all count = record { room = omega arith; few = omega arith; goes = refl; counts = omega arith }
 
   module _ {count past left compared : ℕ} (s : Searching count past left compared) (some : 0 < left) where
     is_some : eqb left 0 ≡ false
@@ -110,17 +104,3 @@ module _ (low : ℕ → Bool) where
 
 pub last_more : (test : ℕ → Bool) (i : ℕ) → test i ≡ of_last test (i + 1)
 last_more test i = let e : suc i ≡ i + 1 = omega arith in ap (of_last test) e
-
-pub last_some : (test : ℕ → Bool) (past : ℕ) → of_last test past ≡ true → 0 < past
-last_some test zero e = let z : ◌≡◌ {A = ℕ} 0 1 = cc in absurd (omega arith)
-last_some test (suc i) e = omega arith
-
-module _ (dir : List ℕ) (count : ℕ) (index name : List ℕ) where
-  pub last_equal : (past : ℕ) → of_last (is_equal index name) past ≡ true
-      → believed dir count name (number_in index (past - 1)) ≡ last_past dir count index name past
-  last_equal zero e = let z : ◌≡◌ {A = ℕ} 0 1 = cc in absurd (omega arith)
-  last_equal (suc i) e = let one : suc i - 1 ≡ i = omega arith in rw (one, e)
-
-  pub last-other : (past : ℕ) → of_last (is_equal index name) past ≡ false → NoMarker EntryMissing ≡ last_past dir count index name past
-  last-other zero e = refl
-  last-other (suc i) e = rw e

@@ -67,9 +67,6 @@ module _ (lump : List ℕ) (height : ℕ) where
         record { rest = r; known = λ slot e. record { once = λ q. good slot e; ahead = λ h. good slot e }; same = refl }
 
     module _ {answer : Check} {notes₀ notes : List ℕ} {at row : ℕ} (j : Judging answer notes₀ notes at row) where
-      pub judging_notes : answer ≡ Pass → Notes (Good lump height) notes
-      judging_notes e slot m = (j.known slot m).once e
-
       module _ (rows : rows_ok lump height at row ≡ true) where
         above : row ≤ start_at lump at
         above = leb-true _ _ (both (leb row (start_at lump at)) _ rows).0

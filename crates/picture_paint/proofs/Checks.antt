@@ -1,12 +1,10 @@
--- Laws of painting: what a picture that may be painted is known to have, and what is promised from a check's outcome. Assumes
--- nothing.
+-- Laws of painting: what a picture that may be painted is known to have. Assumes nothing.
 use Prim.Native.Nat.{ℕ, ◌≤◌}
 use mathlib.Core.List.{List}
-use mathlib.Core.Path.{◌≡◌, refl, sym, ap, ◌∙◌}
+use mathlib.Core.Path.{◌≡◌}
 use native.Mathlib.Omega.{arith}
 use borrow.Author.Tests.{leb-true}
 use lib.Dec.{leb}
-use lib.ListN.{length}
 use Rattle.refusal.specs.declared.Refusal.TheVariants.{PixelBuffer}
 use Rattle.refusal.specs.declared.Refusal.{Refusal}
 use Rattle.refusal.specs.declared.Check.{Check}
@@ -15,14 +13,9 @@ use Rattle.refusal.specs.Checks.{◌and_then◌}
 use Rattle.refusal.proofs.Checks.{both, unless_pass, and_then_pass}
 use Rattle.picture_header.specs.Layout.{area_of}
 use Rattle.picture_header.specs.Headers.{picture_header_check}
-use Rattle.picture.specs.Judging.{columns_check, picture_check, picture_answer}
-use Rattle.picture_header.specs.declared.Picture.{Picture}
-use Rattle.picture.specs.declared.PictureVerdict.{PictureVerdict}
-use Rattle.picture.specs.declared.PictureVerdict.TheVariants.{Accepted, Refused as NotAccepted}
+use Rattle.picture.specs.Judging.{columns_check, picture_check}
 use Rattle.picture_header.proofs.Checks.{Header, header_of}
 use Rattle.picture_paint.specs.Buffers.{room_check, paint_check}
-use Rattle.layout.specs.Buffers.{buffer_after}
-use Rattle.picture_paint.specs.Pixels.{by_colour, by_cover, plane_of, Painted}
 
 -- ---- two questions for one: the header with the room, then the header with the columns
 
@@ -63,27 +56,4 @@ good_of lump colours covers e =
       colours_fit = leb-true _ _ room.0;
       covers_fit = leb-true _ _ room.1;
       columns = second.1;
-    }
-
--- ---- an answer, taken back to its check
-
-pub answer_refused : (lump : List ℕ) (check : Check) {r : Refusal} → picture_answer check lump ≡ NotAccepted r → check ≡ Refused r
-answer_refused lump Pass e = let z : ◌≡◌ {A = ℕ} 0 1 = cc in absurd (omega arith)
-answer_refused lump (Refused s) e = cc
-
-pub answer_accepted : (lump : List ℕ) (check : Check) {p : Picture} → picture_answer check lump ≡ Accepted p → check ≡ Pass
-answer_accepted lump Pass e = refl
-answer_accepted lump (Refused s) e = let z : ◌≡◌ {A = ℕ} 0 1 = cc in absurd (omega arith)
-
--- ---- what painting promises, from the check's outcome
-
-pub painted_by : (lump colour cover : List ℕ) (k : Check) {answer : PictureVerdict} {colour' cover' : List ℕ}
-    → paint_check lump (length colour) (length cover) ≡ k → answer ≡ picture_answer k lump
-    → colour' ≡ buffer_after k (plane_of by_colour lump) colour → cover' ≡ buffer_after k (plane_of by_cover lump) cover
-    → Painted lump colour cover answer colour' cover'
-painted_by lump colour cover k e a b c =
-    record {
-      answered = a ∙ ap (λ (k : Check). picture_answer k lump) (sym e);
-      colours = b ∙ ap (λ (k : Check). buffer_after k (plane_of by_colour lump) colour) (sym e);
-      covered = c ∙ ap (λ (k : Check). buffer_after k (plane_of by_cover lump) cover) (sym e);
     }

@@ -3,8 +3,8 @@ use Prim.Native.Nat.{ℕ, ◌+◌, ◌-◌, ◌*◌, ◌/◌, ◌%◌, ◌≤◌
 use mathlib.Core.Bool.{Bool, true, false, ◌&&◌, cond}
 use mathlib.Core.List.{List}
 use mathlib.Core.Logic.{◌⊎◌, inl, inr}
-use mathlib.Core.Path.{◌≡◌, refl, sym, ap, ◌∙◌, subst}
-use native.Mathlib.Nat.{not-suc-le-zero, le_of_suc-le-suc, eq-or-lt_of_le}
+use mathlib.Core.Path.{◌≡◌, refl, sym, ap, ◌∙◌}
+use native.Mathlib.Nat.{le_of_suc-le-suc, eq-or-lt_of_le}
 use native.Mathlib.Numerals.{add-one}
 use native.Mathlib.Omega.{arith}
 use borrow.Author.Tests.{eqb-true, eqb-false, leb-true, ltb-true, ltb-false, le-leb, lt-ltb, le-ltb}
@@ -12,8 +12,8 @@ use lib.Arith.{digits_lt, digits_div, digits_mod, lt_of_le-ne}
 use lib.Dec.{leb, ltb, eqb}
 use lib.ListN.{length, get_or, set, length-set}
 use lib.Seq.{get_or-set_same, get_or-set_other, drop-set-lt}
-use Rattle.picture_header.specs.Layout.{start_at, length_at}
-use Rattle.picture_paint.specs.Pixels.{by_colour, by_cover, byte_of, over_post}
+use Rattle.picture_header.specs.Layout.{start_at}
+use Rattle.picture_paint.specs.Pixels.{by_colour, by_cover, byte_of}
 use Rattle.picture_paint.specs.Inner.{Stroke, Strokes, Both}
 
 -- ---- both planes
@@ -88,12 +88,6 @@ module _ (by : ℕ → ℕ) (lump : List ℕ) (at : ℕ) where
           let h = lt_of_le-ne (ltb-false row (start_at lump at + count) e) (λ q. n (sym q)) in
           le-ltb row (start_at lump at + (count + 1)) (omega arith)
 
-  -- all of them
-  pub first-all : {area width column : ℕ} {old now : List ℕ} (count : ℕ) → count ≡ length_at lump at
-      → Stroke area width column (over_first by lump at count) old now → Stroke area width column (over_post by lump at) old now
-  first-all {area} {width} {column} {old} {now} count =
-      subst (λ (n : ℕ). Stroke area width column (over_first by lump at n) old now)
-
   -- one pixel more
   module _ (height width column count : ℕ) {old now : List ℕ} (inside : column < width)
       (row_ok : start_at lump at + count < height) (room : height * width ≤ length old)
@@ -131,10 +125,6 @@ module _ (by : ℕ → ℕ) (lump : List ℕ) (at : ℕ) where
 -- ---- columns
 
 module _ {area width : ℕ} {f : ℕ → ℕ → ℕ → ℕ} where
-  pub strokes_none : (plane : List ℕ) → Strokes area width 0 f plane plane
-  strokes_none plane =
-      record { same = refl; beyond = refl; done = λ column row h. absurd (not-suc-le-zero h); left = λ column row h k. refl }
-
   -- one column more
   pub strokes_more : (count : ℕ) {a b c : List ℕ} → count < width → Strokes area width count f a b
       → Stroke area width count (f count) b c → Strokes area width (count + 1) f a c

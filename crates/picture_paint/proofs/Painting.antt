@@ -2,7 +2,7 @@
 -- planes as they were. Assumes nothing.
 use Prim.Native.Nat.{ℕ, ◌+◌, ◌*◌, ◌<◌}
 use mathlib.Core.List.{List}
-use mathlib.Core.Path.{◌≡◌, refl, sym, ◌∙◌, subst}
+use mathlib.Core.Path.{◌≡◌, sym, ◌∙◌, subst}
 use native.Mathlib.Omega.{arith}
 use lib.Dec.{leb}
 use lib.ListN.{length}
@@ -35,9 +35,6 @@ module _ (lump : List ℕ) (from width column : ℕ) where
     pub passes : posts_check most lump (height_of lump) column at row ≡ Pass
     pub planes : Both (λ by old new. Plane by old new most at) colour₀ cover₀ colour cover
 
-  plane_first : (by : ℕ → ℕ) (plane : List ℕ) → Plane by plane plane (length lump) from
-  plane_first by plane = record { same = refl; finish = λ last s. s }
-
   plane_more : (by : ℕ → ℕ) (most at : ℕ) {old new newer : List ℕ} → Plane by old new most at
       → Stroke (height_of lump * width) width column (over_post by lump at) new newer
       → (n : Next lump (height_of lump) column most at) → Plane by old newer n.left (post_end lump at)
@@ -48,11 +45,6 @@ module _ (lump : List ℕ) (from width column : ℕ) where
       → Stroke (height_of lump * width) width column (over_posts by (length lump) lump from) old new
   plane_done by most at {old} {new} p e =
       p.finish new (stroke_none new (posts_ended lump (height_of lump) column by most at e))
-
-  pub painting_first : (colour cover : List ℕ) → posts_check (length lump) lump (height_of lump) column from 0 ≡ Pass
-      → Painting colour cover colour cover from
-  painting_first colour cover e =
-      record { most = length lump; row = 0; passes = e; planes = both_none colour cover plane_first }
 
   module _ {colour₀ cover₀ colour cover : List ℕ} {at : ℕ} (p : Painting colour₀ cover₀ colour cover at) where
     pub painting_inside : at < length lump

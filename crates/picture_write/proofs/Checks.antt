@@ -9,17 +9,16 @@ use borrow.Author.Tests.{leb-true, le-leb, lt-leb}
 use lib.Dec.{leb}
 use lib.ListN.{length, drop, length-append}
 use lib.Seq.{sets, sets-eq}
-use Rattle.refusal.specs.declared.Refusal.{Refusal}
 use Rattle.refusal.specs.declared.Refusal.TheVariants.{EncodeRoom}
 use Rattle.refusal.specs.declared.Check.{Check}
 use Rattle.refusal.specs.declared.Check.TheVariants.{Pass, Refused}
 use Rattle.refusal.specs.Checks.{unless}
-use Rattle.refusal.proofs.Checks.{both, refused-then, pass_then}
+use Rattle.refusal.proofs.Checks.{both, pass_then}
 use Rattle.picture_header.specs.declared.Picture.{Picture}
 use Rattle.layout.specs.Buffers.{buffer_after}
 use Rattle.picture_write.specs.declared.Encoding.{Encoding}
 use Rattle.picture_write.specs.Lump.{header_bytes, written_of, written_length}
-use Rattle.picture_write.specs.Encoding.{output_check, given_check, encode_check, encoding_of, Encoded}
+use Rattle.picture_write.specs.Encoding.{given_check, encode_check, encoding_of, Encoded}
 use Rattle.picture_write.proofs.Fits.{Fit}
 use Rattle.layout.proofs.Stores.{sets_append, sets_comm}
 use Rattle.picture_write.proofs.Lump.{offsets, columns, length_offsets, length-written}
@@ -33,9 +32,6 @@ module _ (picture : Picture) (colour cover : List ℕ) where
       leb-true _ _ (both (leb 1 picture.width) (leb picture.width 320) sides.0).1
 
   -- ---- the check's outcomes
-
-  pub given_refused : (room : ℕ) {r : Refusal} → given_check picture colour cover ≡ Refused r → encode_check picture colour cover room ≡ Refused r
-  given_refused room e = sym (refused-then (output_check (written_length picture cover) room) e)
 
   pub room-refused : (room : ℕ) → given_check picture colour cover ≡ Pass → room < written_length picture cover
       → encode_check picture colour cover room ≡ Refused EncodeRoom

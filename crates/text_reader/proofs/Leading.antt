@@ -16,13 +16,17 @@ use Rattle.text_block.specs.Blocks.{is_full, stops_there, stops_inside, all_give
 use Rattle.text_table.specs.Names.{kind_named}
 use Rattle.text_step.specs.declared.Parse.{Parse}
 use Rattle.text_step.specs.Steps.{is_top, is_found, on_end, on_brace, on_semicolon, step_by}
-use Rattle.text_reader.specs.Texts.{Stand, stand, is_more, goes, kept_after, token_more}
+use Rattle.text_reader.specs.Texts.{Stand, stand, is_more, goes, kept_after, token_more, text_from}
 use Rattle.text_reader.specs.Inner.{Leads, last, then, ReadsOn, Rests}
 use Rattle.text_reader.proofs.Onward.{Next, step_next}
 use Rattle.text_reader.proofs.Runs.{Rest, rest_more, left, left_less}
 
 abbrev pub place : Stand → ℕ
 place x = x.parse.at
+
+-- the run from here on answers what the whole one does
+abbrev pub RestOf : List ℕ → Asked → ℕ → Stand → Type 0
+RestOf text asked from x = Rest goes (token_more text asked) place (length text) x (text_from text asked from)
 
 -- the kind of the open block has room
 abbrev pub Room : Stand → Type 0

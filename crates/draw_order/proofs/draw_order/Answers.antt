@@ -27,5 +27,5 @@ returns c =
     let y = to_z-of_z w16 a.y c.ranges.y in
     let list = c.list_all in
     drawn_passed a.nodes.now a.subsectors a.x a.y a.words.now (passed (goal.at.returns c).In_default)
-    (list.ensures.0 ∙ (λ i. order_answer (root_order a.nodes.now a.subsectors (x i) (y i))))
-    (list.ensures.1 ∙ (λ i. words_after_listing a.nodes.now (root_order a.nodes.now a.subsectors (x i) (y i)) a.words.now))
+    (list.ensures.value ∙ (λ i. order_answer (root_order a.nodes.now a.subsectors (x i) (y i))))
+    (list.ensures.words_after ∙ (λ i. words_after_listing a.nodes.now (root_order a.nodes.now a.subsectors (x i) (y i)) a.words.now))

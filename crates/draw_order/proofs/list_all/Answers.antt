@@ -12,7 +12,7 @@ use Rattle.node_graph.proofs.Words.{cleared_front}
 use Rattle.draw_order.specs.declared.Order.{Order}
 use Rattle.draw_order.specs.Lists.{root_order}
 use Rattle.draw_order.specs.Inner.{Walked}
-use Rattle.draw_order.proofs.Words.{walked_by, walked-stopped}
+use Rattle.draw_order.proofs.Words.{walked_by, walked-listed, walked-stopped}
 use Rattle.draw_order.proofs.list_all.Goals as goal
 use Rattle.draw_order.proofs.list_all.Goals.{After-order_of}
 
@@ -27,22 +27,27 @@ walked c answer e =
     let y = to_z-of_z w16 a.y c.ranges.y in
     let walk = c.walk_root-found in
     let first = take (a.count + 1) a.words.now in
-    let front = walk.new.1.1.1.1.1.0 in
+    let front = walk.new.words in
     subst (λ (r : Order). Walked (root_order a.nodes.now a.subsectors a.x a.y) 0 first r front) (sym c.order_of.ensures ∙ e)
     (walked_by 0 first _ front (λ i. root_order a.nodes.now a.subsectors (x i) (y i)) walk.ensures)
+
+pub returns-in-Listed-clause-words_after : goal.returns-in-Listed-clause-words_after
+returns-in-Listed-clause-words_after c =
+    let a = c.args in
+    (walked-listed a.nodes.now a.words.now c.walk_root-found.new.words (a.count + 1) c.in-Listed.listed
+    (root_order a.nodes.now a.subsectors a.x a.y)
+    (walked (goal.at.returns-in-Listed-clause-words_after c).After-order_of _ c.in-Listed.is)).1
 
 pub returns-in-Refused-clause-words_after : goal.returns-in-Refused-clause-words_after
 returns-in-Refused-clause-words_after c =
     let a = c.args in
-    let walk = c.walk_root-found in
-    let found = c.r-1 in
-    let first = take (a.count + 1) a.words.now in
-    let front = walk.new.1.1.1.1.1.0 in
+    let front = c.walk_root-found.new.words in
     let part = length-take-le (a.count + 1) a.words.now c.requires.2 in
     let counted = sym (nodes_of-whole a.nodes.now a.count c.requires.0) in
     let p =
-    walked-stopped a.nodes.now a.words.now first front (root_order a.nodes.now a.subsectors a.x a.y) found.given.0.0
-    (walked (goal.at.returns-in-Refused-clause-words_after c).After-order_of _ found.given.1) in c.clear.ensures
-    ∙ cleared_front a.words.now front (a.count + 1) (walk.auto.1.1.1.1.1.0 ∙ part)
+    walked-stopped a.nodes.now a.words.now (take (a.count + 1) a.words.now) front (root_order a.nodes.now a.subsectors a.x a.y) c.in-Refused.r
+    (walked (goal.at.returns-in-Refused-clause-words_after c).After-order_of _ c.in-Refused.is) in
+    c.clear.ensures
+    ∙ cleared_front a.words.now front (a.count + 1) (c.walk_root-found.auto.words ∙ part)
     ∙ (λ i. cleared a.words.now (counted i + 1))
     ∙ p.1

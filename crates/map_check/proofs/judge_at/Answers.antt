@@ -22,7 +22,11 @@ below c =
 -- it passes
 passes : (c : In_default)
     → check_at c.args.wad.now c.args.marker (length c.args.words.now) ≡ Pass
-passes c = sym (below c.After-judge_below) ∙ c.in_default.is
+passes c =
+    sym
+    (c.judge_below.ensures
+    ∙ check-same c.args.wad.now c.args.marker _ c.directory_of-dir.ensures.result_value c.entry_count.ensures)
+    ∙ c.in_default.is
 
 -- the NODES lump is that of the map
 nodes : (c : After-map_lump)

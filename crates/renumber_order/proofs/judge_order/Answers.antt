@@ -2,7 +2,6 @@
 use mathlib.Core.Bool.{Bool}
 use mathlib.Core.Path.{◌≡◌, sym, ◌∙◌, subst}
 use native.Mathlib.Omega.{arith}
-use borrow.Author.Tests.{not-true, not-false}
 use lib.ListN.{length}
 use Rattle.renumber_order.specs.Places.{marked_below, Filled}
 use Rattle.renumber_order.proofs.Outcomes.{judged-length, order-few, held_none, judged_nodes, ordered_filled, judged_late}
@@ -27,28 +26,40 @@ kept c = c.fill_places.auto.words ∙ c.empty_places.auto.words
 
 pub returns-then-order-marked_count : goal.returns-then-order-marked_count
 returns-then-order-marked_count c =
-    judged-length (now c.args.nodes) c.args.count (now c.args.words) (now c.args.order) c.args.room c.requires.0 c.requires.1
-    (λ (q : length (now c.args.order) ≡ length (marked_below (now c.args.words) c.args.count)). c.if-order-marked_count.true (q ∙ sym c.marked_count.ensures)) _
+    judged-length c.args.nodes.now c.args.count c.args.words.now c.args.order.now c.args.room c.requires.0 c.requires.1
+    (λ (q : length c.args.order.now ≡ length (marked_below c.args.words.now c.args.count)). c.if-order-marked_count.true (q ∙ sym c.marked_count.ensures)) _
 
 pub fill_places-requires-clause-count_in_bounds : goal.fill_places-requires-clause-count_in_bounds
 fill_places-requires-clause-count_in_bounds c =
-    let few = order-few c.args.nodes.now c.args.count c.args.words.now c.args.order.now c.args.room c.requires.0 c.requires.1 (long (goal.at.fill_places-requires-clause-count_in_bounds c).Else-order-marked_count) _ c.empty_places.ensures in (omega (arith, c.empty_places.auto.words, c.requires.0.enough), few)
+    let e = goal.at.fill_places-requires-clause-count_in_bounds c in (
+      omega (arith, c.empty_places.auto.words, c.requires.0.enough),
+      order-few c.args.nodes.now c.args.count c.args.words.now c.args.order.now c.args.room c.requires.0 c.requires.1 (long e.Else-order-marked_count)
+          _ c.empty_places.ensures,
+    )
 
 pub fill_places-requires-clause-places_held : goal.fill_places-requires-clause-places_held
 fill_places-requires-clause-places_held c =
-    let few = order-few c.args.nodes.now c.args.count c.args.words.now c.args.order.now c.args.room c.requires.0 c.requires.1 (long (goal.at.fill_places-requires-clause-places_held c).Else-order-marked_count) _ c.empty_places.ensures in held_none c.args.nodes.now c.args.count c.args.words.now c.args.order.now c.args.room c.requires.0 c.requires.1 (long (goal.at.fill_places-requires-clause-places_held c).Else-order-marked_count) _ c.empty_places.ensures
+    let e = goal.at.fill_places-requires-clause-places_held c in
+    held_none c.args.nodes.now c.args.count c.args.words.now c.args.order.now c.args.room c.requires.0 c.requires.1
+    (long e.Else-order-marked_count) _ c.empty_places.ensures
 
 pub returns-then-not-fill_places : goal.returns-then-not-fill_places
 returns-then-not-fill_places c =
-    judged_nodes c.args.nodes.now c.args.count c.args.words.now c.args.order.now c.args.room c.requires.0 c.requires.1 (long (goal.at.returns-then-not-fill_places c).Else-order-marked_count) _ c.empty_places.ensures
-    (subst (Told (goal.at.returns-then-not-fill_places c).After-fill_places) (not-true _ c.if-not-fill_places.true-raw) c.fill_places.ensures) _
+    let e = goal.at.returns-then-not-fill_places c in
+    judged_nodes c.args.nodes.now c.args.count c.args.words.now c.args.order.now c.args.room c.requires.0 c.requires.1
+    (long e.Else-order-marked_count) _ c.empty_places.ensures
+    (subst (Told e.After-fill_places) c.if-not-fill_places.true c.fill_places.ensures) _
 
 pub judge_places-requires : goal.judge_places-requires
 judge_places-requires c =
-    ordered_filled c.args.nodes.now c.args.count c.args.words.now c.args.order.now c.args.room c.requires.0 c.requires.1 (long (goal.at.judge_places-requires c).Else-order-marked_count) _ c.empty_places.ensures
-    c.fill_places.new.words (kept (goal.at.judge_places-requires c).After-fill_places) (subst (Told (goal.at.judge_places-requires c).After-fill_places) (not-false _ c.if-not-fill_places.false-raw) c.fill_places.ensures)
+    let e = goal.at.judge_places-requires c in
+    ordered_filled c.args.nodes.now c.args.count c.args.words.now c.args.order.now c.args.room c.requires.0 c.requires.1
+    (long e.Else-order-marked_count) _ c.empty_places.ensures c.fill_places.new.words (kept e.After-fill_places)
+    (subst (Told e.After-fill_places) c.if-not-fill_places.false c.fill_places.ensures)
 
 pub returns : goal.returns
 returns c =
-    judged_late c.args.nodes.now c.args.count c.args.words.now c.args.order.now c.args.room c.requires.0 c.requires.1 (long (goal.at.returns c).Else-order-marked_count) _ c.empty_places.ensures
-    c.fill_places.new.words (kept (goal.at.returns c).After-fill_places) (subst (Told (goal.at.returns c).After-fill_places) (not-false _ c.if-not-fill_places.false-raw) c.fill_places.ensures) c.judge_places.ensures
+    let e = goal.at.returns c in
+    judged_late c.args.nodes.now c.args.count c.args.words.now c.args.order.now c.args.room c.requires.0 c.requires.1
+    (long e.Else-order-marked_count) _ c.empty_places.ensures c.fill_places.new.words (kept e.After-fill_places)
+    (subst (Told e.After-fill_places) c.if-not-fill_places.false c.fill_places.ensures) c.judge_places.ensures

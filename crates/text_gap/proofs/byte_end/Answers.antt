@@ -1,5 +1,4 @@
 -- `text_gap::byte_end` meets its contract: from `at` on the first byte of the value is that from `from` on. The measure is what is left. Assumes nothing.
-use Prim.Native.Nat.{◌-◌}
 use mathlib.Core.Bool.{not}
 use mathlib.Core.Path.{refl, sym, ap, ◌∙◌}
 use borrow.Author.Tests.{eq-eqb, ne_eqb}

@@ -1,6 +1,5 @@
 -- `text_name::name_end` meets its contract: from `at` on the name ends where it ends from `from` on. The measure is what is left.
 -- Assumes nothing.
-use Prim.Native.Nat.{◌-◌}
 use mathlib.Core.Path.{sym, ◌∙◌}
 use borrow.Author.Tests.{not-true, not-false}
 use Rattle.text_byte.proofs.Spans.{span_more, span_stop, span_done}

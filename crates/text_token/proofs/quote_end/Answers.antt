@@ -1,7 +1,6 @@
 -- `text_token::quote_end` meets its contract: from `at` on, where a quote or a backslash stands, the string ends where it ends from `from` on.
 -- The measure is what is left. Assumes nothing.
-use Prim.Native.Nat.{◌-◌}
-use mathlib.Core.Bool.{true, false}
+use mathlib.Core.Bool.{false}
 use mathlib.Core.Path.{sym, ◌∙◌}
 use native.Mathlib.Omega.{arith}
 use borrow.Author.Tests.{eq-eqb, ne_eqb}

@@ -1,7 +1,5 @@
 -- `text_token::string_run` meets its contract: from `at` on the string ends where it ends from `from` on. The measure is what is left.
 -- Assumes nothing.
-use Prim.Native.Nat.{◌-◌}
-use mathlib.Core.Bool.{false}
 use mathlib.Core.Path.{◌∙◌}
 use native.Mathlib.Omega.{arith}
 use Rattle.text_token.proofs.QuoteRuns.{quote_plain}

@@ -1,6 +1,5 @@
 -- `text_token::word_end` meets its contract: from `at` on the word ends where it ends from `from` on. The measure is what is left.
 -- Assumes nothing.
-use Prim.Native.Nat.{◌-◌}
 use mathlib.Core.Bool.{not}
 use mathlib.Core.Path.{sym, ap, ◌∙◌}
 use Rattle.text_byte.proofs.Spans.{span_more, span_stop, span_done}

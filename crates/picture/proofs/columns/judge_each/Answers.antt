@@ -1,6 +1,5 @@
 -- `picture::columns::judge_each` meets its contract: the columns passed so far are a scan that passes, and so the notes hold. Assumes
 -- nothing.
-use Prim.Native.Nat.{◌-◌}
 use mathlib.Core.Path.{sym, ◌∙◌}
 use borrow.Author.Rules.{rules}
 use Rattle.refusal.proofs.Scans.{scanned_none, scanned_more, scanned_stop}

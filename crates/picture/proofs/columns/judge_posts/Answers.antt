@@ -1,6 +1,6 @@
 -- `picture::columns::judge_posts` meets its contract: at each turn the posts that are left decide the answer. The measure is what
 -- is left of the lump. Assumes nothing.
-use Prim.Native.Nat.{suc, ◌-◌, ◌≤◌, ◌<◌}
+use Prim.Native.Nat.{suc, ◌≤◌, ◌<◌}
 use mathlib.Core.Path.{sym, ◌∙◌}
 use native.Mathlib.Omega.{arith}
 use borrow.Author.Tests.{leb-true}
@@ -22,7 +22,7 @@ rows_fit c =
 pub loop-at-init : goal.loop-at-init
 loop-at-init c =
     let pre = c.requires in
-    judging_first _ _ _ _ (rest-first _ _ _ _ pre.0.1 pre.0.0) pre.1
+    judging_first _ _ _ _ (rest-first _ _ _ _ pre.from_nonzero.1 pre.from_nonzero.0) pre.notes
 
 pub returns-then-start-eq255-clause-value : goal.returns-then-start-eq255-clause-value
 returns-then-start-eq255-clause-value c =

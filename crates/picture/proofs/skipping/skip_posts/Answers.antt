@@ -1,6 +1,6 @@
 -- `picture::skipping::skip_posts` meets its contract: each turn goes past one block more. The measure is what is left of the lump.
 -- Assumes nothing.
-use Prim.Native.Nat.{◌-◌, ◌≤◌}
+use Prim.Native.Nat.{◌≤◌}
 use borrow.Author.Rules.{rules}
 use lib.ListN.{length}
 use Rattle.picture.specs.Stepping.{Over}

@@ -1,11 +1,8 @@
--- `renumber_order::places::fill_places` meets its contract. The loop's invariant: the first `i` numbers have their places. The measure is what is
--- left of the list. Assumes nothing.
-use Prim.Native.Nat.{◌-◌}
+-- `renumber_order::places::fill_places` meets its contract. Assumes nothing.
 use mathlib.Core.Bool.{true}
 use mathlib.Core.Path.{◌≡◌, refl, sym, ◌∙◌}
 use native.Mathlib.Omega.{arith}
 use borrow.Author.Rules.{rules}
-use borrow.Author.Tests.{not-true, not-false}
 use Rattle.renumber_order.specs.Orders.{old_at}
 use Rattle.renumber_order.specs.Places.{free_ok}
 use Rattle.renumber_order.proofs.Filling.{filling_more, filling_stop, filling_done}
@@ -17,13 +14,13 @@ free : (c : Else-not-free_ok)
     → (let l = c.loop-i in
     let a = c.args in
     free_ok l.words a.count (old_at a.order.now l.i) ≡ true)
-free c = sym c.free_ok.ensures ∙ not-false _ c.if-not-free_ok.false-raw
+free c = sym c.free_ok.ensures ∙ c.if-not-free_ok.false
 
 pub returns-then-not-free_ok : goal.returns-then-not-free_ok
 returns-then-not-free_ok c =
     let l = c.loop-i in
     filling_stop c.args.count c.args.words.now c.args.order.now l.i l.words l.invariant.2
-    (omega (arith, l.invariant.0, c.loop-i-test.true)) (sym c.free_ok.ensures ∙ not-true _ c.if-not-free_ok.true-raw) l.words
+    (omega (arith, l.invariant.0, c.loop-i-test.true)) (sym c.free_ok.ensures ∙ c.if-not-free_ok.true) l.words
 
 pub loop-i-preserved : goal.loop-i-preserved
 loop-i-preserved c =

@@ -1,6 +1,6 @@
--- `renumber_order::places::fill_places` meets its contract. The loop's invariant: the first `i` numbers have their places. The measure is what is
--- left of the list. Assumes nothing.
-use Prim.Native.Nat.{◌-◌, ◌≤◌}
+-- `renumber_order::places::fill_places` meets its contract. The loop's invariant: the first `i` numbers have their places.
+-- Assumes nothing.
+use Prim.Native.Nat.{◌≤◌}
 use mathlib.Core.Path.{◌≡◌}
 use lib.ListN.{length}
 use Rattle.renumber_order.proofs.Filling.{Filling}
@@ -9,7 +9,3 @@ use Rattle.renumber_order.proofs.places.fill_places.Given as goal
 abbrev pub invariant-loop-i : goal.invariant-loop-i
 invariant-loop-i l =
     (l.i-end ≡ length l.order) × (l.i ≤ l.i-end) × Filling l.count l.initial.words l.order l.i l.words
-
-abbrev pub decreases-loop-i : goal.decreases-loop-i
-decreases-loop-i l =
-    l.i-end - l.i

@@ -1,6 +1,5 @@
--- `renumber_order::places::marked_count` meets its contract. The loop's invariant: the marked nodes below `i` are counted. The measure is what is
--- left of the nodes. Assumes nothing.
-use Prim.Native.Nat.{ℕ, ◌+◌, ◌-◌}
+-- `renumber_order::places::marked_count` meets its contract. Assumes nothing.
+use Prim.Native.Nat.{ℕ, ◌+◌}
 use mathlib.Core.Path.{sym, ap, ◌∙◌}
 use native.Mathlib.Omega.{arith}
 use borrow.Author.Rules.{rules}

@@ -13,7 +13,7 @@ pub name_in-requires : goal.name_in-requires
 name_in-requires c =
     let long = ap length c.requires ∙ length-rows c.args.scope in
     let count = c.row_count.ensures in
-    (omega (arith, count.0, count.1), omega (arith, long, count.0))
+    (omega (arith, count.value, count.upper_bound), omega (arith, long, count.value))
 
 pub returns : goal.returns
 returns c =

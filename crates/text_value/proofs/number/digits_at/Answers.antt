@@ -4,7 +4,6 @@ use mathlib.Core.Path.{refl, sym, ap, ◌∙◌}
 use native.Mathlib.Omega.{arith}
 use native.Mathlib.Nat.{min-eq_left}
 use Prim.Native.Nat.{ℕ, ◌-◌, min}
-use borrow.Author.Tests.{not-true, not-false}
 use Rattle.text_byte.proofs.Spans.{span_more, span_stop, span_done}
 use Rattle.text_value.proofs.Numbers.{cap, digits_none, digits_more}
 use Rattle.text_value.proofs.number.digits_at.Goals as goal
@@ -18,7 +17,7 @@ loop-at-init c =
 pub returns-then-not-is_digit_in : goal.returns-then-not-is_digit_in
 returns-then-not-is_digit_in c =
     let l = c.loop-at in (
-      sym (l.invariant.1.0 ∙ span_stop _ _ _ c.loop-at-test.true c.is_digit_in.ensures (not-true _ c.if-not-is_digit_in.true-raw)),
+      sym (l.invariant.1.0 ∙ span_stop _ _ _ c.loop-at-test.true c.is_digit_in.ensures c.if-not-is_digit_in.true),
       l.invariant.1.1,
     )
 
@@ -28,7 +27,7 @@ loop-at-preserved c =
     let a = c.args in (
       omega arith,
       (
-        l.invariant.1.0 ∙ span_more _ _ _ c.loop-at-test.true c.is_digit_in.ensures (not-false _ c.if-not-is_digit_in.false-raw),
+        l.invariant.1.0 ∙ span_more _ _ _ c.loop-at-test.true c.is_digit_in.ensures c.if-not-is_digit_in.false,
         digits_more a.word.now a.base a.before a.from l.at c.requires.0 l.invariant.0 l.invariant.1.1 c.digit_of.ensures.0
             c.smaller-number.ensures,
       ),

@@ -1,0 +1,5 @@
+-- `export_texts::meshpigeon_text_vertex_at` meets its contract, by the answer of the layer below. Assumes nothing.
+use Rattle.export_texts.proofs.meshpigeon_text_vertex_at.Goals as goal
+
+pub returns : goal.returns
+returns c = cc

@@ -1,0 +1,25 @@
+-- `hazard::numbers::high_sidedefs` meets its contract: the records before `i` are low. The measure is what is left of them.
+-- Assumes nothing.
+use Prim.Native.Nat.{◌-◌}
+use mathlib.Core.Path.{refl}
+use borrow.Author.Rules.{rules}
+use Rattle.hazard.proofs.Findings.{scanned_none, tested_more, tested_stop}
+use Rattle.hazard.proofs.numbers.high_sidedefs.Goals as goal
+
+pub loop-i-init : goal.loop-i-init
+loop-i-init c = scanned_none
+
+pub returns-then-not-sidedef_low : goal.returns-then-not-sidedef_low
+returns-then-not-sidedef_low c = tested_stop c.loop-i.invariant (search rules) c.sidedef_low.ensures c.if-not-sidedef_low.true-raw refl
+
+pub loop-i-preserved : goal.loop-i-preserved
+loop-i-preserved c = tested_more c.loop-i.invariant _ (search rules) c.sidedef_low.ensures c.if-not-sidedef_low.false-raw refl
+
+pub loop-i-init : goal.loop-i-init
+loop-i-init c = scanned_none
+
+pub returns-then-not-sidedef_low : goal.returns-then-not-sidedef_low
+returns-then-not-sidedef_low c = tested_stop c.loop-i.invariant (search rules) c.sidedef_low.ensures c.if-not-sidedef_low.true-raw refl
+
+pub loop-i-preserved : goal.loop-i-preserved
+loop-i-preserved c = tested_more c.loop-i.invariant _ (search rules) c.sidedef_low.ensures c.if-not-sidedef_low.false-raw refl

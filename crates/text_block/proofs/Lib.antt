@@ -1,3 +1,0 @@
--- Laws of the blocks of a text map. Assumes nothing.
-
-mod Room
