@@ -1,5 +1,5 @@
 # Meshpigeon from a fresh checkout: `make run` judges the samples, `make test` proves and tries everything.
-# Needs the Rattle kit (rt), cargo, ar and git; test also a C compiler.
+# Needs the Rattle kit (rt), cargo and git; test also a C compiler.
 
 PREFIX = /usr/local
 DESTDIR =

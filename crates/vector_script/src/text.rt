@@ -1,4 +1,5 @@
 // The text of a script, byte by byte: each function is total, so that a caller needs no facts.
+use std::io;
 
 // Past the end every byte is a line's end.
 pub fn byte(s: &[u8], at: usize) -> u8 {
@@ -6,11 +7,11 @@ pub fn byte(s: &[u8], at: usize) -> u8 {
 }
 
 pub fn plus(m: usize, n: usize) -> usize {
-    std::num::wrapping_add_usize(m, n)
+    m.wrapping_add(n)
 }
 
 pub fn minus(m: usize, n: usize) -> usize {
-    std::num::wrapping_sub_usize(m, n)
+    m.wrapping_sub(n)
 }
 
 pub fn part(s: &[u8], from: usize, to: usize) -> &[u8] {
@@ -50,7 +51,7 @@ pub fn place_among(names: &[u8], word: &[u8]) -> usize {
 }
 
 // Decimal numbers with + between them, or one after a -.
-pub fn sum(s: &[u8]) -> usize {
+pub fn sum(rt: &impl Print, s: &[u8]) -> io::Result<usize> {
     let from: usize = if byte(s, 0) == b'-' { 1 } else { 0 };
     let mut before: usize = 0;
     let mut last: usize = 0;
@@ -59,19 +60,19 @@ pub fn sum(s: &[u8]) -> usize {
             before = plus(before, last);
             last = 0;
         } else {
-            last = longer(last, s[i]);
+            last = longer(rt, last, s[i])?;
         }
     }
     let n = plus(before, last);
-    if from == 1 { minus(0, n) } else { n }
+    Ok(if from == 1 { minus(0, n) } else { n })
 }
 
 // A number with one more digit; 16 digits are enough.
-fn longer(n: usize, digit: u8) -> usize {
+fn longer(rt: &impl Print, n: usize, digit: u8) -> io::Result<usize> {
     if (digit < b'0') | (b'9' < digit) {
-        crate::print::ill_formed();
+        crate::print::ill_formed(rt)?;
     }
-    10 * (n % 1000000000000000) + (digit % 16) as usize
+    Ok(10 * (n % 1000000000000000) + (digit % 16) as usize)
 }
 
 pub fn width_of(letter: u8) -> usize {
