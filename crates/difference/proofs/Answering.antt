@@ -15,12 +15,9 @@ use Rattle.refusal.specs.declared.Refusal.TheVariants.{DifferenceRoom, Differenc
 use Rattle.refusal.specs.Checks.{unless, ◌and_then◌}
 use Rattle.layout.specs.Rows.{sum_of}
 use Rattle.layout.specs.Buffers.{buffer_after}
-use Rattle.map_check.specs.declared.Verdict.{Verdict}
-use Rattle.map_check.specs.declared.Verdict.TheVariants.{Accepted, Refused as NotAccepted}
-use Rattle.map_check.specs.Verdict.{verdict, words_after}
 use Rattle.difference.specs.declared.Differences.{Differences}
-use Rattle.difference.specs.Differences.{changes_at, changes_in, change_counts, game_in, lumps_in, same_game, change_list, pair_check, neither, old_file, new_file, refused_in, pair_answer, differences_by, list_by, words_then_by, Differ}
-use Rattle.difference.specs.Inner.Lumps.{Compared, Then}
+use Rattle.difference.specs.Differences.{changes_at, changes_in, change_counts, game_in, lumps_in, same_game, change_list, pair_check, neither, refused_in, pair_answer}
+use Rattle.difference.specs.Inner.Lumps.{Compared}
 use Rattle.difference.proofs.Lumps.{sum_eight, length_eight}
 
 pub same-game : (a b : Bool) → same_game a b ≡ true → a ≡ b
@@ -48,10 +45,6 @@ module _ (oldWad : List ℕ) (old : ℕ) (newWad : List ℕ) (new : ℕ) (list :
         lists = ap (λ (c : Check). buffer_after c written list) (sym e);
       }
 
-  pub other_games : {answer : Differences} → games ≡ false → answer ≡ refused_in neither (Refused DifferenceGames)
-      → Compared oldWad old newWad new list answer list
-  other_games e a = refused (ap (λ (b : Bool). unless b DifferenceGames and_then unless (leb (length written) (length list)) DifferenceRoom) e) a
-
   pub no_room : {answer : Differences} → games ≡ true → leb (length written) (length list) ≡ false
       → answer ≡ refused_in neither (Refused DifferenceRoom) → Compared oldWad old newWad new list answer list
   no_room e q a = refused (λ i. unless (e i) DifferenceGames and_then unless (q i) DifferenceRoom) a
@@ -68,54 +61,4 @@ module _ (oldWad : List ℕ) (old : ℕ) (newWad : List ℕ) (new : ℕ) (list :
         lists =
             l ∙ sets-eq written list 0 (omega arith) ∙ ap (λ (n : ℕ). written ++ drop n list) first
             ∙ ap (λ (c : Check). buffer_after c written list) (sym check);
-      }
-
--- ---- the two map checks
-
-module _ (oldWad : List ℕ) (depth old : ℕ) (newWad newName words list : List ℕ) {answer : Differences} {wordsThen : List ℕ} where
-  pub then-refused : {r : Refusal} → verdict newWad newName words ≡ NotAccepted r → wordsThen ≡ words_after newWad newName words
-      → answer ≡ refused_in new_file (Refused r) → Then oldWad depth old newWad newName words list answer wordsThen list
-  then-refused e w a =
-      record {
-        answers = a ∙ ap (λ (v : Verdict). differences_by (Accepted depth old) v oldWad newWad (length list)) (sym e);
-        leaves = w;
-        lists = ap (λ (v : Verdict). list_by (Accepted depth old) v oldWad newWad list) (sym e);
-      }
-
-  pub then_compared : {d new : ℕ} {listThen : List ℕ} → verdict newWad newName words ≡ Accepted d new → wordsThen ≡ words_after newWad newName words
-      → Compared oldWad old newWad new list answer listThen → Then oldWad depth old newWad newName words list answer wordsThen listThen
-  then_compared e w c =
-      record {
-        answers = c.answers ∙ ap (λ (v : Verdict). differences_by (Accepted depth old) v oldWad newWad (length list)) (sym e);
-        leaves = w;
-        lists = c.lists ∙ ap (λ (v : Verdict). list_by (Accepted depth old) v oldWad newWad list) (sym e);
-      }
-
-module _ (oldWad oldName newWad newName words list : List ℕ) where
-  abbrev new_verdict : Verdict
-  new_verdict = verdict newWad newName (words_after oldWad oldName words)
-
-  pub old-refused : {answer : Differences} {wordsThen : List ℕ} {r : Refusal} → verdict oldWad oldName words ≡ NotAccepted r → wordsThen ≡ words_after oldWad oldName words
-      → answer ≡ refused_in old_file (Refused r) → Differ oldWad oldName newWad newName words list answer wordsThen list
-  old-refused e w a =
-      record {
-        answers = a ∙ ap (λ (v : Verdict). differences_by v new_verdict oldWad newWad (length list)) (sym e);
-        leaves = w ∙ ap (λ (v : Verdict). words_then_by v newWad newName (words_after oldWad oldName words)) (sym e);
-        lists = ap (λ (v : Verdict). list_by v new_verdict oldWad newWad list) (sym e);
-      }
-
-  pub old-accepted : (depth old : ℕ) (middle : List ℕ) {answer : Differences} {wordsThen listThen : List ℕ} → verdict oldWad oldName words ≡ Accepted depth old
-      → middle ≡ words_after oldWad oldName words → Then oldWad depth old newWad newName middle list answer wordsThen listThen
-      → Differ oldWad oldName newWad newName words list answer wordsThen listThen
-  old-accepted depth old middle e w t =
-      record {
-        answers =
-            t.answers ∙ ap (λ (ws : List ℕ). differences_by (Accepted depth old) (verdict newWad newName ws) oldWad newWad (length list)) w
-            ∙ ap (λ (v : Verdict). differences_by v new_verdict oldWad newWad (length list)) (sym e);
-        leaves =
-            t.leaves ∙ ap (words_after newWad newName) w
-            ∙ ap (λ (v : Verdict). words_then_by v newWad newName (words_after oldWad oldName words)) (sym e);
-        lists =
-            t.lists ∙ ap (λ (ws : List ℕ). list_by (Accepted depth old) (verdict newWad newName ws) oldWad newWad list) w
-            ∙ ap (λ (v : Verdict). list_by v new_verdict oldWad newWad list) (sym e);
       }

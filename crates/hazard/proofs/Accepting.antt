@@ -3,6 +3,10 @@ use Prim.Native.Nat.{ℕ}
 use mathlib.Core.List.{List}
 use mathlib.Core.Path.{◌≡◌}
 use lib.ListN.{length}
+use Rattle.wad.specs.Header.{head_of, entry_count}
+use Rattle.wad.specs.Entries.{directory_of}
+use Rattle.map_lumps.specs.Lumps.{map_lumps}
+use Rattle.map_lumps.specs.Games.{game_at}
 use Rattle.map_check.specs.declared.Verdict.TheVariants.{Accepted}
 use Rattle.map_check.specs.Verdict.{verdict}
 use Rattle.map_check.proofs.Passing.{blockmap_pass, long_at, lumps_pass}
@@ -16,5 +20,7 @@ accepting wad name words depth marker e =
     record {
       file = (marker_known wad name k.marks).0;
       long = long_at wad marker (length words) k.passes;
-      blockmap = blockmap_pass _ _ (length words) (lumps_pass wad marker (length words) k.passes);
+      blockmap =
+          blockmap_pass (game_at (directory_of wad) (entry_count (head_of wad)) marker) (map_lumps wad (directory_of wad) marker)
+          (length words) (lumps_pass wad marker (length words) k.passes);
     }

@@ -1,13 +1,12 @@
 -- Laws of looks in a row: what an early return and a loop over `each_of` have to show. They are those of `refusal` for checks.
 -- Assumes nothing.
 use Prim.Native.Nat.{ℕ, zero, suc, ◌+◌, ◌≤◌, ◌<◌}
-use mathlib.Core.Bool.{Bool, true, false, not}
+use mathlib.Core.Bool.{Bool, true, false}
 use mathlib.Core.Logic.{⊎_elim}
 use mathlib.Core.Path.{◌≡◌, refl, sym, ap, ◌∙◌}
 use native.Mathlib.Nat.{eq-or-lt_of_le, le_of_suc-le-suc, not-suc-le-zero}
 use native.Mathlib.Numerals.{add-one}
 use native.Mathlib.Omega.{arith}
-use borrow.Author.Tests.{not-true, not-false}
 use Rattle.hazard.specs.declared.Hazard.{Hazard}
 use Rattle.hazard.specs.declared.Finding.{Finding}
 use Rattle.hazard.specs.declared.Finding.TheVariants.{Nothing, Found}
@@ -72,14 +71,14 @@ scanned_none {f} = record { ends = refl; inside = omega arith; nothing = each_no
 
 module _ {f : ℕ → Finding} {n end i : ℕ} (s : Scanned f n end i) where
   -- where the look at `i` is one test
-  pub tested_more : {b ok : Bool} (h : Hazard) → i < end → b ≡ ok → not b ≡ false → f i ≡ found_unless ok h → Scanned f n end (i + 1)
+  pub tested_more : {b ok : Bool} (h : Hazard) → i < end → b ≡ ok → b ≡ true → f i ≡ found_unless ok h → Scanned f n end (i + 1)
   tested_more {b} h l q t d =
-      let none : f i ≡ Nothing = d ∙ ap (λ (x : Bool). found_unless x h) (sym q ∙ not-false b t) in
+      let none : f i ≡ Nothing = d ∙ ap (λ (x : Bool). found_unless x h) (sym q ∙ t) in
       record { ends = s.ends; inside = omega arith; nothing = rw (add-one i, each-suc f i, s.nothing) none }
 
-  pub tested_stop : {b ok : Bool} {h : Hazard} → i < end → b ≡ ok → not b ≡ true → f i ≡ found_unless ok h → Found h ≡ each_of f n
+  pub tested_stop : {b ok : Bool} {h : Hazard} → i < end → b ≡ ok → b ≡ false → f i ≡ found_unless ok h → Found h ≡ each_of f n
   tested_stop {b} {ok} {h} l q t d =
-      let here : f i ≡ Found h = d ∙ ap (λ (x : Bool). found_unless x h) (sym q ∙ not-true b t) in
+      let here : f i ≡ Found h = d ∙ ap (λ (x : Bool). found_unless x h) (sym q ∙ t) in
       sym (each-kept f (suc i) n (rw (each-suc f i, s.nothing) here) (omega (arith, s.ends)))
 
   pub scanned_done : end ≤ i → Nothing ≡ each_of f n

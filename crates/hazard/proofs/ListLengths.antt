@@ -1,16 +1,16 @@
 -- Laws of the lengths of BLOCKMAP's lists: one word more from the end, and what the pass over them notes. Assumes nothing.
-use Prim.Native.Nat.{ℕ, zero, suc, ◌+◌, ◌-◌, ◌/◌, ◌%◌, ◌≤◌, ◌<◌}
+use Prim.Native.Nat.{ℕ, zero, suc, ◌+◌, ◌-◌, ◌≤◌, ◌<◌}
 use mathlib.Core.Bool.{Bool, true, false, not, ◌&&◌, ◌||◌, cond, and-false}
 use mathlib.Core.List.{List, [], ◌∷◌}
 use mathlib.Core.Path.{◌≡◌, refl, sym, ap, ◌∙◌}
 use Prim.Native.Nat.{suc-le-suc}
 use native.Mathlib.Omega.{arith}
-use borrow.Author.Tests.{eqb-true, eqb-false, le-leb, lt-leb, lt-ltb, le-ltb, leb-true, leb-false, ltb-true, ltb-false, ne_eqb}
+use borrow.Author.Tests.{eqb-true, eqb-false, le-leb, lt-leb, lt-ltb, le-ltb, leb-true, leb-false}
 use lib.Dec.{leb, ltb, eqb}
 use lib.ListN.{length, replicate, length-replicate}
 use Rattle.bits.specs.Bits.{is_noted, with_note}
 use Rattle.bits.proofs.Bits.{note-more, length-note, note-none}
-use Rattle.map_blockmap.specs.Blockmap.{word_count, word_at, list_end, numbers_from, linedefs_named}
+use Rattle.map_blockmap.specs.Blockmap.{word_count, word_at, list_end, numbers_from}
 use Rattle.hazard.specs.Lists.{short_ok}
 use Rattle.hazard.specs.Inner.{LongNoted}
 

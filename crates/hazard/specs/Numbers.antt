@@ -1,5 +1,5 @@
 -- A number over 32,767 in a field that the engine reads as signed and uses as an index. Assumes nothing.
-use Rattle.std.specs.Prelude.{ℕ, ◌+◌, ◌/◌, Bool, ◌&&◌, ◌||◌, List, leb, eqb, length}
+use Rattle.std.specs.Prelude.{ℕ, ◌+◌, Bool, ◌&&◌, ◌||◌, List, leb, eqb}
 use Rattle.record_field.specs.Records.{record_bytes}
 use Rattle.record_linedef.specs.declared.Linedef.{Linedef}
 use Rattle.record_linedef.specs.Linedefs.{linedef_size, linedef_of, no_sidedef}

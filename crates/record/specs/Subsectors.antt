@@ -32,8 +32,4 @@ SubsectorFits s = Unit
 
 -- record `index` of a lump, all 0 where refused
 abbrev pub subsector_at : List ℕ → ℕ → SubsectorRead
-subsector_at lump index =
-    record {
-      check = inside_check lump subsector_size index;
-      subsector = subsector_of (bytes_or_zeros lump subsector_size index);
-    }
+subsector_at lump index = record { check = inside_check lump subsector_size index; subsector = subsector_of (bytes_or_zeros lump subsector_size index) }

@@ -3,7 +3,6 @@
 use Prim.Native.Nat.{ℕ, zero, suc, ◌+◌, ◌-◌, ◌/◌, ◌≤◌, ◌<◌}
 use mathlib.Core.Bool.{Bool, true, false, not}
 use mathlib.Core.List.{List, [], ◌∷◌, ◌++◌}
-use mathlib.Core.Logic.{⊎_elim}
 use mathlib.Core.Path.{◌≡◌, refl, sym, ap, ◌∙◌, subst}
 use native.Mathlib.Decide.{dec_lt}
 use native.Mathlib.Omega.{arith}
@@ -27,13 +26,12 @@ use Rattle.node.specs.declared.Choice.{Choice}
 use Rattle.node.specs.Nodes.{nodes_of, subsector_bit, child_of, child_ok, root}
 use Rattle.node.proofs.Nodes.{child_ok-node, root-last}
 use Rattle.node_route.specs.Routes.{Follow, Reached}
-use Rattle.node_route.specs.Heights.{member, repeats}
+use Rattle.node_route.specs.Heights.{member}
 use Rattle.node_route.proofs.Reach.{at_most}
 use Rattle.node_route.proofs.Verdict.{depth_verdict}
 use Rattle.node_descent.proofs.Descends.{Passed}
 use Rattle.map_lumps.specs.Lumps.{map_lumps, map_lump, record_count}
-use Rattle.map_check.specs.declared.Verdict.TheVariants.{Accepted}
-use Rattle.map_check.specs.Verdict.{nodes_at, subsectors_at, verdict}
+use Rattle.map_check.specs.Verdict.{nodes_at, subsectors_at}
 use Rattle.map_check.proofs.Passing.{lumps_pass, subsectors-inside}
 use Rattle.theorem_map.proofs.Demands.{known, known_passed}
 use Rattle.hazard.specs.declared.Hazard.{Hazard}
@@ -41,7 +39,7 @@ use Rattle.hazard.specs.declared.Hazard.TheVariants.{SegTwice}
 use Rattle.hazard.specs.declared.Finding.{Finding}
 use Rattle.hazard.specs.declared.Finding.TheVariants.{Nothing, Found}
 use Rattle.hazard.specs.Findings.{found_unless, ◌or_else◌, each_of}
-use Rattle.hazard.specs.Segs.{subsector_in, takes_again, seg_twice_at, seg_twice}
+use Rattle.hazard.specs.Segs.{takes_again, seg_twice_at, seg_twice}
 use Rattle.hazard.specs.Hazards.{hazard_at, hazard_by}
 use Rattle.hazard.proofs.Findings.{unless-nothing, each_none, each-suc, each-nothing}
 use Rattle.export_maps.specs.declared.hazards.HazardAnswer.{HazardAnswer}
@@ -49,10 +47,9 @@ use Rattle.export_maps.specs.Hazards.{hazard_out, finding_out, answer_out}
 use Rattle.export_maps.specs.declared.OrderAnswer.{OrderAnswer}
 use Rattle.export_maps.specs.Maps.{order_out, OrderDrawn}
 use Rattle.draw_order.specs.Lists.{Listing, listed, stopped, listed_by, root_order, order_check, draw_order}
-use Rattle.draw_order.specs.Promises.{order_answer, words_after_listing, words_after_check}
+use Rattle.draw_order.specs.Promises.{order_answer, words_after_check}
 use Rattle.draw_order.proofs.Lists.{order-known}
-use Rattle.theorem_draw.specs.Promises.{Draws}
-use Rattle.theorem_draw.specs.Pictures.{segs_drawn, Bounded, PicturesBounded}
+use Rattle.theorem_draw.specs.Pictures.{segs_drawn, PicturesBounded}
 use Rattle.theorem_draw.proofs.Draws.{draws_accepted}
 use Rattle.theorem_draw.proofs.Depths.{root-low}
 use Rattle.theorem_draw.proofs.Segs.{drawn-once, drawn-low}

@@ -1,15 +1,13 @@
 -- No seg is drawn twice, where no subsector takes a seg that another has. Assumes nothing.
 use Prim.Native.Nat.{ℕ, zero, suc, ◌+◌, ◌-◌, ◌≤◌, ◌<◌}
-use mathlib.Core.Bool.{Bool, true, false, not, ◌&&◌, ◌||◌}
+use mathlib.Core.Bool.{Bool, true, false, ◌||◌}
 use mathlib.Core.List.{List, [], ◌∷◌, ◌++◌}
-use mathlib.Core.Logic.{◌⊎◌, inl, inr, ⊎_elim}
-use mathlib.Core.Path.{◌≡◌, refl, sym, ap, ◌∙◌}
+use mathlib.Core.Logic.{⊎_elim}
+use mathlib.Core.Path.{◌≡◌, refl, sym, ◌∙◌}
 use native.Mathlib.Decide.{dec_lt}
 use native.Mathlib.Nat.{eq-or-lt_of_le, le_of_suc-le-suc}
 use native.Mathlib.Omega.{arith}
-use borrow.Author.Tests.{le-leb, lt-ltb, eqb-false}
-use lib.Dec.{leb, ltb, eqb}
-use Rattle.record.specs.declared.subsector.Subsector.{Subsector}
+use borrow.Author.Tests.{le-leb, lt-ltb}
 use Rattle.node_route.specs.Heights.{member, repeats}
 use Rattle.node_route.proofs.Repeats.{Repeated, in_first, in_second, in_both, or_left, or_right, or_neither, member_cons, member_head, member_tail, member_append, repeats_append}
 use Rattle.hazard.specs.Segs.{subsector_in, has_seg, taken_below, some_from, takes_again}

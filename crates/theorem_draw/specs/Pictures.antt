@@ -4,7 +4,6 @@
 use Rattle.std.specs.Prelude.{ℕ, zero, suc, ◌≤◌, false, List, [], ◌∷◌, ◌++◌, ◌≡◌, ℤ, length, take}
 use Rattle.refusal.specs.Status.{accepted}
 use Rattle.wad.specs.Entries.{directory_of}
-use Rattle.record.specs.declared.subsector.Subsector.{Subsector}
 use Rattle.record.specs.Segs.{seg_size}
 use Rattle.record_table.specs.Lumps.{SEGS, SSECTORS}
 use Rattle.node_route.specs.Heights.{repeats}

@@ -1,83 +1,63 @@
 -- `difference::compare_accepted` meets its contract: the games are told apart, then the room, then all is listed. Assumes nothing.
-use Prim.Native.Nat.{ℕ, ◌≤◌}
-use mathlib.Core.Bool.{Bool, true}
-use mathlib.Core.List.{List}
-use mathlib.Core.Path.{◌≡◌, sym, ap, ◌∙◌, subst}
-use borrow.Author.Tests.{not-true, not-false, leb-true}
+use Rattle.std.proofs.Common.{rules, ◌≡◌, ℕ, length, Bool, true, false, List, get_or, sym, ap, ◌∙◌, subst}
+use borrow.Author.Tests.{leb-true}
 use lib.Dec.{leb}
-use lib.ListN.{length, get_or}
-use lib.Seq.{sets}
+use Rattle.std.proofs.lemmas.List.Edits.{sets}
 use Rattle.refusal.specs.declared.Check.TheVariants.{Pass}
 use Rattle.layout.specs.Rows.{sum_of}
-use Rattle.difference.specs.Differences.{changes_in, change_counts, game_in, lumps_in, same_game, change_list, neither}
+use Rattle.difference.specs.Differences.{changes_in, change_counts, game_in, lumps_in, same_game, neither}
 use Rattle.difference.specs.Inner.Lumps.{Numbered}
 use Rattle.difference.proofs.Answering.{same-game, counted-sum, no_room, all_listed}
 use Rattle.difference.proofs.compare_accepted.Goals as goal
-use Rattle.difference.proofs.compare_accepted.Goals.{Else-not-same_game, After-count_all-counts, Else-not-fits}
 
-games' : (c : Else-not-same_game)
-    → (let a = c.args in
-    c.same_game.result ≡ same_game (game_in a.old-wad.now a.old) (game_in a.new-wad.now a.new))
-games'' c = c.same_game.ensures ∙ (λ i. same_game (c.game_in-hexen.ensures i) (c.game_in.ensures i))
-
-games'' : (c : After-count_all-counts)
-    → (let a = c.args in
-    c.same_game.result ≡ same_game (game_in a.old-wad.now a.old) (game_in a.new-wad.now a.new))
-games'''' c = c.same_game.ensures ∙ (λ i. same_game (c.game_in-hexen.ensures i) (c.game_in.ensures i))
-
-one-game : (c : Else-not-same_game)
-    → (let a = c.args in
-    same_game (game_in a.old-wad.now a.old) (game_in a.new-wad.now a.new) ≡ true)
-one-game c = sym (games' c) ∙ not-false _ c.if-not-same_game.false-raw
+-- the two games as they were looked up
+one-game : {h g s h' g' : Bool} → h ≡ h' → g ≡ g' → s ≡ same_game h g → s ≡ true → same_game h' g' ≡ true
+one-game p q e t = sym (e ∙ (λ i. same_game (p i) (q i))) ∙ t
 
 -- the counts are those of the old map's game
-counts : (c : After-count_all-counts)
-    → (let a = c.args in
-    c.count_all-counts.result ≡ change_counts (game_in a.old-wad.now a.old) (lumps_in a.old-wad.now a.old) (lumps_in a.new-wad.now a.new))
-counts c =
-    let a = c.args in
-    c.count_all-counts.ensures ∙ ap (λ (h : Bool). change_counts h (lumps_in a.old-wad.now a.old) (lumps_in a.new-wad.now a.new)) c.game_in-hexen.ensures
+counts-of : {h h' : Bool} {counts : List ℕ} (old new : List (List ℕ)) → h ≡ h' → counts ≡ change_counts h old new → counts ≡ change_counts h' old new
+counts-of old new p e = e ∙ ap (λ (h : Bool). change_counts h old new) p
 
 -- the test of the room
-room : (c : tie.After-fits2)
-    → (let a = c.before.before.before.before.before.before.before.before.before.args in
-    c.fits2.result ≡ leb (length (change_list a.old-wad.now a.old a.new-wad.now a.new)) (length a.list.now))
-room c =
-    let a = c.before.before.before.before.before.before.before.before.before.args in
-    c.fits2.ensures
-    ∙ ap (λ (l : List ℕ). leb (sum_of (λ i. get_or l i 0) 8) (length a.list.now)) (counts c.before)
-    ∙ ap (λ (n : ℕ). leb n (length a.list.now)) (counted-sum (game_in a.old-wad.now a.old) (lumps_in a.old-wad.now a.old) (lumps_in a.new-wad.now a.new))
-
--- there is room
-enough : (c : Else-not-fits)
-    → (let a = c.args in
-    leb (length (change_list a.old-wad.now a.old a.new-wad.now a.new)) (length a.list.now) ≡ true)
-enough c = sym (room c.before) ∙ not-false _ c.if-not-fits.false-raw
+room-of : {counts : List ℕ} {fit b : Bool} (h : Bool) (old new : List (List ℕ)) (room : ℕ) → counts ≡ change_counts h old new
+    → fit ≡ leb (sum_of (λ i. get_or counts i 0) 8) room → fit ≡ b → leb (length (changes_in h old new)) room ≡ b
+room-of h old new room e f t =
+    sym (f ∙ ap (λ (l : List ℕ). leb (sum_of (λ i. get_or l i 0) 8) room) e ∙ ap (λ (n : ℕ). leb n room) (counted-sum h old new)) ∙ t
 
 pub returns-then-not-fits : goal.returns-then-not-fits
 returns-then-not-fits c =
     let a = c.args in
-    no_room a.old-wad.now a.old a.new-wad.now a.new a.list.now (one-game (goal.at.returns-then-not-fits c).Else-not-same_game)
-    (sym (room t.before) ∙ not-true _ c.if-not-fits.true-raw) c.refused_in-then-not-fits.ensures
+    let s : c.same_game.result ≡ true = search rules in
+    let f : c.fits.result ≡ false = search rules in
+    let same = one-game c.game_in-hexen.ensures c.game_in.ensures c.same_game.ensures s in
+    let old = lumps_in a.old_wad.now a.old in
+    let new = lumps_in a.new_wad.now a.new in
+    no_room a.old_wad.now a.old a.new_wad.now a.new a.list.now same
+    (room-of (game_in a.old_wad.now a.old) old new (length a.list.now) (counts-of old new c.game_in-hexen.ensures c.count_all-counts.ensures) c.fits.ensures f) c.refused_in-then-not-fits.ensures
 
 pub write_all-requires-clause-map_in : goal.write_all-requires-clause-map_in
 write_all-requires-clause-map_in c =
-    let a = c.args in
-    let game = c.game_in-hexen.ensures in
-    let numbered = subst (λ (h : Bool). Numbered h (lumps_in a.new-wad.now a.new)) (sym (game ∙ same-game _ _ (one-game (goal.at.write_all-requires-clause-map_in c).Else-not-same_game))) c.requires.2 in
-    let fit = leb-true _ _ (enough (goal.at.write_all-requires-clause-map_in c).Else-not-fits) in (c.requires.0, c.requires.1, numbered)
+    let s : c.same_game.result ≡ true = search rules in
+    let same = one-game c.game_in-hexen.ensures c.game_in.ensures c.same_game.ensures s in
+    (c.requires.0, c.requires.1, subst (λ (h : Bool). Numbered h (lumps_in c.args.new_wad.now c.args.new)) (sym (c.game_in-hexen.ensures ∙ same-game _ _ same)) c.requires.2)
 
 pub write_all-requires-clause-in_bounds : goal.write_all-requires-clause-in_bounds
 write_all-requires-clause-in_bounds c =
     let a = c.args in
-    let game = c.game_in-hexen.ensures in
-    let numbered = subst (λ (h : Bool). Numbered h (lumps_in a.new-wad.now a.new)) (sym (game ∙ same-game _ _ (one-game (goal.at.write_all-requires-clause-in_bounds c).Else-not-same_game))) c.requires.2 in
-    let fit = leb-true _ _ (enough (goal.at.write_all-requires-clause-in_bounds c).Else-not-fits) in subst (λ (h : Bool). length (changes_in h (lumps_in a.old-wad.now a.old) (lumps_in a.new-wad.now a.new)) ≤ length a.list.now) (sym game) fit
+    let f : c.fits.result ≡ true = search rules in
+    leb-true _ _ (room-of c.game_in-hexen.result (lumps_in a.old_wad.now a.old) (lumps_in a.new_wad.now a.new) (length a.list.now) c.count_all-counts.ensures c.fits.ensures f)
 
 pub returns : goal.returns
 returns c =
     let a = c.args in
-    all_listed a.old-wad.now a.old a.new-wad.now a.new a.list.now (one-game (goal.at.returns c).Else-not-same_game) (enough (goal.at.returns c).Else-not-fits) (leb-true _ _ (enough (goal.at.returns c).Else-not-fits))
-    (λ i. record { check = Pass; file = neither; counts = counts (goal.at.returns c).After-count_all-counts i })
+    let s : c.same_game.result ≡ true = search rules in
+    let f : c.fits.result ≡ true = search rules in
+    let same = one-game c.game_in-hexen.ensures c.game_in.ensures c.same_game.ensures s in
+    let old = lumps_in a.old_wad.now a.old in
+    let new = lumps_in a.new_wad.now a.new in
+    let counts = counts-of old new c.game_in-hexen.ensures c.count_all-counts.ensures in
+    let fit = room-of (game_in a.old_wad.now a.old) old new (length a.list.now) counts c.fits.ensures f in
+    all_listed a.old_wad.now a.old a.new_wad.now a.new a.list.now same fit (leb-true _ _ fit)
+    (λ i. record { check = Pass; file = neither; counts = counts i })
     (c.write_all.ensures
-    ∙ ap (λ (h : Bool). sets a.list.now 0 (changes_in h (lumps_in a.old-wad.now a.old) (lumps_in a.new-wad.now a.new))) c.game_in-hexen.ensures)
+    ∙ ap (λ (h : Bool). sets a.list.now 0 (changes_in h old new)) c.game_in-hexen.ensures)

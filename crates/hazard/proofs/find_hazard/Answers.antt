@@ -5,6 +5,5 @@ use Rattle.hazard.proofs.find_hazard.Goals as goal
 
 pub hazard_at-requires : goal.hazard_at-requires
 hazard_at-requires c =
-    let m = c.marker-1.given in
-    accepting c.args.wad.now c.args.name.now c.args.words.now m.0.0 m.0.1.0
-    (sym c.judge_map.ensures.verdicts ∙ m.1)
+    let m = c.in-Accepted in
+    accepting c.args.wad.now c.args.name.now c.args.words.now m.depth m.marker (sym c.judge_map.ensures.verdicts ∙ m.is)

@@ -1,6 +1,5 @@
 -- `map_blockmap::judge_cells` meets its contract: the cells before `i` pass. The measure is what is left of them.
 -- Assumes nothing.
-use Prim.Native.Nat.{◌-◌}
 use mathlib.Core.Path.{refl}
 use borrow.Author.Rules.{rules}
 use Rattle.refusal.proofs.Scans.{scanned_none, tested_more, tested_stop}

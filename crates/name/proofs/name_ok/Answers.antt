@@ -1,6 +1,5 @@
 -- `name::name_ok` meets its contract. The loop's invariant: the first `i` bytes are good characters. The measure is what is left
 -- of the eight. Assumes nothing.
-use Prim.Native.Nat.{◌-◌}
 use mathlib.Core.Path.{sym, ◌∙◌}
 use borrow.Author.Rules.{rules}
 use borrow.Author.Tests.{not-false}

@@ -23,15 +23,9 @@ below c =
     c.judge_below.ensures
     ∙ check-same c.args.wad.now c.args.marker _ c.directory_of-dir.ensures.result_value c.entry_count-count.ensures
 
-below'' : (c : After-map_lump)
-    → c.judge_below.result ≡ check_at c.args.wad.now c.args.marker (length c.args.words.now)
-below'''' c =
-    c.judge_below.ensures
-    ∙ check-same c.args.wad.now c.args.marker _ c.directory_of-dir.ensures.result_value c.entry_count-count.ensures
-
 below' : (c : In_default)
     → c.judge_below.result ≡ check_at c.args.wad.now c.args.marker (length c.args.words.now)
-below'' c =
+below' c =
     c.judge_below.ensures
     ∙ check-same c.args.wad.now c.args.marker _ c.directory_of-dir.ensures.result_value c.entry_count-count.ensures
 

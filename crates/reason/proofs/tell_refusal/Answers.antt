@@ -10,12 +10,12 @@ use Rattle.reason.proofs.Printing.{nameable}
 use Rattle.reason.proofs.tell_refusal.Goals as goal
 use Rattle.reason.proofs.tell_refusal.Goals.{Else-not-field_ok}
 
-tested' : (c : Else-not-field_ok) → c.field_ok.result ≡ field_ok (number_of c.args.r)
-tested'' c = c.field_ok.ensures ∙ ap field_ok c.number_of-number.ensures
+tested : (c : Else-not-field_ok) → c.field_ok.result ≡ field_ok (number_of c.args.r)
+tested c = c.field_ok.ensures ∙ ap field_ok c.number_of-number.ensures
 
 -- it has a field
 named : (c : Else-not-field_ok) → field_ok (number_of c.args.r) ≡ true
-named c = sym (tested' c) ∙ not-false c.field_ok.result c.if-not-field_ok.false-raw
+named c = sym (tested c) ∙ not-false c.field_ok.result c.if-not-field_ok.false-raw
 
 pub print_field-requires : goal.print_field-requires
 print_field-requires c = (

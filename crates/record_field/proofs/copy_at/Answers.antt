@@ -1,6 +1,6 @@
 -- `record_field::copy_at` meets its contract. Invariant: the first `i` bytes are copied, and `d` has its length; the measure
 -- is how many are left. Assumes nothing.
-use Prim.Native.Nat.{◌+◌, ◌-◌, ◌<◌}
+use Prim.Native.Nat.{◌+◌, ◌<◌}
 use native.Mathlib.Numerals.{add-one}
 use native.Mathlib.Omega.{arith}
 use borrow.Author.Rules.{rules}

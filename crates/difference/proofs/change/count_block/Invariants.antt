@@ -1,6 +1,6 @@
 -- `difference::change::count_block` meets its contract: none of a block that is the same, or so many before its record `j`. Assumes
 -- nothing.
-use Prim.Native.Nat.{◌-◌, ◌≤◌}
+use Prim.Native.Nat.{◌≤◌}
 use mathlib.Core.Path.{◌≡◌}
 use lib.ListN.{length}
 use Rattle.difference.specs.Inner.Changes.{changes_from}
@@ -9,7 +9,3 @@ use Rattle.difference.proofs.change.count_block.Given as goal
 abbrev pub invariant-loop-j : goal.invariant-loop-j
 invariant-loop-j l =
     (l.j ≤ l.n) × (l.count ≡ length (changes_from l.size l.old l.new l.i l.j))
-
-abbrev pub decreases-loop-j : goal.decreases-loop-j
-decreases-loop-j l =
-    l.n - l.j

@@ -1,5 +1,5 @@
 -- `difference::change::count_changes` meets its contract: so many records before record `i` are changed. Assumes nothing.
-use Prim.Native.Nat.{◌+◌, ◌-◌, ◌≤◌, ◌<◌}
+use Prim.Native.Nat.{◌+◌, ◌≤◌, ◌<◌}
 use mathlib.Core.Path.{◌≡◌, sym, ap}
 use native.Mathlib.Nat.{div-le_self}
 use native.Mathlib.Omega.{arith}

@@ -1,5 +1,5 @@
 -- `difference::change::same_run` meets its contract: where it is so, the first `k` bytes are the same. Assumes nothing.
-use Prim.Native.Nat.{◌-◌, ◌≤◌}
+use Prim.Native.Nat.{◌≤◌}
 use mathlib.Core.Bool.{true}
 use mathlib.Core.Path.{◌≡◌}
 use Rattle.difference.specs.Inner.Changes.{SameAt}
@@ -8,7 +8,3 @@ use Rattle.difference.proofs.change.same_run.Given as goal
 abbrev pub invariant-loop-k : goal.invariant-loop-k
 invariant-loop-k l =
     (l.k ≤ l.n) × (l.ok ≡ true → SameAt l.old l.new l.from l.k)
-
-abbrev pub decreases-loop-k : goal.decreases-loop-k
-decreases-loop-k l =
-    l.n - l.k

@@ -1,5 +1,5 @@
 -- `difference::places::count_all` meets its contract: the counts of the places before `i` are stored. Assumes nothing.
-use Prim.Native.Nat.{◌+◌, ◌-◌, ◌≤◌}
+use Prim.Native.Nat.{◌+◌, ◌≤◌}
 use mathlib.Core.Path.{◌≡◌}
 use lib.ListN.{length, replicate}
 use lib.Seq.{sets}
@@ -10,7 +10,3 @@ use Rattle.difference.proofs.places.count_all.Given as goal
 abbrev pub invariant-loop-i : goal.invariant-loop-i
 invariant-loop-i l =
     (l.i ≤ 8) × (l.counts ≡ sets (replicate 8 0) 0 (row (λ k. length (changes_at l.hexen (lumps_in l.old_wad l.old) (lumps_in l.new_wad l.new) (k + 1))) l.i))
-
-abbrev pub decreases-loop-i : goal.decreases-loop-i
-decreases-loop-i l =
-    8 - l.i

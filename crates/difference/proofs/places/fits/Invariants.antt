@@ -1,5 +1,5 @@
 -- `difference::places::fits` meets its contract: what is left is the room without the counts before `i`. Assumes nothing.
-use Prim.Native.Nat.{◌+◌, ◌-◌, ◌≤◌}
+use Prim.Native.Nat.{◌+◌, ◌≤◌}
 use mathlib.Core.Path.{◌≡◌}
 use lib.ListN.{get_or}
 use Rattle.layout.specs.Rows.{sum_of}
@@ -8,7 +8,3 @@ use Rattle.difference.proofs.places.fits.Given as goal
 abbrev pub invariant-loop-i : goal.invariant-loop-i
 invariant-loop-i l =
     (l.i ≤ 8) × (l.left + sum_of (λ k. get_or l.counts k 0) l.i ≡ l.room)
-
-abbrev pub decreases-loop-i : goal.decreases-loop-i
-decreases-loop-i l =
-    8 - l.i

@@ -1,5 +1,5 @@
 -- `difference::places::write_all` meets its contract: the numbers of the places before `i` are stored. Assumes nothing.
-use Prim.Native.Nat.{◌+◌, ◌-◌, ◌≤◌}
+use Prim.Native.Nat.{◌+◌, ◌≤◌}
 use mathlib.Core.Path.{◌≡◌}
 use lib.ListN.{length}
 use lib.Seq.{sets}
@@ -12,7 +12,3 @@ invariant-loop-i l =
     (l.i ≤ 8)
     × (l.to ≡ length (laid_out (λ k. changes_at l.hexen (lumps_in l.old_wad l.old) (lumps_in l.new_wad l.new) (k + 1)) l.i))
     × (l.list ≡ sets l.initial.list 0 (laid_out (λ k. changes_at l.hexen (lumps_in l.old_wad l.old) (lumps_in l.new_wad l.new) (k + 1)) l.i))
-
-abbrev pub decreases-loop-i : goal.decreases-loop-i
-decreases-loop-i l =
-    8 - l.i

@@ -10,7 +10,3 @@ invariant-loop-i l =
     (l.i ≤ l.size)
     × (same_bytes (take l.size (drop l.from l.old)) (take l.size (drop l.from l.new))
     ≡ same_bytes (take (l.size - l.i) (drop (l.from + l.i) l.old)) (take (l.size - l.i) (drop (l.from + l.i) l.new)))
-
-abbrev pub decreases-loop-i : goal.decreases-loop-i
-decreases-loop-i l =
-    l.size - l.i

@@ -1,6 +1,4 @@
--- `hazard::lists::first_long` meets its contract: the lists of the cells before `i` are short. The measure is what is left of
--- the cells. Assumes nothing.
-use Prim.Native.Nat.{◌-◌}
+-- `hazard::lists::first_long` meets its contract: the lists of the cells before `i` are short. Assumes nothing.
 use Rattle.map_blockmap.specs.Blockmap.{cells_of}
 use Rattle.hazard.specs.Lists.{long_list_at}
 use Rattle.hazard.proofs.Findings.{Scanned}
@@ -9,7 +7,3 @@ use Rattle.hazard.proofs.lists.first_long.Given as goal
 abbrev pub invariant-loop-i : goal.invariant-loop-i
 invariant-loop-i l =
     Scanned (long_list_at l.lump l.linedefs) (cells_of l.lump) l.i-end l.i
-
-abbrev pub decreases-loop-i : goal.decreases-loop-i
-decreases-loop-i l =
-    l.i-end - l.i

@@ -1,6 +1,6 @@
 -- `hazard::lists::note_long` meets its contract: the offsets from `at` on are noted, and `named` is how many linedefs are named from
 -- there on. The measure is `at`. Assumes nothing.
-use Prim.Native.Nat.{◌-◌, ◌≤◌}
+use Prim.Native.Nat.{◌≤◌}
 use mathlib.Core.Path.{◌≡◌}
 use lib.ListN.{length}
 use Rattle.map_blockmap.specs.Blockmap.{word_count}

@@ -14,12 +14,3 @@ pub returns-in-Refused : goal.returns-in-Refused
 returns-in-Refused c =
     ap (λ (n : ℕ). Found (HighNumber 10 n)) c.record_of.ensures
     ∙ ap as_finding (sym c.in-Refused.is ∙ c.judge_blockmap.ensures) ∙ high-lists c.args.lump.now c.requires
-
-pub returns-in-Pass : goal.returns-in-Pass
-returns-in-Pass c =
-    ap as_finding (sym c.in-Pass.is ∙ c.judge_blockmap.ensures) ∙ high-lists c.args.lump.now c.requires
-
-pub returns-in-Refused : goal.returns-in-Refused
-returns-in-Refused c =
-    ap (λ (n : ℕ). Found (HighNumber 10 n)) c.record_of.ensures
-    ∙ ap as_finding (sym c.in-Refused.is ∙ c.judge_blockmap.ensures) ∙ high-lists c.args.lump.now c.requires

@@ -1,6 +1,4 @@
--- `hazard::numbers::high_segs` meets its contract: the records before `i` are low. The measure is what is left of them.
--- Assumes nothing.
-use Prim.Native.Nat.{◌-◌}
+-- `hazard::numbers::high_segs` meets its contract: the records before `i` are low. Assumes nothing.
 use mathlib.Core.Path.{refl}
 use borrow.Author.Rules.{rules}
 use Rattle.hazard.proofs.Findings.{scanned_none, tested_more, tested_stop}
@@ -10,16 +8,7 @@ pub loop-i-init : goal.loop-i-init
 loop-i-init c = scanned_none
 
 pub returns-then-not-seg_low : goal.returns-then-not-seg_low
-returns-then-not-seg_low c = tested_stop c.loop-i.invariant (search rules) c.seg_low.ensures c.if-not-seg_low.true-raw refl
+returns-then-not-seg_low c = tested_stop c.loop-i.invariant (search rules) c.seg_low.ensures c.if-not-seg_low.true refl
 
 pub loop-i-preserved : goal.loop-i-preserved
-loop-i-preserved c = tested_more c.loop-i.invariant _ (search rules) c.seg_low.ensures c.if-not-seg_low.false-raw refl
-
-pub loop-i-init : goal.loop-i-init
-loop-i-init c = scanned_none
-
-pub returns-then-not-seg_low : goal.returns-then-not-seg_low
-returns-then-not-seg_low c = tested_stop c.loop-i.invariant (search rules) c.seg_low.ensures c.if-not-seg_low.true-raw refl
-
-pub loop-i-preserved : goal.loop-i-preserved
-loop-i-preserved c = tested_more c.loop-i.invariant _ (search rules) c.seg_low.ensures c.if-not-seg_low.false-raw refl
+loop-i-preserved c = tested_more c.loop-i.invariant _ (search rules) c.seg_low.ensures c.if-not-seg_low.false refl

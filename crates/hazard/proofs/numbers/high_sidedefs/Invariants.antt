@@ -1,6 +1,5 @@
--- `hazard::numbers::high_sidedefs` meets its contract: the records before `i` are low. The measure is what is left of them.
--- Assumes nothing.
-use Prim.Native.Nat.{◌-◌, ◌/◌}
+-- `hazard::numbers::high_sidedefs` meets its contract: the records before `i` are low. Assumes nothing.
+use Prim.Native.Nat.{◌/◌}
 use lib.ListN.{length}
 use Rattle.hazard.specs.Numbers.{sidedef_high}
 use Rattle.hazard.proofs.Findings.{Scanned}
@@ -9,7 +8,3 @@ use Rattle.hazard.proofs.numbers.high_sidedefs.Given as goal
 abbrev pub invariant-loop-i : goal.invariant-loop-i
 invariant-loop-i l =
     Scanned (sidedef_high l.lump) (length l.lump / 30) l.i-end l.i
-
-abbrev pub decreases-loop-i : goal.decreases-loop-i
-decreases-loop-i l =
-    l.i-end - l.i

@@ -1,6 +1,5 @@
--- `hazard::segs::first_twice` meets its contract. The loop's invariant: no subsector before `i` takes a seg again, and their segs are
--- noted. The measure is what is left of the subsectors. Assumes nothing.
-use Prim.Native.Nat.{◌-◌}
+-- `hazard::segs::first_twice` meets its contract. The loop's invariant: no subsector before `i` takes a seg again, and
+-- their segs are noted. Assumes nothing.
 use mathlib.Core.Bool.{Bool, true, false, not}
 use mathlib.Core.Path.{refl, sym, ap, subst}
 use borrow.Author.Rules.{rules}

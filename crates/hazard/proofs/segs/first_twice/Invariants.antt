@@ -1,6 +1,6 @@
--- `hazard::segs::first_twice` meets its contract. The loop's invariant: no subsector before `i` takes a seg again, and their segs are
--- noted. The measure is what is left of the subsectors. Assumes nothing.
-use Prim.Native.Nat.{◌-◌, ◌/◌}
+-- `hazard::segs::first_twice` meets its contract. The loop's invariant: no subsector before `i` takes a seg again, and
+-- their segs are noted. Assumes nothing.
+use Prim.Native.Nat.{◌/◌}
 use lib.ListN.{length}
 use Rattle.hazard.specs.Segs.{seg_twice_at}
 use Rattle.hazard.specs.Inner.{Taken}
@@ -10,7 +10,3 @@ use Rattle.hazard.proofs.segs.first_twice.Given as goal
 abbrev pub invariant-loop-i : goal.invariant-loop-i
 invariant-loop-i l =
     Scanned (seg_twice_at l.subsectors) (length l.subsectors / 4) l.i-end l.i × Taken l.subsectors l.i l.taken
-
-abbrev pub decreases-loop-i : goal.decreases-loop-i
-decreases-loop-i l =
-    l.i-end - l.i

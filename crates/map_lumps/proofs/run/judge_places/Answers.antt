@@ -1,5 +1,4 @@
 -- `map_lumps::run::judge_places` meets its contract: the places up to `i` pass. The measure is what is left of the ten. Assumes nothing.
-use Prim.Native.Nat.{◌-◌}
 use borrow.Author.Rules.{rules}
 use Rattle.refusal.proofs.Scans.{scanned_none, scanned_more, scanned_stop}
 use Rattle.map_lumps.proofs.run.judge_places.Goals as goal

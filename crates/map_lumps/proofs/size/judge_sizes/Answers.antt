@@ -1,6 +1,5 @@
 -- `map_lumps::size::judge_sizes` meets its contract: the places up to `i` pass. The measure is what is left of the eight.
 -- Assumes nothing.
-use Prim.Native.Nat.{◌-◌}
 use borrow.Author.Rules.{rules}
 use Rattle.refusal.proofs.Scans.{scanned_none, scanned_more, scanned_stop, scanned_done}
 use Rattle.map_lumps.proofs.size.judge_sizes.Goals as goal

@@ -1,6 +1,5 @@
 -- `wad::entries::judge_entries` meets its contract: the entries before `i` pass. The measure is what is left of the entries.
 -- Assumes nothing.
-use Prim.Native.Nat.{◌-◌}
 use borrow.Author.Rules.{rules}
 use Rattle.refusal.proofs.Scans.{scanned_none, scanned_more, scanned_stop}
 use Rattle.wad.proofs.entries.judge_entries.Goals as goal

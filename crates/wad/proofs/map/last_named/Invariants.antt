@@ -1,6 +1,6 @@
 -- `wad::map::last_named` meets its contract: no entry from `left` on has the name, and the names compared are those from `left`
 -- on. The measure is `left`. Assumes nothing.
-use Prim.Native.Nat.{◌+◌, ◌-◌, ◌≤◌}
+use Prim.Native.Nat.{◌+◌, ◌≤◌}
 use mathlib.Core.Path.{◌≡◌}
 use Rattle.wad.specs.Map.{find_marker}
 use Rattle.wad.proofs.map.last_named.Given as goal

@@ -1,0 +1,36 @@
+-- `renumber::writing::write_node` meets its contract, from those of the functions that it calls. Assumes nothing.
+use Prim.Native.Nat.{ℕ, ◌+◌, ◌<◌}
+use mathlib.Core.List.{◌++◌}
+use mathlib.Core.Path.{ap, ◌∙◌, subst⁻¹}
+use lib.ListN.{length, take}
+use lib.Seq.{sets}
+use Rattle.endian.specs.Unsigned.{u16_bytes}
+use Rattle.record_field.specs.Records.{record_bytes}
+use Rattle.record.specs.Nodes.{node_size}
+use Rattle.node.specs.declared.Choice.TheVariants.{Right, Left}
+use Rattle.node.specs.Nodes.{subsector_bit}
+use Rattle.renumber.specs.Inner.{renamed_by}
+use Rattle.renumber.proofs.Rows.{node-stored}
+use Rattle.renumber.proofs.writing.write_node.Goals as goal
+
+pub renamed-right-requires : goal.renamed-right-requires
+renamed-right-requires c = (
+  c.child_of.ensures.1,
+  subst⁻¹ (λ (w : ℕ). w < subsector_bit → c.args.count + w < length c.args.words.now) c.child_of.ensures.0 (c.requires.children_placed Right),
+)
+
+pub renamed-left-requires : goal.renamed-left-requires
+renamed-left-requires c = (
+  c.child_of-2.ensures.1,
+  subst⁻¹ (λ (w : ℕ). w < subsector_bit → c.args.count + w < length c.args.words.now) c.child_of-2.ensures.0 (c.requires.children_placed Left),
+)
+
+pub returns : goal.returns
+returns c =
+    let a = c.args in
+    let by = renamed_by a.words.now a.count in
+    let toRight = c.renamed-right.ensures ∙ ap by c.child_of.ensures.0 in
+    let toLeft = c.renamed-left.ensures ∙ ap by c.child_of-2.ensures.0 in
+    node-stored a.nodes.now a.node a.out.now a.at c.renamed-right.result c.renamed-left.result c.requires.node_size_in_bounds.0
+    c.copy.ensures c.put_u16.ensures c.put_u16-2.ensures
+    ∙ (λ j. sets a.out.now a.at (take 24 (record_bytes a.nodes.now node_size a.node) ++ u16_bytes (toRight j) ++ u16_bytes (toLeft j)))
