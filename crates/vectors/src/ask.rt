@@ -1,4 +1,5 @@
 // The questions: each is put to the library with what is lent, and the answer printed.
+use std::io;
 
 // Which question a word names: its place among these. Those from MAPS on are lent words, those from TEXTS on read a text map,
 // and the 14 from RECORDS on read and write a record.
@@ -20,82 +21,92 @@ pub(crate) fn number_of(word: &[u8]) -> usize {
     )
 }
 
-pub(crate) fn put(asked: usize, with: &[u8], file: &[u8], word: usize, words: usize) {
+pub(crate) fn put(
+    rt: &impl Print,
+    asked: usize,
+    with: &[u8],
+    file: &[u8],
+    word: usize,
+    words: usize,
+) -> io::Result<()> {
     match asked {
-        0 | 1 => {}
-        2 => directory(file),
-        3 => entry(file, with),
-        4 => marker(file, with),
-        5 => game(file, with),
-        6 => descend(file, with),
-        7 => find(file, with),
-        8 => sidedefs(file, with),
-        9 | 10 => crate::pictures::put(asked == 10, file, with),
-        MAPS..=15 => crate::maps::put(asked - MAPS, file, with, word, words),
-        TEXTS..=18 => crate::texts::put(asked - TEXTS, file, with),
-        RECORDS..=32 => crate::records::put(asked - RECORDS, file, with),
-        33 | 34 => crate::index::put(asked == 34, file, with),
-        35 => crate::differences::put(file, with, word, words),
-        _ => vector_script::print::ill_formed(),
+        0 | 1 => Ok(()),
+        2 => directory(rt, file),
+        3 => entry(rt, file, with),
+        4 => marker(rt, file, with),
+        5 => game(rt, file, with),
+        6 => descend(rt, file, with),
+        7 => find(rt, file, with),
+        8 => sidedefs(rt, file, with),
+        9 | 10 => crate::pictures::put(rt, asked == 10, file, with),
+        MAPS..=15 => crate::maps::put(rt, asked - MAPS, file, with, word, words),
+        TEXTS..=18 => crate::texts::put(rt, asked - TEXTS, file, with),
+        RECORDS..=32 => crate::records::put(rt, asked - RECORDS, file, with),
+        33 | 34 => crate::index::put(rt, asked == 34, file, with),
+        35 => crate::differences::put(rt, file, with, word, words),
+        _ => vector_script::print::ill_formed(rt),
     }
 }
 
-fn directory(file: &[u8]) {
+fn directory(rt: &impl Print, file: &[u8]) -> io::Result<()> {
     let a = export_files::meshpigeon_directory(file);
-    vector_script::print::answer(a.status, a.count, a.start);
+    vector_script::print::answer(rt, a.status, a.count, a.start)
 }
 
 // Where an entry lies, after its bytes.
-fn entry(file: &[u8], with: &[u8]) {
-    let a = export_files::meshpigeon_entry(file, vector_script::long_argument(with));
-    vector_script::print::bytes(wad::part_if(file, a.offset, a.size));
-    vector_script::print::answer(a.status, a.offset, a.size);
+fn entry(rt: &impl Print, file: &[u8], with: &[u8]) -> io::Result<()> {
+    let number = vector_script::long_argument(rt, with)?;
+    let a = export_files::meshpigeon_entry(file, number);
+    vector_script::print::bytes(rt, wad::part_if(file, a.offset, a.size))?;
+    vector_script::print::answer(rt, a.status, a.offset, a.size)
 }
 
-fn marker(file: &[u8], name: &[u8]) {
+fn marker(rt: &impl Print, file: &[u8], name: &[u8]) -> io::Result<()> {
     let a = export_files::meshpigeon_find_map(file, name);
-    vector_script::print::answer(a.status, a.marker, a.compared);
+    vector_script::print::answer(rt, a.status, a.marker, a.compared)
 }
 
-fn game(file: &[u8], with: &[u8]) {
-    let a = export_maps::meshpigeon_map_game(file, vector_script::long_argument(with));
-    vector_script::print::status(a.status);
-    vector_script::print::flag(a.hexen);
+fn game(rt: &impl Print, file: &[u8], with: &[u8]) -> io::Result<()> {
+    let marker = vector_script::long_argument(rt, with)?;
+    let a = export_maps::meshpigeon_map_game(file, marker);
+    vector_script::print::status(rt, a.status)?;
+    vector_script::print::flag(rt, a.hexen)
 }
 
 // Asked with the count of subsectors, then x and y.
-fn descend(nodes: &[u8], with: &[u8]) {
-    let x = vector_script::coordinate(with, 4);
-    let y = vector_script::coordinate(with, 8);
-    let a = export_maps::meshpigeon_descend(nodes, vector_script::argument(with, 0), x, y);
-    vector_script::print::answer(a.status, a.subsector, a.count);
+fn descend(rt: &impl Print, nodes: &[u8], with: &[u8]) -> io::Result<()> {
+    let x = vector_script::coordinate(rt, with, 4)?;
+    let y = vector_script::coordinate(rt, with, 8)?;
+    let subsectors = vector_script::argument(rt, with, 0)?;
+    let a = export_maps::meshpigeon_descend(nodes, subsectors, x, y);
+    vector_script::print::answer(rt, a.status, a.subsector, a.count)
 }
 
 // The file is the base and then the patch. Asked with the base's length, then the name.
-fn find(file: &[u8], with: &[u8]) {
-    let n = vector_script::argument(with, 0);
-    let base = vector_script::lent(file, 0, n);
+fn find(rt: &impl Print, file: &[u8], with: &[u8]) -> io::Result<()> {
+    let n = vector_script::argument(rt, with, 0)?;
+    let base = vector_script::lent(rt, file, 0, n)?;
     let a = export_pairs::meshpigeon_pair_find(
         base,
         vector_script::rest(file, n),
         vector_script::rest(with, 4),
     );
-    vector_script::print::answer(a.status, a.file as usize, a.offset);
-    vector_script::print::number(a.size);
+    vector_script::print::answer(rt, a.status, a.file as usize, a.offset)?;
+    vector_script::print::number(rt, a.size)
 }
 
 // Asked with the count of sectors, of 64 bits, then each scrap's length; a length that is cut is asked for too.
 // Behind its end the lump begins again.
-fn sidedefs(lump: &[u8], with: &[u8]) {
-    let mut state = export_sidedefs::meshpigeon_sidedefs_start(vector_script::long_argument(with));
+fn sidedefs(rt: &impl Print, lump: &[u8], with: &[u8]) -> io::Result<()> {
+    let sectors = vector_script::long_argument(rt, with)?;
+    let mut state = export_sidedefs::meshpigeon_sidedefs_start(sectors);
     let mut at = 0;
     for i in 2..(with.len() % 196609 + 3) / 4 {
-        let end = vector_script::plus(at, vector_script::argument(with, 4 * i));
-        state = export_sidedefs::meshpigeon_sidedefs_feed(
-            state,
-            vector_script::lent(lump, at, end),
-        );
+        let length = vector_script::argument(rt, with, 4 * i)?;
+        let end = vector_script::plus(at, length);
+        let scrap = vector_script::lent(rt, lump, at, end)?;
+        state = export_sidedefs::meshpigeon_sidedefs_feed(state, scrap);
         at = if end == lump.len() { 0 } else { end };
     }
-    vector_script::print::status(export_sidedefs::meshpigeon_sidedefs_verdict(state));
+    vector_script::print::status(rt, export_sidedefs::meshpigeon_sidedefs_verdict(state))
 }

@@ -1,50 +1,59 @@
 // Questions that words are lent to: each is put with what else is lent, and the answer printed, then the words.
+use std::io;
 
 // The questions by number: map, order, pair, why, renumber.
-pub fn put(asked: usize, file: &[u8], with: &[u8], word: usize, count: usize) {
+pub fn put(
+    rt: &impl Print,
+    asked: usize,
+    file: &[u8],
+    with: &[u8],
+    word: usize,
+    count: usize,
+) -> io::Result<()> {
     if 131072 < count {
-        return vector_script::print::ill_formed();
+        return vector_script::print::ill_formed(rt);
     }
     let mut words = [(word % 65536) as u16; 131072];
-    answer(asked, file, with, &mut words[..count]);
+    answer(rt, asked, file, with, &mut words[..count])
 }
 
-fn answer(asked: usize, file: &[u8], with: &[u8], words: &mut [u16]) {
+fn answer(
+    rt: &impl Print,
+    asked: usize,
+    file: &[u8],
+    with: &[u8],
+    words: &mut [u16],
+) -> io::Result<()> {
     match asked {
-        0 => judge_map(file, with, words),
-        1 => draw_order(file, with, words),
-        2 => judge_pair(file, with, words),
-        3 => why(file, with, words),
-        _ => renumber(file, with, words),
+        0 => judge_map(rt, file, with, words),
+        1 => draw_order(rt, file, with, words),
+        2 => judge_pair(rt, file, with, words),
+        3 => why(rt, file, with, words),
+        _ => renumber(rt, file, with, words),
     }
 }
 
-fn judge_map(file: &[u8], name: &[u8], words: &mut [u16]) {
+fn judge_map(rt: &impl Print, file: &[u8], name: &[u8], words: &mut [u16]) -> io::Result<()> {
     let a = export_maps::meshpigeon_judge_map(file, name, words);
-    vector_script::print::answer(a.status, a.depth, a.marker);
-    vector_script::print::words(words);
+    vector_script::print::answer(rt, a.status, a.depth, a.marker)?;
+    vector_script::print::words(rt, words)
 }
 
 // Asked as a descent is.
-fn draw_order(nodes: &[u8], with: &[u8], words: &mut [u16]) {
-    let x = vector_script::coordinate(with, 4);
-    let y = vector_script::coordinate(with, 8);
-    let a = export_maps::meshpigeon_draw_order(
-        nodes,
-        vector_script::argument(with, 0),
-        x,
-        y,
-        words,
-    );
-    vector_script::print::status(a.status);
-    vector_script::print::number(a.count);
-    vector_script::print::words(words);
+fn draw_order(rt: &impl Print, nodes: &[u8], with: &[u8], words: &mut [u16]) -> io::Result<()> {
+    let x = vector_script::coordinate(rt, with, 4)?;
+    let y = vector_script::coordinate(rt, with, 8)?;
+    let subsectors = vector_script::argument(rt, with, 0)?;
+    let a = export_maps::meshpigeon_draw_order(nodes, subsectors, x, y, words);
+    vector_script::print::status(rt, a.status)?;
+    vector_script::print::number(rt, a.count)?;
+    vector_script::print::words(rt, words)
 }
 
 // The file is the base and then the patch. Asked with the base's length, then the name.
-fn judge_pair(file: &[u8], with: &[u8], words: &mut [u16]) {
-    let n = vector_script::argument(with, 0);
-    let base = vector_script::lent(file, 0, n);
+fn judge_pair(rt: &impl Print, file: &[u8], with: &[u8], words: &mut [u16]) -> io::Result<()> {
+    let n = vector_script::argument(rt, with, 0)?;
+    let base = vector_script::lent(rt, file, 0, n)?;
     let patch = vector_script::rest(file, n);
     let a = export_pairs::meshpigeon_pair_judge_map(
         base,
@@ -52,51 +61,58 @@ fn judge_pair(file: &[u8], with: &[u8], words: &mut [u16]) {
         vector_script::rest(with, 4),
         words,
     );
-    vector_script::print::answer(a.status, a.file as usize, a.depth);
-    vector_script::print::number(a.marker);
-    vector_script::print::words(words);
+    vector_script::print::answer(rt, a.status, a.file as usize, a.depth)?;
+    vector_script::print::number(rt, a.marker)?;
+    vector_script::print::words(rt, words)
 }
 
 // Asked with the name of eight bytes; the output holds 9s.
-fn why(file: &[u8], with: &[u8], words: &mut [u16]) {
-    let n = output_length(with);
+fn why(rt: &impl Print, file: &[u8], with: &[u8], words: &mut [u16]) -> io::Result<()> {
+    let n = output_length(rt, with)?;
     if 32768 < n {
-        return vector_script::print::ill_formed();
+        return vector_script::print::ill_formed(rt);
     }
+    let name = vector_script::lent(rt, with, 0, 8)?;
     let mut out = [9u8; 32768];
-    reason(file, vector_script::lent(with, 0, 8), words, &mut out[..n]);
+    reason(rt, file, name, words, &mut out[..n])
 }
 
 // What stands behind the name, or else 20.
-fn output_length(with: &[u8]) -> usize {
+fn output_length(rt: &impl Print, with: &[u8]) -> io::Result<usize> {
     if with.len() <= 8 {
-        return 20;
+        return Ok(20);
     }
-    vector_script::argument(with, 8)
+    vector_script::argument(rt, with, 8)
 }
 
-fn reason(file: &[u8], name: &[u8], words: &mut [u16], out: &mut [u8]) {
+fn reason(
+    rt: &impl Print,
+    file: &[u8],
+    name: &[u8],
+    words: &mut [u16],
+    out: &mut [u8],
+) -> io::Result<()> {
     let a = export_why::meshpigeon_why(file, name, words, out);
-    vector_script::print::answer(a.status, a.depth, a.marker);
-    vector_script::print::number(a.length);
-    vector_script::print::bytes(out);
-    vector_script::print::text(b" words");
-    vector_script::print::words(words);
+    vector_script::print::answer(rt, a.status, a.depth, a.marker)?;
+    vector_script::print::number(rt, a.length)?;
+    vector_script::print::bytes(rt, out)?;
+    vector_script::print::text(rt, b" words")?;
+    vector_script::print::words(rt, words)
 }
 
 // Asked with the name of eight bytes, the output's length and the list of old numbers, of 16 bits; the output holds 9s.
-fn renumber(file: &[u8], with: &[u8], words: &mut [u16]) {
-    let n = vector_script::argument(with, 8);
+fn renumber(rt: &impl Print, file: &[u8], with: &[u8], words: &mut [u16]) -> io::Result<()> {
+    let n = vector_script::argument(rt, with, 8)?;
     let many = vector_script::rest(with, 12).len() / 2;
     if 6 < many {
-        return vector_script::print::ill_formed();
+        return vector_script::print::ill_formed(rt);
     }
     if 128 < n {
-        return vector_script::print::ill_formed();
+        return vector_script::print::ill_formed(rt);
     }
     let order = listed(with);
     let mut out = [9u8; 128];
-    renumber_by(file, with, words, &order[..many], &mut out[..n]);
+    renumber_by(rt, file, with, words, &order[..many], &mut out[..n])
 }
 
 // The list, of at most six numbers.
@@ -120,12 +136,19 @@ fn word_at(with: &[u8], at: usize) -> u16 {
     }
 }
 
-fn renumber_by(file: &[u8], with: &[u8], words: &mut [u16], order: &[u16], out: &mut [u8]) {
-    let name = vector_script::lent(with, 0, 8);
+fn renumber_by(
+    rt: &impl Print,
+    file: &[u8],
+    with: &[u8],
+    words: &mut [u16],
+    order: &[u16],
+    out: &mut [u8],
+) -> io::Result<()> {
+    let name = vector_script::lent(rt, with, 0, 8)?;
     let a = export_renumber::meshpigeon_renumber(file, name, words, order, out);
-    vector_script::print::status(a.status);
-    vector_script::print::number(a.length);
-    vector_script::print::bytes(out);
-    vector_script::print::text(b" words");
-    vector_script::print::words(words);
+    vector_script::print::status(rt, a.status)?;
+    vector_script::print::number(rt, a.length)?;
+    vector_script::print::bytes(rt, out)?;
+    vector_script::print::text(rt, b" words")?;
+    vector_script::print::words(rt, words)
 }
