@@ -42,7 +42,7 @@ pub(crate) fn put(
         MAPS..=15 => crate::maps::put(rt, asked - MAPS, file, with, word, words),
         TEXTS..=18 => crate::texts::put(rt, asked - TEXTS, file, with),
         RECORDS..=32 => crate::records::put(rt, asked - RECORDS, file, with),
-        33 | 34 => crate::index::put(rt, asked == 34, file, with),
+        33 | 34 => crate::indexes::put(rt, asked == 34, file, with),
         35 => crate::differences::put(rt, file, with, word, words),
         _ => vector_script::print::ill_formed(rt),
     }

@@ -6,7 +6,7 @@ ghost use Rattle.std.specs.Prelude.{◌≤◌, length, IfOk};
 
 mod ask;
 mod differences;
-mod index;
+mod indexes;
 mod maps;
 mod pictures;
 mod records;

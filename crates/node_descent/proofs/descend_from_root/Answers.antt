@@ -1,7 +1,6 @@
 -- `node_descent::descend_from_root` meets its contract. The loop's invariant: the descent from the word at hand, with the choices
 -- that are left, is the descent from the root; a word that is a node is in range. The measure is the choices left.
 -- Assumes nothing.
-use Prim.Native.Nat.{◌-◌}
 use mathlib.Core.Path.{◌≡◌, sym, ◌∙◌}
 use borrow.Author.Rules.{rules}
 use mir.Syntax.{w16}

@@ -3,8 +3,6 @@
 -- Assumes nothing.
 use Prim.Native.Nat.{◌-◌, ◌≤◌, ◌<◌}
 use mathlib.Core.Path.{◌≡◌}
-use mir.Syntax.{w16}
-use mir.Val.{to_z}
 use Rattle.node.specs.Nodes.{subsector_bit, root}
 use Rattle.node_descent.specs.Walks.{descent_from}
 use Rattle.node_descent.proofs.descend_from_root.Given as goal

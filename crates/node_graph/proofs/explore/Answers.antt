@@ -1,6 +1,6 @@
 -- `node_graph::explore` meets its contract. The loop's invariant is the search's state; the measure is what falls with
 -- each step. Assumes nothing.
-use Prim.Native.Nat.{ℕ, ◌-◌}
+use Prim.Native.Nat.{ℕ}
 use mathlib.Core.List.{List}
 use mathlib.Core.Path.{◌≡◌, refl, subst, subst⁻¹}
 use native.Mathlib.Omega.{arith}

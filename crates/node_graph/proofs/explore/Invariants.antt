@@ -1,6 +1,5 @@
 -- `node_graph::explore` meets its contract. The loop's invariant is the search's state; the measure is what falls with
 -- each step. Assumes nothing.
-use Prim.Native.Nat.{◌-◌}
 use mathlib.Core.Path.{◌≡◌}
 use lib.ListN.{length}
 use Rattle.node_graph.specs.Searching.{Searchable, State, effort}

@@ -3,7 +3,6 @@
 use Prim.Native.Nat.{ℕ, ◌-◌}
 use mathlib.Core.List.{List}
 use mathlib.Core.Path.{subst, subst⁻¹}
-use Rattle.node_graph.specs.declared.Look.TheVariants.{New, Height}
 use Rattle.node_graph.specs.declared.Look.{Look}
 use Rattle.node_graph.specs.Looks.{path_of}
 use Rattle.node_graph.proofs.Looks.{SaidBelow}

@@ -1,6 +1,6 @@
 -- `node_path::print` meets its contract. The loop's invariant: `node` is the word after `j` choices by the marks, and these are at the
 -- output's front. The measure is what is left of `n`. Assumes nothing.
-use Prim.Native.Nat.{◌<◌, ◌-◌}
+use Prim.Native.Nat.{◌<◌}
 use mathlib.Core.Path.{refl, ap, ◌∙◌}
 use native.Mathlib.Omega.{arith}
 use borrow.Author.Rules.{rules}

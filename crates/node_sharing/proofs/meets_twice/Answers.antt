@@ -1,6 +1,6 @@
 -- `node_sharing::meets_twice` meets its contract. The loop's invariant: the children of the marked nodes below `i` are noted, and
 -- none came twice. The measure is what is left of the nodes. Assumes nothing.
-use Prim.Native.Nat.{◌+◌, ◌-◌}
+use Prim.Native.Nat.{◌+◌}
 use mathlib.Core.Bool.{Bool}
 use mathlib.Core.Path.{sym, subst}
 use borrow.Author.Rules.{rules}

@@ -4,7 +4,6 @@ use mathlib.Core.Path.{◌≡◌, sym, ap, ◌∙◌}
 use native.Mathlib.Omega.{arith}
 use borrow.Author.Tests.{not-false}
 use Rattle.refusal.specs.Table.{number_of}
-use Rattle.map_lumps.specs.Games.{game_at}
 use Rattle.reason_field.specs.Named.{field_ok}
 use Rattle.reason.proofs.Printing.{nameable}
 use Rattle.reason.proofs.tell_refusal.Goals as goal

@@ -1,6 +1,5 @@
 -- `renumber::writing::copy` meets its contract. The loop's invariant: the first `i` bytes are stored. The measure is what is left of them.
 -- Assumes nothing.
-use Prim.Native.Nat.{◌-◌}
 use native.Mathlib.Omega.{arith}
 use borrow.Author.Rules.{rules}
 use Rattle.renumber.proofs.Rows.{row_more}

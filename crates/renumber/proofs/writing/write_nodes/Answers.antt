@@ -1,6 +1,6 @@
 -- `renumber::writing::write_nodes` meets its contract. The loop's invariant: the nodes before place `i` are stored. The measure is what is left
 -- of the list. Assumes nothing.
-use Prim.Native.Nat.{ℕ, ◌-◌, ◌<◌}
+use Prim.Native.Nat.{ℕ, ◌<◌}
 use mathlib.Core.List.{List}
 use mathlib.Core.Path.{refl, sym, ap}
 use native.Mathlib.Omega.{arith}
