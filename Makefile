@@ -11,7 +11,7 @@ TOOL = rust/target/release/meshpigeon
 all: tool
 
 # The library is proved and built where it is missing, or older than a crate: one line for each crate.
-$(LIBRARY): crates.txt $(shell find crates -name '*.rt' -o -name '*.antt')
+$(LIBRARY): crates.txt $(shell find crates -name out -prune -o '(' -name '*.rt' -o -name '*.antt' ')' -print)
 	@scripts/prove
 
 tool: $(LIBRARY)
