@@ -13,10 +13,10 @@ const RECORD: usize = 5;
 /// Number, and then name, place and record as they are written: a number, or what varies.
 type Rows = BTreeMap<u32, [String; 3]>;
 
-/// The rows of `rowOf`: `rowOf (EntryName entry) = row 6 0 entry`.
+/// The rows of `row_of`: `row_of (EntryName entry) = row 6 0 entry`.
 fn table() -> Rows {
     let row = |line: &str| {
-        let (case, row) = line.strip_prefix("rowOf ")?.split_once(" = row ")?;
+        let (case, row) = line.strip_prefix("row_of ")?.split_once(" = row ")?;
         let name = case.trim_matches(['(', ')']).split(' ').next()?.to_string();
         let [number, place, record] = row.split(' ').collect::<Vec<_>>().try_into().ok()?;
         Some((number.parse().ok()?, [name, place.to_string(), record.to_string()]))
