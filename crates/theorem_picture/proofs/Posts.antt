@@ -16,7 +16,7 @@ use Rattle.picture_write.proofs.Runs.{run_suc, run_most, length-post, run_covere
 use Rattle.theorem_picture.proofs.Standing.{Stands, stands-left, stands_right}
 use Rattle.theorem_picture.proofs.Reading.{Reads, PostAt, reads_end, reads_gap, reads_post}
 
--- each part of bytes that are laidOut stands after those before it
+-- each part of bytes that are laid_out stands after those before it
 pub stands_laid : (f : ℕ → List ℕ) {lump : List ℕ} {at : ℕ} (n : ℕ) → Stands lump at (laid_out f n) → (k : ℕ) → k < n
     → Stands lump (at + length (laid_out f k)) (f k)
 stands_laid f zero s k h = absurd (not-suc-le-zero h)
