@@ -6,8 +6,9 @@
 A definition, lemma, field or local helper in lower camel case becomes snake case (`entryCount`, `entry_count`), a prime an apostrophe,
 and a dash stays only where it joins two names (`length-take`): a plain word is joined by `_` (`each-none`, `each_none`). Types,
 modules and constructors keep theirs, and so do functions of src/, strings, and the names that Rattle makes (Need-.., After-..).
-A name is the repository's own in a file that declares it or imports it from one of the repository's crates. Where a
-lemma would fall together with a definition it gets `_lem`, and where two lemmas would, one keeps its dash. It prints what it renamed, what it left, and where a new name meets another of its file.
+A name is the repository's own in a file that declares it or imports it from one of the repository's crates. Where a lemma would
+fall together with a definition it gets `_lem`, and where two lemmas would, one keeps its dash. It prints what it renamed, and where a
+new name meets another of its file.
 """
 import collections
 import os
@@ -122,7 +123,7 @@ def main(argv):
         new = spelling(name, known)
         if new != name:
             table[name] = new
-    # Names that would fall together keep their dash.
+    # Names that would fall together: a lemma beside a definition gets `_lem`, and one of two lemmas keeps its dash.
     meets = collections.defaultdict(set)
     for name in everywhere:
         meets[table.get(name, name)].add(name)
