@@ -5,9 +5,11 @@ The rules are text alone, so a place is a candidate: the page says of each kind 
 """
 import collections
 import glob
+import os
 import re
 import sys
 
+os.chdir(os.path.dirname(os.path.dirname(os.path.abspath(__file__))))
 LIST = "--list" in sys.argv
 sources = {f: open(f).read() for f in sorted(glob.glob("crates/*/src/**/*.rt", recursive=True))}
 code = {f: re.sub(r"//[^\n]*", "", s) for f, s in sources.items()}
