@@ -11,9 +11,8 @@ use Rattle.wad.specs.Entries.{directory_of}
 use Rattle.record_table.specs.Lumps.{most_count}
 use Rattle.map_lumps.proofs.Places.{each-place}
 use Rattle.map_lumps.specs.Run.{run_check}
-use Rattle.map_check.specs.declared.Verdict.TheVariants.{Accepted}
+use Rattle.map_check.specs.Verdict.{accepted, verdict}
 use Rattle.map_check.specs.Lumps.{lumps_check}
-use Rattle.map_check.specs.Verdict.{verdict}
 use Rattle.map_check.proofs.Passing.{run_long, counts}
 use Rattle.map_check.proofs.CountsPassing.{count_most}
 use Rattle.map_check.proofs.Answers.{marker_known}
@@ -28,7 +27,7 @@ most-few =
     (omega arith) (omega arith) (omega arith) (omega arith) (omega arith)
     (omega arith) (omega arith) (omega arith) (omega arith) (omega arith)
 
-module _ (wad name words : List ℕ) (depth marker : ℕ) (e : verdict wad name words ≡ Accepted depth marker) where
+module _ (wad name words : List ℕ) (depth marker : ℕ) (e : verdict wad name words ≡ accepted depth marker) where
   pub accepted-map : MapIn wad marker
   accepted-map =
       let b = (known wad name words depth marker e).below in

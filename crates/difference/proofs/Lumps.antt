@@ -1,9 +1,10 @@
 -- The eight lumps one after the other: their counts in an array, and their numbers in the list. Assumes nothing.
-use Prim.Native.Nat.{ℕ, ◌+◌}
+use Prim.Native.Nat.{ℕ, ◌+◌, ◌*◌, ◌≤◌, ◌<◌}
+use Rattle.std.specs.Prelude.{sum}
 use mathlib.Core.List.{List, [], ◌∷◌}
 use mathlib.Core.Path.{◌≡◌, refl, sym, ap, ◌∙◌}
 use native.Mathlib.Omega.{arith}
-use lib.ListN.{length, get_or, set, replicate}
+use lib.ListN.{length, set, replicate}
 use lib.Seq.{sets}
 use Rattle.layout.specs.Rows.{sum_of, laid_out}
 use Rattle.layout.proofs.LaidOut.{laid_more, length_laid, length_parts}
@@ -25,9 +26,18 @@ module _ (g : ℕ → ℕ) where
   unfolding laid_out
   row_eight = refl
 
-  pub sum_eight : sum_of (λ i. get_or (row 8) i 0) 8 ≡ sum_of g 8
+  eight : sum_of g 8 ≡ g 0 + g 1 + g 2 + g 3 + g 4 + g 5 + g 6 + g 7
+  unfolding sum_of
+  eight = omega arith
+
+  pub sum_eight : sum (row 8) ≡ sum_of g 8
   unfolding laid_out sum_of
   sum_eight = refl
+
+  -- where none is more than `most`
+  pub eight-most : (most : ℕ) → ((i : ℕ) → i < 8 → g i ≤ most) → sum_of g 8 ≤ 8 * most
+  eight-most most h =
+      omega (arith, eight, h 0 (omega arith), h 1 (omega arith), h 2 (omega arith), h 3 (omega arith), h 4 (omega arith), h 5 (omega arith), h 6 (omega arith), h 7 (omega arith))
 
 -- ---- a list for each
 

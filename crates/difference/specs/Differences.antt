@@ -1,7 +1,6 @@
 -- What is answered of two maps, and what the list and the words hold afterwards (02, W-213). Assumes nothing.
-use Rattle.std.specs.Prelude.{ℕ, ◌+◌, Bool, true, false, not, List, [], ◌∷◌, ◌≡◌, leb, length, replicate}
-use Rattle.refusal.specs.declared.Check.{Check}
-use Rattle.refusal.specs.declared.Check.TheVariants.{Pass, Refused}
+use Rattle.std.specs.Prelude.{ℕ, ◌+◌, Bool, true, false, not, List, [], ◌∷◌, ◌≡◌, leb, length, Result, Ok, Err}
+use Rattle.refusal.specs.Checks.{Check}
 use Rattle.refusal.specs.declared.Refusal.TheVariants.{DifferenceRoom, DifferenceGames}
 use Rattle.refusal.specs.Checks.{unless, ◌and_then◌}
 use Rattle.layout.specs.Rows.{laid_out}
@@ -11,10 +10,9 @@ use Rattle.wad.specs.Entries.{directory_of}
 use Rattle.record_table.specs.Lumps.{record_size}
 use Rattle.map_lumps.specs.Lumps.{map_lumps, map_lump}
 use Rattle.map_lumps.specs.Games.{game_at}
-use Rattle.map_check.specs.declared.Verdict.{Verdict}
-use Rattle.map_check.specs.declared.Verdict.TheVariants.{Accepted, Refused as NotAccepted}
-use Rattle.map_check.specs.Verdict.{verdict, words_after}
-use Rattle.difference.specs.declared.Differences.{Differences}
+use Rattle.map_check.specs.Verdict.{Verdict, verdict, words_after}
+use Rattle.difference.specs.declared.CompareError.{CompareError}
+use Rattle.difference.specs.declared.CompareError.TheVariants.{Old, New, Both}
 use Rattle.difference.specs.Records.{changes}
 
 -- ---- two maps' lumps
@@ -54,43 +52,33 @@ pair_check oldWad old newWad new room =
     unless (same_game (game_in oldWad old) (game_in newWad new)) DifferenceGames
     and_then unless (leb (length (change_list oldWad old newWad new)) room) DifferenceRoom
 
--- the files by number; 0 is neither
-abbrev pub neither : ℕ
-neither = 0
-
-abbrev pub old_file : ℕ
-old_file = 1
-
-abbrev pub new_file : ℕ
-new_file = 2
-
-abbrev pub refused_in : ℕ → Check → Differences
-refused_in file check = record { check = check; file = file; counts = replicate 8 0 }
-
-abbrev pub pair_answer : Check → List ℕ → Differences
-pair_answer Pass counts = record { check = Pass; file = neither; counts = counts }
-pair_answer (Refused r) counts = refused_in neither (Refused r)
+-- the counts, or what is refused of both
+abbrev pub pair_answer : Check → List ℕ → Result (List ℕ) CompareError
+pair_answer (Ok _) counts = Ok counts
+pair_answer (Err r) counts = Err (Both r)
 
 -- the old map's refusal, then the new one's, then those of both
-abbrev pub differences_by : Verdict → Verdict → List ℕ → List ℕ → ℕ → Differences
-differences_by (NotAccepted r) v oldWad newWad room = refused_in old_file (Refused r)
-differences_by (Accepted d old) (NotAccepted r) oldWad newWad room = refused_in new_file (Refused r)
-differences_by (Accepted d old) (Accepted e new) oldWad newWad room =
-    pair_answer (pair_check oldWad old newWad new room) (change_counts (game_in oldWad old) (lumps_in oldWad old) (lumps_in newWad new))
+abbrev pub differences_by : Verdict → Verdict → List ℕ → List ℕ → ℕ → Result (List ℕ) CompareError
+differences_by (Err r) v oldWad newWad room = Err (Old r)
+differences_by (Ok old) (Err r) oldWad newWad room = Err (New r)
+differences_by (Ok old) (Ok new) oldWad newWad room =
+    pair_answer (pair_check oldWad old.marker newWad new.marker room)
+    (change_counts (game_in oldWad old.marker) (lumps_in oldWad old.marker) (lumps_in newWad new.marker))
 
 abbrev pub list_by : Verdict → Verdict → List ℕ → List ℕ → List ℕ → List ℕ
-list_by (NotAccepted r) v oldWad newWad list = list
-list_by (Accepted d old) (NotAccepted r) oldWad newWad list = list
-list_by (Accepted d old) (Accepted e new) oldWad newWad list =
-    buffer_after (pair_check oldWad old newWad new (length list)) (change_list oldWad old newWad new) list
+list_by (Err r) v oldWad newWad list = list
+list_by (Ok old) (Err r) oldWad newWad list = list
+list_by (Ok old) (Ok new) oldWad newWad list =
+    buffer_after (pair_check oldWad old.marker newWad new.marker (length list)) (change_list oldWad old.marker newWad new.marker) list
 
 -- the new map is looked at where the old one is accepted
 abbrev pub words_then_by : Verdict → List ℕ → List ℕ → List ℕ → List ℕ
-words_then_by (NotAccepted r) newWad newName words = words
-words_then_by (Accepted d old) newWad newName words = words_after newWad newName words
+words_then_by (Err r) newWad newName words = words
+words_then_by (Ok old) newWad newName words = words_after newWad newName words
 
 -- what is promised: the answer, the words as the two checks leave them, one after the other, and the list
-pub record Differ (oldWad oldName newWad newName words list : List ℕ) (answer : Differences) (wordsThen listThen : List ℕ) : Type 0 where
+pub record Differ (oldWad oldName newWad newName words list : List ℕ) (answer : Result (List ℕ) CompareError)
+    (wordsThen listThen : List ℕ) : Type 0 where
   pub answers : answer
       ≡ differences_by (verdict oldWad oldName words) (verdict newWad newName (words_after oldWad oldName words))
       oldWad newWad (length list)

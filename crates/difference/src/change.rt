@@ -1,118 +1,105 @@
 // The records of a lump against those of an older one (W-213), in blocks: where all bytes of a block are the same, its records are not
 // looked at one by one.
-ghost use Rattle.std.specs.Prelude.{◌≡◌, true, ◌+◌, ◌≤◌, ◌<◌, length};
-ghost use Rattle.std.proofs.lemmas.List.Edits.{sets};
-ghost use Rattle.difference.specs.Records.{count_in, changes};
-ghost use Rattle.difference.specs.Inner.Changes.{SameAt, NoneChanged, changes_from};
-
-use crate::records::{is_changed, one_if, write_if};
+ghost use Rattle.std.specs.Prelude.{◌≡◌, true, ◌&&◌, ◌+◌, ◌-◌, ◌≤◌, ◌<◌, leb, length, take, drop};
+ghost use Rattle.name.specs.Names.{same_bytes};
+ghost use Rattle.difference.specs.Records.{count_in, changed, changes};
+ghost use Rattle.difference.specs.Inner.Changes.{NoneChanged, changes_from, begun_with};
 
 // The most records of a block.
 const BLOCK: usize = 64;
 
-// The records of the next block, where so many are left.
-fn block_of(left: usize) -> usize
-    requires { 0 < left }
-    ensures { (0 < result) × (result ≤ left) }
-{
-    if left < BLOCK { left } else { BLOCK }
+// A lump of records, each of `size` bytes, and the older lump.
+#[derive(Clone, Copy)]
+pub struct Versions<'a, 'b> {
+    pub old: &'a [u8],
+    pub new: &'b [u8],
+    pub size: usize,
+    ghost has_size: { 0 < size },
 }
 
-// Whether the `n` bytes from `from` on are the same in both. All are looked at: a loop without an early end takes many at a time.
-fn same_run(old: &[u8], new: &[u8], from: usize, n: usize) -> bool
-    requires { (from + n ≤ length old.now) × (from + n ≤ length new.now) }
-    ensures { result ≡ true → SameAt old.now new.now from n }
-{
-    let mut ok = true;
-    for k in 0..n {
-        ok = ok & (old[from + k] == new[from + k]);
+impl<'a, 'b> Versions<'a, 'b> {
+    // Whether the old lump has the bytes `from` to `to` too, and the same.
+    fn same(&self, from: usize, to: usize) -> bool
+        requires { (from ≤ to) × (to ≤ length self.now.new.now) }
+        ensures { result
+            ≡ (leb to (length self.now.old.now) && same_bytes (take (to - from) (drop from self.now.old.now)) (take (to - from) (drop from self.now.new.now))) }
+    {
+        match self.old.get(from..to) {
+            Some(bytes) => bytes == &self.new[from..to],
+            None => false,
+        }
     }
-    ok
-}
 
-// Whether the old lump has all of a block's records, and the same.
-fn same_block(old: &[u8], new: &[u8], size: usize, kept: usize, i: usize, n: usize) -> bool
-    requires { (kept ≡ count_in size old.now) × (i + n ≤ count_in size new.now) }
-    ensures { result ≡ true → NoneChanged size old.now new.now i n }
-{
-    if kept < i + n {
-        return false;
+    // Whether a record of the new lump is missing in the old one, or another there.
+    fn is_changed(&self, i: usize) -> bool
+        requires { i < count_in self.now.size self.now.new.now }
+        ensures { result ≡ changed self.now.size self.now.old.now self.now.new.now i }
+    {
+        let at = self.size * i;
+        !self.same(at, at + self.size)
     }
-    same_run(old, new, size * i, size * n)
-}
 
-fn count_block(old: &[u8], new: &[u8], size: usize, kept: usize, i: usize, n: usize) -> usize
-    requires { (kept ≡ count_in size old.now) × (i + n ≤ count_in size new.now) }
-    ensures { result ≡ length (changes_from size old.now new.now i n) }
-{
-    if same_block(old, new, size, kept, i, n) {
-        return 0;
+    // Whether the old lump has all of a block's records, and the same.
+    fn same_block(&self, i: usize, n: usize) -> bool
+        requires { i + n ≤ count_in self.now.size self.now.new.now }
+        ensures { result ≡ true → NoneChanged self.now.size self.now.old.now self.now.new.now i n }
+    {
+        self.same(self.size * i, self.size * (i + n))
     }
-    let mut count: usize = 0;
-    for j in 0..n {
-        count = count + one_if(is_changed(old, new, size, kept, i + j));
-    }
-    count
-}
 
-// How many records of the new lump are changed.
-pub fn count_changes(old: &[u8], new: &[u8], size: usize) -> usize
-    requires { 0 < size }
-    ensures { result ≡ length (changes size old.now new.now) }
-{
-    let kept = old.len() / size;
-    let all = new.len() / size;
-    let mut count: usize = 0;
-    let mut i: usize = 0;
-    while i < all {
-        let n = block_of(all - i);
-        count = count + count_block(old, new, size, kept, i, n);
-        i = i + n;
+    fn count_block(&self, i: usize, n: usize) -> usize
+        requires { i + n ≤ count_in self.now.size self.now.new.now }
+        ensures { result ≡ length (changes_from self.now.size self.now.old.now self.now.new.now i n) }
+    {
+        if self.same_block(i, n) {
+            return 0;
+        }
+        (i..i + n).filter(|j| self.is_changed(*j)).count()
     }
-    count
-}
 
-fn write_block(
-    old: &[u8],
-    new: &[u8],
-    size: usize,
-    kept: usize,
-    i: usize,
-    n: usize,
-    list: &mut [u16],
-    at: usize,
-) -> usize
-    requires kept_value { (kept ≡ count_in size old.now) × (i + n ≤ count_in size new.now) × (count_in size new.now ≤ 65535) }
-    requires n_in_bounds { at + length (changes_from size old.now new.now i n) ≤ length list.old }
-    ensures value { result ≡ at + length (changes_from size old.now new.now i n) }
-    ensures list_after { list.new ≡ sets list.old at
-        (changes_from size old.now new.now i n) }
-{
-    if same_block(old, new, size, kept, i, n) {
-        return at;
+    // How many records of the new lump are changed.
+    pub fn count_changes(&self) -> usize
+        ensures { result ≡ length (changes self.now.size self.now.old.now self.now.new.now) }
+    {
+        let all = self.new.len() / self.size;
+        let mut count: usize = 0;
+        for i in (0..all).step_by(BLOCK) {
+            count += self.count_block(i, BLOCK.min(all - i));
+        }
+        count
     }
-    let mut to = at;
-    for j in 0..n {
-        to = write_if(is_changed(old, new, size, kept, i + j), i + j, list, to);
-    }
-    to
-}
 
-// Their numbers, from `at` of the list on, and the place behind them.
-pub fn write_changes(old: &[u8], new: &[u8], size: usize, list: &mut [u16], at: usize) -> usize
-    requires { (0 < size) × (count_in size new.now ≤ 65535)
-        × (at + length (changes size old.now new.now) ≤ length list.old) }
-    ensures value { result ≡ at + length (changes size old.now new.now) }
-    ensures list_after { list.new ≡ sets list.old at (changes size old.now new.now) }
-{
-    let kept = old.len() / size;
-    let all = new.len() / size;
-    let mut to = at;
-    let mut i: usize = 0;
-    while i < all {
-        let n = block_of(all - i);
-        to = write_block(old, new, size, kept, i, n, list, to);
-        i = i + n;
+    // The numbers of a block's changed records, into the front of the list, and how many they are.
+    fn write_block(&self, i: usize, n: usize, list: &mut [u16]) -> usize
+        requires in_lump { (i + n ≤ count_in self.now.size self.now.new.now) × (count_in self.now.size self.now.new.now ≤ 65535) }
+        requires room { length (changes_from self.now.size self.now.old.now self.now.new.now i n) ≤ length list.old }
+        ensures value { result ≡ length (changes_from self.now.size self.now.old.now self.now.new.now i n) }
+        ensures list_after { list.new ≡ begun_with (changes_from self.now.size self.now.old.now self.now.new.now i n) list.old }
+    {
+        if self.same_block(i, n) {
+            return 0;
+        }
+        let mut count = 0;
+        for j in 0..n {
+            if self.is_changed(i + j) {
+                list[count] = (i + j) as u16;
+                count += 1;
+            }
+        }
+        count
     }
-    to
+
+    // The numbers of all changed records, into the front of the list, and how many they are.
+    pub fn write_changes(&self, list: &mut [u16]) -> usize
+        requires { (count_in self.now.size self.now.new.now ≤ 65535) × (length (changes self.now.size self.now.old.now self.now.new.now) ≤ length list.old) }
+        ensures value { result ≡ length (changes self.now.size self.now.old.now self.now.new.now) }
+        ensures list_after { list.new ≡ begun_with (changes self.now.size self.now.old.now self.now.new.now) list.old }
+    {
+        let all = self.new.len() / self.size;
+        let mut count = 0;
+        for i in (0..all).step_by(BLOCK) {
+            count += self.write_block(i, BLOCK.min(all - i), &mut list[count..]);
+        }
+        count
+    }
 }

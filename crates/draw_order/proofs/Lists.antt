@@ -8,7 +8,7 @@ use lib.Dec.{leb, eqb}
 use lib.IntN.{ℤ}
 use lib.ListN.{length}
 use Rattle.refusal.specs.declared.Refusal.TheVariants.{DescentNodes, DescentSubsectors, DescentChild, OrderDepth, OrderWords, OrderLength}
-use Rattle.refusal.specs.declared.Check.TheVariants.{Pass}
+use Rattle.std.specs.Prelude.{Ok}
 use Rattle.refusal.specs.Checks.{unless}
 use Rattle.refusal.proofs.Checks.{both, unless_pass, and_then_pass}
 use Rattle.record.specs.Nodes.{node_size}
@@ -63,7 +63,7 @@ module _ (nodes : List ℕ) (subsectors : ℕ) (x y : ℤ) where
   root-some h = rw (lt-ltb 0 (nodes_of nodes) h)
 
 -- what is known once 40, 41 and 45 pass
-pub order-known : (nodes : List ℕ) (subsectors lent : ℕ) → order_check nodes subsectors lent ≡ Pass
+pub order-known : (nodes : List ℕ) (subsectors lent : ℕ) → order_check nodes subsectors lent ≡ Ok tt
     → (node_size * nodes_of nodes ≡ length nodes) × (nodes_of nodes ≤ 32767) × (nodes_of nodes + 1 ≤ lent)
 order-known nodes subsectors lent e =
     let p = and_then_pass (unless (nodes_ok nodes) DescentNodes) _ e in

@@ -1,10 +1,9 @@
 -- The subsectors for a camera point, front first, or the refusal that the walk meets (W-208): 40, 41 and 45 before it, then
 -- of 42, 44 and 46 the first met. Assumes nothing.
-use Rattle.std.specs.Prelude.{ℕ, zero, suc, ◌+◌, ◌-◌, cond, List, [], ◌∷◌, ◌++◌, leb, ltb, ℤ, length}
+use Rattle.std.specs.Prelude.{ℕ, zero, suc, ◌+◌, ◌-◌, cond, List, [], ◌∷◌, ◌++◌, leb, ltb, ℤ, length, Ok, Err}
 use Rattle.refusal.specs.declared.Refusal.{Refusal}
 use Rattle.refusal.specs.declared.Refusal.TheVariants.{DescentNodes, DescentSubsectors, DescentChild, OrderDepth, OrderWords, OrderLength}
-use Rattle.refusal.specs.declared.Check.{Check}
-use Rattle.refusal.specs.declared.Check.TheVariants.{Pass, Refused}
+use Rattle.refusal.specs.Checks.{Check}
 use Rattle.refusal.specs.Checks.{unless, ◌and_then◌}
 use Rattle.node.specs.declared.Choice.{Choice}
 use Rattle.node.specs.declared.Choice.TheVariants.{Right, Left}
@@ -78,8 +77,8 @@ order_check nodes subsectors lent =
 
 -- the refusal of a check, and where it passes what is listed
 abbrev pub listed_by : Check → Listing → Listing
-listed_by Pass listing = listing
-listed_by (Refused r) listing = stopped r
+listed_by (Ok _) listing = listing
+listed_by (Err r) listing = stopped r
 
 -- the draw order of the point (x, y), with `lent` words
 unfoldable pub draw_order : List ℕ → ℕ → ℤ → ℤ → ℕ → Listing

@@ -7,8 +7,8 @@ ghost use Rattle.wad.specs.Lump.{entry_answer};
 ghost use Rattle.wad.specs.Map.{search_answer};
 ghost use Rattle.export_files.specs.Files.{directory_out, entry_out, marker_out};
 
-use refusal::{Status, nothing_refused, refused};
-use wad::{Directory, Entry, Marker};
+use refusal::{Refusal, Status};
+use wad::{Directory, Entry, MarkerSearch};
 
 #[repr(C)]
 #[derive(Clone, Copy)]
@@ -35,23 +35,70 @@ pub struct MarkerAnswer {
     pub compared: usize,
 }
 
+impl From<Result<Directory, Refusal>> for DirectoryAnswer {
+    ghost from_gives = { λ listed answer. answer ≡ directory_out listed };
+
+    fn from(listed: Result<Directory, Refusal>) -> DirectoryAnswer {
+        match listed {
+            Ok(directory) => DirectoryAnswer {
+                status: Status::ACCEPTED,
+                count: directory.count,
+                start: directory.start,
+            },
+            Err(r) => DirectoryAnswer {
+                status: Status::from(r),
+                count: 0,
+                start: 0,
+            },
+        }
+    }
+}
+
+impl From<Result<Entry, Refusal>> for EntryAnswer {
+    ghost from_gives = { λ found answer. answer ≡ entry_out found };
+
+    fn from(found: Result<Entry, Refusal>) -> EntryAnswer {
+        match found {
+            Ok(entry) => EntryAnswer {
+                status: Status::ACCEPTED,
+                offset: entry.offset,
+                size: entry.size,
+            },
+            Err(r) => EntryAnswer {
+                status: Status::from(r),
+                offset: 0,
+                size: 0,
+            },
+        }
+    }
+}
+
+impl From<MarkerSearch> for MarkerAnswer {
+    ghost from_gives = { λ search answer. answer ≡ marker_out search };
+
+    fn from(search: MarkerSearch) -> MarkerAnswer {
+        let compared = search.compared;
+        match search.marker {
+            Ok(marker) => MarkerAnswer {
+                status: Status::ACCEPTED,
+                marker,
+                compared,
+            },
+            Err(r) => MarkerAnswer {
+                status: Status::from(r),
+                marker: 0,
+                compared,
+            },
+        }
+    }
+}
+
 // Header and directory, 1 to 6.
 #[unsafe(no_mangle)]
 pub extern "C" fn meshpigeon_directory(wad: &[u8]) -> DirectoryAnswer
     ensures { result ≡ directory_out (directory_answer wad.now) }
 {
-    match wad::judge_directory(wad) {
-        Directory::Listed { count, start } => DirectoryAnswer {
-            status: nothing_refused(),
-            count,
-            start,
-        },
-        Directory::Refused(r) => DirectoryAnswer {
-            status: refused(r),
-            count: 0,
-            start: 0,
-        },
-    }
+    DirectoryAnswer::from(wad::judge_directory(wad))
 }
 
 // Where an entry's part of the file lies, 1 to 7.
@@ -59,18 +106,7 @@ pub extern "C" fn meshpigeon_directory(wad: &[u8]) -> DirectoryAnswer
 pub extern "C" fn meshpigeon_entry(wad: &[u8], number: usize) -> EntryAnswer
     ensures { result ≡ entry_out (entry_answer wad.now number) }
 {
-    match wad::find_entry(wad, number) {
-        Entry::At { offset, size } => EntryAnswer {
-            status: nothing_refused(),
-            offset,
-            size,
-        },
-        Entry::Refused(r) => EntryAnswer {
-            status: refused(r),
-            offset: 0,
-            size: 0,
-        },
-    }
+    EntryAnswer::from(wad::find_entry(wad, number))
 }
 
 // A map's marker by its name of eight bytes, and how many names were compared: 1 to 6, 10 and 11.
@@ -78,19 +114,5 @@ pub extern "C" fn meshpigeon_entry(wad: &[u8], number: usize) -> EntryAnswer
 pub extern "C" fn meshpigeon_find_map(wad: &[u8], name: &[u8]) -> MarkerAnswer
     ensures { result ≡ marker_out (search_answer wad.now name.now) }
 {
-    let search = wad::search_map(wad, name);
-    let marker = search.marker;
-    let compared = search.compared;
-    match marker {
-        Marker::Entry(marker) => MarkerAnswer {
-            status: nothing_refused(),
-            marker,
-            compared,
-        },
-        Marker::Refused(r) => MarkerAnswer {
-            status: refused(r),
-            marker: 0,
-            compared,
-        },
-    }
+    MarkerAnswer::from(wad::search_map(wad, name))
 }

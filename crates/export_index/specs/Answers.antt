@@ -1,8 +1,7 @@
 -- Answers on a name index: whether it is the file's, and where it leads to (W-210). Assumes nothing.
-use Rattle.std.specs.Prelude.{ℕ, List, ◌≡◌}
-use Rattle.wad.specs.declared.map.Marker.{Marker}
-use Rattle.wad.specs.declared.map.Marker.TheVariants.{Entry, Refused as NoEntry}
+use Rattle.std.specs.Prelude.{ℕ, List, ◌≡◌, Result, Ok, Err}
 use Rattle.wad.specs.declared.map.MarkerSearch.{MarkerSearch}
+use Rattle.refusal.specs.declared.Refusal.{Refusal}
 use Rattle.refusal.specs.declared.status.Status.{Status}
 use Rattle.refusal.specs.Status.{accepted, refused, status_of}
 use Rattle.index_check.specs.Checking.{index_check}
@@ -14,9 +13,9 @@ abbrev pub IndexJudged : List ℕ → List ℕ → Status → Type 0
 IndexJudged wad index answer = answer ≡ status_of (index_check wad index)
 
 -- the entry, and how many names were compared: this with 11 too
-abbrev pub entry_with : ℕ → Marker → IndexAnswer
-entry_with compared (Entry entry) = record { status = accepted; entry = entry; compared = compared }
-entry_with compared (NoEntry r) = record { status = refused r; entry = 0; compared = compared }
+abbrev pub entry_with : ℕ → Result ℕ Refusal → IndexAnswer
+entry_with compared (Ok entry) = record { status = accepted; entry = entry; compared = compared }
+entry_with compared (Err r) = record { status = refused r; entry = 0; compared = compared }
 
 abbrev pub index_entry_out : MarkerSearch → IndexAnswer
 index_entry_out search = entry_with search.compared search.marker

@@ -1,19 +1,8 @@
 // A name index, built.
-ghost use Rattle.std.specs.Prelude.{◌≡◌};
-ghost use Rattle.export_index.specs.IndexBuilding.{length_out, IndexBuilt};
+ghost use Rattle.export_index.specs.IndexBuilding.{IndexBuilt};
 
 use index::IndexRecord;
-use index_build::Building;
-use refusal::{LengthAnswer, length_given, length_refused};
-
-fn answer(built: Building) -> LengthAnswer
-    ensures { result ≡ length_out built }
-{
-    match built {
-        Building::Written(length) => length_given(length),
-        Building::Refused(r) => length_refused(r),
-    }
-}
+use refusal::LengthAnswer;
 
 // The index of a file, written into the front of a lent buffer, over lent records that are sorted in place: 1 to 6, and 86.
 #[unsafe(no_mangle)]
@@ -25,5 +14,5 @@ pub extern "C" fn meshpigeon_index_build(
     ensures { IndexBuilt wad.now records.old out.old result records.new
         out.new }
 {
-    answer(index_build::build(wad, records, out))
+    LengthAnswer::from(index_build::build(wad, records, out))
 }

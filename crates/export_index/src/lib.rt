@@ -4,11 +4,11 @@
 mod build;
 
 ghost use Rattle.std.specs.Prelude.{◌≡◌};
-ghost use Rattle.export_index.specs.Answers.{IndexJudged, IndexFound};
+ghost use Rattle.export_index.specs.Answers.{index_entry_out, IndexJudged, IndexFound};
 
 pub use build::meshpigeon_index_build;
-use refusal::{Status, nothing_refused, refused, status_of};
-use wad::Marker;
+use refusal::Status;
+use wad::MarkerSearch;
 
 #[repr(C)]
 #[derive(Clone, Copy)]
@@ -18,12 +18,32 @@ pub struct IndexAnswer {
     pub compared: usize,
 }
 
+impl From<MarkerSearch> for IndexAnswer {
+    ghost from_gives = { λ search answer. answer ≡ index_entry_out search };
+
+    fn from(search: MarkerSearch) -> IndexAnswer {
+        let compared = search.compared;
+        match search.marker {
+            Ok(entry) => IndexAnswer {
+                status: Status::ACCEPTED,
+                entry,
+                compared,
+            },
+            Err(r) => IndexAnswer {
+                status: Status::from(r),
+                entry: 0,
+                compared,
+            },
+        }
+    }
+}
+
 // Whether the index is that of the file's directory, 1 to 6 and 82 to 84.
 #[unsafe(no_mangle)]
 pub extern "C" fn meshpigeon_index_check(wad: &[u8], index: &[u8]) -> Status
     ensures { IndexJudged wad.now index.now result }
 {
-    status_of(index_check::judge(wad, index))
+    Status::from(index_check::judge(wad, index))
 }
 
 // The last entry of a name of eight bytes, by the index, 1 to 6, 82, 83 and 11.
@@ -31,19 +51,5 @@ pub extern "C" fn meshpigeon_index_check(wad: &[u8], index: &[u8]) -> Status
 pub extern "C" fn meshpigeon_index_find(wad: &[u8], index: &[u8], name: &[u8]) -> IndexAnswer
     ensures { IndexFound wad.now index.now name.now result }
 {
-    let search = index_find::find(wad, index, name);
-    let found = search.marker;
-    let compared = search.compared;
-    match found {
-        Marker::Entry(entry) => IndexAnswer {
-            status: nothing_refused(),
-            entry,
-            compared,
-        },
-        Marker::Refused(r) => IndexAnswer {
-            status: refused(r),
-            entry: 0,
-            compared,
-        },
-    }
+    IndexAnswer::from(index_find::find(wad, index, name))
 }

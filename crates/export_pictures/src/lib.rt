@@ -4,10 +4,8 @@
 ghost use Rattle.std.specs.Prelude.{◌≡◌};
 ghost use Rattle.export_pictures.specs.Pictures.{picture_out, picture_judged, PicturePainted, PictureWritten};
 
-use picture::PictureVerdict;
 use picture_header::Picture;
-use picture_write::Encoding;
-use refusal::{LengthAnswer, Status, length_given, length_refused, nothing_refused, refused};
+use refusal::{LengthAnswer, Refusal, Status};
 
 #[repr(C)]
 #[derive(Clone, Copy)]
@@ -16,23 +14,20 @@ pub struct PictureAnswer {
     pub picture: Picture,
 }
 
-fn answer(verdict: PictureVerdict) -> PictureAnswer
-    ensures { result ≡ picture_out verdict }
-{
-    match verdict {
-        PictureVerdict::Accepted(picture) => PictureAnswer {
-            status: nothing_refused(),
-            picture,
-        },
-        PictureVerdict::Refused(r) => PictureAnswer {
-            status: refused(r),
-            picture: Picture {
-                width: 0,
-                height: 0,
-                left: 0,
-                top: 0,
+impl From<Result<Picture, Refusal>> for PictureAnswer {
+    ghost from_gives = { λ verdict answer. answer ≡ picture_out verdict };
+
+    fn from(verdict: Result<Picture, Refusal>) -> PictureAnswer {
+        match verdict {
+            Ok(picture) => PictureAnswer {
+                status: Status::ACCEPTED,
+                picture,
             },
-        },
+            Err(r) => PictureAnswer {
+                status: Status::from(r),
+                picture: Picture::default(),
+            },
+        }
     }
 }
 
@@ -41,7 +36,7 @@ fn answer(verdict: PictureVerdict) -> PictureAnswer
 pub extern "C" fn meshpigeon_judge_picture(lump: &[u8]) -> PictureAnswer
     ensures { result ≡ picture_judged lump.now }
 {
-    answer(picture::judge(lump))
+    PictureAnswer::from(picture::judge(lump))
 }
 
 // A picture painted into two lent buffers, 50 to 55.
@@ -54,7 +49,7 @@ pub extern "C" fn meshpigeon_paint_picture(
     ensures { PicturePainted lump.now colour.old cover.old result
         colour.new cover.new }
 {
-    answer(picture_paint::paint(lump, colour, cover))
+    PictureAnswer::from(picture_paint::paint(lump, colour, cover))
 }
 
 // A picture written from its pixels into the front of a lent buffer, 55 to 58.
@@ -67,8 +62,5 @@ pub extern "C" fn meshpigeon_write_picture(
 ) -> LengthAnswer
     ensures { PictureWritten picture colour.now cover.now out.old result out.new }
 {
-    match picture_write::encode(picture, colour, cover, out) {
-        Encoding::Written(length) => length_given(length),
-        Encoding::Refused(r) => length_refused(r),
-    }
+    LengthAnswer::from(picture_write::encode(picture, colour, cover, out))
 }

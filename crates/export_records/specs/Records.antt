@@ -1,40 +1,33 @@
 -- Answers on a map's records. Assumes nothing.
-use Rattle.std.specs.Prelude.{ℕ, Bool, cond, List, ◌≡◌}
+use Rattle.std.specs.Prelude.{ℕ, Bool, cond, List, ◌≡◌, Result, Ok, Err, replicate}
 use Rattle.record_field.specs.Records.{inside_check, replaced, good_check}
-use Rattle.record_thing.specs.declared.ThingRead.{ThingRead}
 use Rattle.export_records.specs.declared.ThingAnswer.{ThingAnswer}
-use Rattle.record_linedef.specs.declared.LinedefRead.{LinedefRead}
 use Rattle.export_records.specs.declared.LinedefAnswer.{LinedefAnswer}
-use Rattle.record.specs.declared.sidedef.SidedefRead.{SidedefRead}
 use Rattle.export_records.specs.declared.SidedefAnswer.{SidedefAnswer}
-use Rattle.record.specs.declared.vertex.VertexRead.{VertexRead}
 use Rattle.export_records.specs.declared.VertexAnswer.{VertexAnswer}
-use Rattle.record.specs.declared.seg.SegRead.{SegRead}
 use Rattle.export_records.specs.declared.SegAnswer.{SegAnswer}
-use Rattle.record.specs.declared.subsector.SubsectorRead.{SubsectorRead}
 use Rattle.export_records.specs.declared.SubsectorAnswer.{SubsectorAnswer}
-use Rattle.record.specs.declared.node.NodeRead.{NodeRead}
 use Rattle.export_records.specs.declared.NodeAnswer.{NodeAnswer}
-use Rattle.record.specs.declared.sector.SectorRead.{SectorRead}
 use Rattle.export_records.specs.declared.SectorAnswer.{SectorAnswer}
 use Rattle.record_thing.specs.declared.Thing.{Thing}
-use Rattle.record_thing.specs.Things.{thing_size, thing_fields_ok, thing_bytes}
+use Rattle.record_thing.specs.Things.{thing_size, thing_fields_ok, thing_bytes, no_thing}
 use Rattle.record_linedef.specs.declared.Linedef.{Linedef}
-use Rattle.record_linedef.specs.Linedefs.{linedef_size, linedef_fields_ok, linedef_bytes}
+use Rattle.record_linedef.specs.Linedefs.{linedef_size, linedef_fields_ok, linedef_bytes, no_linedef}
 use Rattle.record.specs.declared.sidedef.Sidedef.{Sidedef}
-use Rattle.record.specs.Sidedefs.{sidedef_size, sidedef_bytes}
+use Rattle.record.specs.Sidedefs.{sidedef_size, sidedef_of, sidedef_bytes}
 use Rattle.record.specs.declared.vertex.Vertex.{Vertex}
-use Rattle.record.specs.Vertexes.{vertex_size, vertex_bytes}
+use Rattle.record.specs.Vertexes.{vertex_size, vertex_of, vertex_bytes}
 use Rattle.record.specs.declared.seg.Seg.{Seg}
-use Rattle.record.specs.Segs.{seg_size, seg_bytes}
+use Rattle.record.specs.Segs.{seg_size, seg_of, seg_bytes}
 use Rattle.record.specs.declared.subsector.Subsector.{Subsector}
-use Rattle.record.specs.Subsectors.{subsector_size, subsector_bytes}
+use Rattle.record.specs.Subsectors.{subsector_size, subsector_of, subsector_bytes}
 use Rattle.record.specs.declared.node.Node.{Node}
-use Rattle.record.specs.Nodes.{node_size, node_bytes}
+use Rattle.record.specs.Nodes.{node_size, node_of, node_bytes}
 use Rattle.record.specs.declared.sector.Sector.{Sector}
-use Rattle.record.specs.Sectors.{sector_size, sector_bytes}
+use Rattle.record.specs.Sectors.{sector_size, sector_of, sector_bytes}
 use Rattle.refusal.specs.declared.status.Status.{Status}
-use Rattle.refusal.specs.Status.{status_of}
+use Rattle.refusal.specs.declared.Refusal.{Refusal}
+use Rattle.refusal.specs.Status.{accepted, refused, status_of}
 
 -- what a write of `bytes` as record `index` answers, and what it leaves of the lump
 pub record RecordWritten (lump : List ℕ) (size index : ℕ) (bytes : List ℕ) (answer : Status) (left : List ℕ) : Type 0 where
@@ -76,26 +69,34 @@ abbrev pub SectorWritten : List ℕ → ℕ → Sector → Status → List ℕ �
 SectorWritten lump index sector answer left = RecordWritten lump sector_size index (sector_bytes sector) answer left
 
 -- a record that was read, all 0 where refused
-abbrev pub thing_out : ThingRead → ThingAnswer
-thing_out r = record { status = status_of r.check; thing = r.thing }
+abbrev pub thing_out : Result Thing Refusal → ThingAnswer
+thing_out (Ok r) = record { status = accepted; thing = r }
+thing_out (Err r) = record { status = refused r; thing = no_thing }
 
-abbrev pub linedef_out : LinedefRead → LinedefAnswer
-linedef_out r = record { status = status_of r.check; linedef = r.linedef }
+abbrev pub linedef_out : Result Linedef Refusal → LinedefAnswer
+linedef_out (Ok r) = record { status = accepted; linedef = r }
+linedef_out (Err r) = record { status = refused r; linedef = no_linedef }
 
-abbrev pub sidedef_out : SidedefRead → SidedefAnswer
-sidedef_out r = record { status = status_of r.check; sidedef = r.sidedef }
+abbrev pub sidedef_out : Result Sidedef Refusal → SidedefAnswer
+sidedef_out (Ok r) = record { status = accepted; sidedef = r }
+sidedef_out (Err r) = record { status = refused r; sidedef = sidedef_of (replicate sidedef_size 0) }
 
-abbrev pub vertex_out : VertexRead → VertexAnswer
-vertex_out r = record { status = status_of r.check; vertex = r.vertex }
+abbrev pub vertex_out : Result Vertex Refusal → VertexAnswer
+vertex_out (Ok r) = record { status = accepted; vertex = r }
+vertex_out (Err r) = record { status = refused r; vertex = vertex_of (replicate vertex_size 0) }
 
-abbrev pub seg_out : SegRead → SegAnswer
-seg_out r = record { status = status_of r.check; seg = r.seg }
+abbrev pub seg_out : Result Seg Refusal → SegAnswer
+seg_out (Ok r) = record { status = accepted; seg = r }
+seg_out (Err r) = record { status = refused r; seg = seg_of (replicate seg_size 0) }
 
-abbrev pub subsector_out : SubsectorRead → SubsectorAnswer
-subsector_out r = record { status = status_of r.check; subsector = r.subsector }
+abbrev pub subsector_out : Result Subsector Refusal → SubsectorAnswer
+subsector_out (Ok r) = record { status = accepted; subsector = r }
+subsector_out (Err r) = record { status = refused r; subsector = subsector_of (replicate subsector_size 0) }
 
-abbrev pub node_out : NodeRead → NodeAnswer
-node_out r = record { status = status_of r.check; node = r.node }
+abbrev pub node_out : Result Node Refusal → NodeAnswer
+node_out (Ok r) = record { status = accepted; node = r }
+node_out (Err r) = record { status = refused r; node = node_of (replicate node_size 0) }
 
-abbrev pub sector_out : SectorRead → SectorAnswer
-sector_out r = record { status = status_of r.check; sector = r.sector }
+abbrev pub sector_out : Result Sector Refusal → SectorAnswer
+sector_out (Ok r) = record { status = accepted; sector = r }
+sector_out (Err r) = record { status = refused r; sector = sector_of (replicate sector_size 0) }

@@ -1,5 +1,5 @@
 // The eight kinds of map record, read and written by number: 60. Things and linedefs are read by their game, and say which
-// they are of; a write of one may be refused 61.
+// they are of; a write of one may be refused 61. An answer for each kind: C has no generic struct.
 #![tactic(auto)]
 
 ghost use Rattle.std.specs.Prelude.{◌≡◌};
@@ -15,9 +15,10 @@ ghost use Rattle.export_records.specs.Records.{thing_out, linedef_out, sidedef_o
 ghost use Rattle.export_records.specs.Records.{ThingWritten, LinedefWritten, SidedefWritten, VertexWritten, SegWritten, SubsectorWritten, NodeWritten, SectorWritten};
 
 use record::{Node, Sector, Seg, Sidedef, Subsector, Vertex};
+use record_field::{GameRecord, Record};
 use record_linedef::Linedef;
 use record_thing::Thing;
-use refusal::{Check, Status, nothing_refused, refused, status_of};
+use refusal::{Refusal, Status};
 
 #[repr(C)]
 #[derive(Clone, Copy)]
@@ -26,18 +27,29 @@ pub struct ThingAnswer {
     pub thing: Thing,
 }
 
+impl From<Result<Thing, Refusal>> for ThingAnswer {
+    ghost from_gives = { λ read answer. answer ≡ thing_out read };
+
+    fn from(read: Result<Thing, Refusal>) -> ThingAnswer {
+        match read {
+            Ok(thing) => ThingAnswer {
+                status: Status::ACCEPTED,
+                thing,
+            },
+            Err(r) => ThingAnswer {
+                status: Status::from(r),
+                thing: Thing::default(),
+            },
+        }
+    }
+}
+
 // Record `index` of THINGS.
 #[unsafe(no_mangle)]
 pub extern "C" fn meshpigeon_read_thing(lump: &[u8], index: usize, hexen: bool) -> ThingAnswer
     ensures { result ≡ thing_out (thing_at hexen lump.now index) }
 {
-    let read = Thing::read(lump, index, hexen);
-    let check = read.check;
-    let thing = read.thing;
-    ThingAnswer {
-        status: status_of(check),
-        thing,
-    }
+    ThingAnswer::from(Thing::read(lump, index, hexen))
 }
 
 // Record `index` of THINGS of its game replaced.
@@ -45,10 +57,7 @@ pub extern "C" fn meshpigeon_read_thing(lump: &[u8], index: usize, hexen: bool) 
 pub extern "C" fn meshpigeon_write_thing(lump: &mut [u8], index: usize, thing: Thing) -> Status
     ensures { ThingWritten lump.old index thing result lump.new }
 {
-    match Thing::write(lump, index, thing) {
-        Check::Pass => nothing_refused(),
-        Check::Refused(r) => refused(r),
-    }
+    Status::from(Thing::write(lump, index, thing))
 }
 
 #[repr(C)]
@@ -58,18 +67,29 @@ pub struct LinedefAnswer {
     pub linedef: Linedef,
 }
 
+impl From<Result<Linedef, Refusal>> for LinedefAnswer {
+    ghost from_gives = { λ read answer. answer ≡ linedef_out read };
+
+    fn from(read: Result<Linedef, Refusal>) -> LinedefAnswer {
+        match read {
+            Ok(linedef) => LinedefAnswer {
+                status: Status::ACCEPTED,
+                linedef,
+            },
+            Err(r) => LinedefAnswer {
+                status: Status::from(r),
+                linedef: Linedef::default(),
+            },
+        }
+    }
+}
+
 // Record `index` of LINEDEFS.
 #[unsafe(no_mangle)]
 pub extern "C" fn meshpigeon_read_linedef(lump: &[u8], index: usize, hexen: bool) -> LinedefAnswer
     ensures { result ≡ linedef_out (linedef_at hexen lump.now index) }
 {
-    let read = Linedef::read(lump, index, hexen);
-    let check = read.check;
-    let linedef = read.linedef;
-    LinedefAnswer {
-        status: status_of(check),
-        linedef,
-    }
+    LinedefAnswer::from(Linedef::read(lump, index, hexen))
 }
 
 // Record `index` of LINEDEFS of its game replaced.
@@ -81,10 +101,7 @@ pub extern "C" fn meshpigeon_write_linedef(
 ) -> Status
     ensures { LinedefWritten lump.old index linedef result lump.new }
 {
-    match Linedef::write(lump, index, linedef) {
-        Check::Pass => nothing_refused(),
-        Check::Refused(r) => refused(r),
-    }
+    Status::from(Linedef::write(lump, index, linedef))
 }
 
 #[repr(C)]
@@ -94,18 +111,29 @@ pub struct SidedefAnswer {
     pub sidedef: Sidedef,
 }
 
+impl From<Result<Sidedef, Refusal>> for SidedefAnswer {
+    ghost from_gives = { λ read answer. answer ≡ sidedef_out read };
+
+    fn from(read: Result<Sidedef, Refusal>) -> SidedefAnswer {
+        match read {
+            Ok(sidedef) => SidedefAnswer {
+                status: Status::ACCEPTED,
+                sidedef,
+            },
+            Err(r) => SidedefAnswer {
+                status: Status::from(r),
+                sidedef: Sidedef::default(),
+            },
+        }
+    }
+}
+
 // Record `index` of SIDEDEFS.
 #[unsafe(no_mangle)]
 pub extern "C" fn meshpigeon_read_sidedef(lump: &[u8], index: usize) -> SidedefAnswer
     ensures { result ≡ sidedef_out (sidedef_at lump.now index) }
 {
-    let read = Sidedef::read(lump, index);
-    let check = read.check;
-    let sidedef = read.sidedef;
-    SidedefAnswer {
-        status: status_of(check),
-        sidedef,
-    }
+    SidedefAnswer::from(Sidedef::read(lump, index))
 }
 
 // Record `index` of SIDEDEFS replaced.
@@ -117,10 +145,7 @@ pub extern "C" fn meshpigeon_write_sidedef(
 ) -> Status
     ensures { SidedefWritten lump.old index sidedef result lump.new }
 {
-    match Sidedef::write(lump, index, sidedef) {
-        Check::Pass => nothing_refused(),
-        Check::Refused(r) => refused(r),
-    }
+    Status::from(Sidedef::write(lump, index, sidedef))
 }
 
 #[repr(C)]
@@ -130,18 +155,29 @@ pub struct VertexAnswer {
     pub vertex: Vertex,
 }
 
+impl From<Result<Vertex, Refusal>> for VertexAnswer {
+    ghost from_gives = { λ read answer. answer ≡ vertex_out read };
+
+    fn from(read: Result<Vertex, Refusal>) -> VertexAnswer {
+        match read {
+            Ok(vertex) => VertexAnswer {
+                status: Status::ACCEPTED,
+                vertex,
+            },
+            Err(r) => VertexAnswer {
+                status: Status::from(r),
+                vertex: Vertex::default(),
+            },
+        }
+    }
+}
+
 // Record `index` of VERTEXES.
 #[unsafe(no_mangle)]
 pub extern "C" fn meshpigeon_read_vertex(lump: &[u8], index: usize) -> VertexAnswer
     ensures { result ≡ vertex_out (vertex_at lump.now index) }
 {
-    let read = Vertex::read(lump, index);
-    let check = read.check;
-    let vertex = read.vertex;
-    VertexAnswer {
-        status: status_of(check),
-        vertex,
-    }
+    VertexAnswer::from(Vertex::read(lump, index))
 }
 
 // Record `index` of VERTEXES replaced.
@@ -149,10 +185,7 @@ pub extern "C" fn meshpigeon_read_vertex(lump: &[u8], index: usize) -> VertexAns
 pub extern "C" fn meshpigeon_write_vertex(lump: &mut [u8], index: usize, vertex: Vertex) -> Status
     ensures { VertexWritten lump.old index vertex result lump.new }
 {
-    match Vertex::write(lump, index, vertex) {
-        Check::Pass => nothing_refused(),
-        Check::Refused(r) => refused(r),
-    }
+    Status::from(Vertex::write(lump, index, vertex))
 }
 
 #[repr(C)]
@@ -162,18 +195,29 @@ pub struct SegAnswer {
     pub seg: Seg,
 }
 
+impl From<Result<Seg, Refusal>> for SegAnswer {
+    ghost from_gives = { λ read answer. answer ≡ seg_out read };
+
+    fn from(read: Result<Seg, Refusal>) -> SegAnswer {
+        match read {
+            Ok(seg) => SegAnswer {
+                status: Status::ACCEPTED,
+                seg,
+            },
+            Err(r) => SegAnswer {
+                status: Status::from(r),
+                seg: Seg::default(),
+            },
+        }
+    }
+}
+
 // Record `index` of SEGS.
 #[unsafe(no_mangle)]
 pub extern "C" fn meshpigeon_read_seg(lump: &[u8], index: usize) -> SegAnswer
     ensures { result ≡ seg_out (seg_at lump.now index) }
 {
-    let read = Seg::read(lump, index);
-    let check = read.check;
-    let seg = read.seg;
-    SegAnswer {
-        status: status_of(check),
-        seg,
-    }
+    SegAnswer::from(Seg::read(lump, index))
 }
 
 // Record `index` of SEGS replaced.
@@ -181,10 +225,7 @@ pub extern "C" fn meshpigeon_read_seg(lump: &[u8], index: usize) -> SegAnswer
 pub extern "C" fn meshpigeon_write_seg(lump: &mut [u8], index: usize, seg: Seg) -> Status
     ensures { SegWritten lump.old index seg result lump.new }
 {
-    match Seg::write(lump, index, seg) {
-        Check::Pass => nothing_refused(),
-        Check::Refused(r) => refused(r),
-    }
+    Status::from(Seg::write(lump, index, seg))
 }
 
 #[repr(C)]
@@ -194,18 +235,29 @@ pub struct SubsectorAnswer {
     pub subsector: Subsector,
 }
 
+impl From<Result<Subsector, Refusal>> for SubsectorAnswer {
+    ghost from_gives = { λ read answer. answer ≡ subsector_out read };
+
+    fn from(read: Result<Subsector, Refusal>) -> SubsectorAnswer {
+        match read {
+            Ok(subsector) => SubsectorAnswer {
+                status: Status::ACCEPTED,
+                subsector,
+            },
+            Err(r) => SubsectorAnswer {
+                status: Status::from(r),
+                subsector: Subsector::default(),
+            },
+        }
+    }
+}
+
 // Record `index` of SSECTORS.
 #[unsafe(no_mangle)]
 pub extern "C" fn meshpigeon_read_subsector(lump: &[u8], index: usize) -> SubsectorAnswer
     ensures { result ≡ subsector_out (subsector_at lump.now index) }
 {
-    let read = Subsector::read(lump, index);
-    let check = read.check;
-    let subsector = read.subsector;
-    SubsectorAnswer {
-        status: status_of(check),
-        subsector,
-    }
+    SubsectorAnswer::from(Subsector::read(lump, index))
 }
 
 // Record `index` of SSECTORS replaced.
@@ -217,10 +269,7 @@ pub extern "C" fn meshpigeon_write_subsector(
 ) -> Status
     ensures { SubsectorWritten lump.old index subsector result lump.new }
 {
-    match Subsector::write(lump, index, subsector) {
-        Check::Pass => nothing_refused(),
-        Check::Refused(r) => refused(r),
-    }
+    Status::from(Subsector::write(lump, index, subsector))
 }
 
 #[repr(C)]
@@ -230,18 +279,29 @@ pub struct NodeAnswer {
     pub node: Node,
 }
 
+impl From<Result<Node, Refusal>> for NodeAnswer {
+    ghost from_gives = { λ read answer. answer ≡ node_out read };
+
+    fn from(read: Result<Node, Refusal>) -> NodeAnswer {
+        match read {
+            Ok(node) => NodeAnswer {
+                status: Status::ACCEPTED,
+                node,
+            },
+            Err(r) => NodeAnswer {
+                status: Status::from(r),
+                node: Node::default(),
+            },
+        }
+    }
+}
+
 // Record `index` of NODES.
 #[unsafe(no_mangle)]
 pub extern "C" fn meshpigeon_read_node(lump: &[u8], index: usize) -> NodeAnswer
     ensures { result ≡ node_out (node_at lump.now index) }
 {
-    let read = Node::read(lump, index);
-    let check = read.check;
-    let node = read.node;
-    NodeAnswer {
-        status: status_of(check),
-        node,
-    }
+    NodeAnswer::from(Node::read(lump, index))
 }
 
 // Record `index` of NODES replaced.
@@ -249,10 +309,7 @@ pub extern "C" fn meshpigeon_read_node(lump: &[u8], index: usize) -> NodeAnswer
 pub extern "C" fn meshpigeon_write_node(lump: &mut [u8], index: usize, node: Node) -> Status
     ensures { NodeWritten lump.old index node result lump.new }
 {
-    match Node::write(lump, index, node) {
-        Check::Pass => nothing_refused(),
-        Check::Refused(r) => refused(r),
-    }
+    Status::from(Node::write(lump, index, node))
 }
 
 #[repr(C)]
@@ -262,18 +319,29 @@ pub struct SectorAnswer {
     pub sector: Sector,
 }
 
+impl From<Result<Sector, Refusal>> for SectorAnswer {
+    ghost from_gives = { λ read answer. answer ≡ sector_out read };
+
+    fn from(read: Result<Sector, Refusal>) -> SectorAnswer {
+        match read {
+            Ok(sector) => SectorAnswer {
+                status: Status::ACCEPTED,
+                sector,
+            },
+            Err(r) => SectorAnswer {
+                status: Status::from(r),
+                sector: Sector::default(),
+            },
+        }
+    }
+}
+
 // Record `index` of SECTORS.
 #[unsafe(no_mangle)]
 pub extern "C" fn meshpigeon_read_sector(lump: &[u8], index: usize) -> SectorAnswer
     ensures { result ≡ sector_out (sector_at lump.now index) }
 {
-    let read = Sector::read(lump, index);
-    let check = read.check;
-    let sector = read.sector;
-    SectorAnswer {
-        status: status_of(check),
-        sector,
-    }
+    SectorAnswer::from(Sector::read(lump, index))
 }
 
 // Record `index` of SECTORS replaced.
@@ -281,8 +349,5 @@ pub extern "C" fn meshpigeon_read_sector(lump: &[u8], index: usize) -> SectorAns
 pub extern "C" fn meshpigeon_write_sector(lump: &mut [u8], index: usize, sector: Sector) -> Status
     ensures { SectorWritten lump.old index sector result lump.new }
 {
-    match Sector::write(lump, index, sector) {
-        Check::Pass => nothing_refused(),
-        Check::Refused(r) => refused(r),
-    }
+    Status::from(Sector::write(lump, index, sector))
 }

@@ -1,11 +1,9 @@
 // NODES of a map renumbered, as C and Rust ask for it.
 #![tactic(auto)]
 
-ghost use Rattle.std.specs.Prelude.{◌≡◌};
-ghost use Rattle.export_renumber.specs.Renumberings.{length_out, RenumberingGiven};
+ghost use Rattle.export_renumber.specs.Renumberings.{RenumberingGiven};
 
-use refusal::{LengthAnswer, length_given, length_refused};
-use renumber::Renumbering;
+use refusal::LengthAnswer;
 
 // The map of a name of eight bytes, judged over lent words, four for each node; then the list of old numbers, and where it is good the
 // renumbered NODES in the front of the output. 1 to 32 and 70 to 74.
@@ -20,14 +18,5 @@ pub extern "C" fn meshpigeon_renumber(
     ensures { RenumberingGiven wad.now name.now words.old order.now
         out.old result words.new out.new }
 {
-    length_out(renumber::renumber(wad, name, words, order, out))
-}
-
-fn length_out(answer: Renumbering) -> LengthAnswer
-    ensures { result ≡ length_out answer }
-{
-    match answer {
-        Renumbering::Written(length) => length_given(length),
-        Renumbering::Refused(r) => length_refused(r),
-    }
+    LengthAnswer::from(renumber::renumber(wad, name, words, order, out))
 }

@@ -5,7 +5,7 @@ ghost use Rattle.std.specs.Prelude.{◌≡◌};
 ghost use Rattle.sidedefs_stream.specs.Scraps.{started, fed};
 ghost use Rattle.export_sidedefs.specs.Sidedefs.{sidedefs_judged};
 
-use refusal::{Status, status_of};
+use refusal::Status;
 use sidedefs_stream::Stream;
 
 // The state before the first scrap.
@@ -29,5 +29,5 @@ pub extern "C" fn meshpigeon_sidedefs_feed(state: Stream, scrap: &[u8]) -> Strea
 pub extern "C" fn meshpigeon_sidedefs_verdict(state: Stream) -> Status
     ensures { result ≡ sidedefs_judged state }
 {
-    status_of(sidedefs_stream::verdict(state))
+    Status::from(sidedefs_stream::verdict(state))
 }

@@ -1,3 +1,1 @@
 -- Laws of the records of text maps. Assumes nothing.
-
-mod Lent

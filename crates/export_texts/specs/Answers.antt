@@ -1,15 +1,14 @@
 -- Answers on a text map: its summary, the next block, and a block's record by its number or from a place on (W-206).
 -- Where one is refused all its other fields are 0. Assumes nothing.
-use Rattle.std.specs.Prelude.{ℕ, List, ◌≡◌, ℤ}
+use Rattle.std.specs.Prelude.{ℕ, List, ◌≡◌, ℤ, Result, Ok, Err}
 use Rattle.text_token.specs.Tokens.{bytes_of}
 use Rattle.text_table.specs.declared.scope.Scope.TheVariants.{Vertex, Linedef, Sidedef, Sector, Thing}
 use Rattle.text_table.specs.Table.{default_of}
 use Rattle.text_record.specs.Records.{text_vertex_of, text_linedef_of, text_sidedef_of, text_sector_of, text_thing_of}
-use Rattle.text_map.specs.declared.TextAnswer.{TextAnswer}
-use Rattle.text_map.specs.declared.TextAnswer.TheVariants.{Summary, Refused as NoSummary}
-use Rattle.text_map.specs.declared.BlockAnswer.{BlockAnswer}
-use Rattle.text_map.specs.declared.BlockAnswer.TheVariants.{Block, Refused as NoBlock}
+use Rattle.text_map.specs.declared.TextSummary.{TextSummary}
+use Rattle.text_map.specs.declared.TextBlock.{TextBlock}
 use Rattle.text_map.specs.declared.BlockFields.{BlockFields}
+use Rattle.refusal.specs.declared.Refusal.{Refusal}
 use Rattle.text_map.specs.Answers.{text_answer, block_answer, next_from, block_fields, block_places, rows_by, numbered, first_from, id_by, id_of}
 use Rattle.refusal.specs.Status.{accepted, refused, status_of}
 use Rattle.export_texts.specs.declared.TextMapAnswer.{TextMapAnswer}
@@ -21,8 +20,8 @@ use Rattle.export_texts.specs.declared.records.TextSectorAnswer.{TextSectorAnswe
 use Rattle.export_texts.specs.declared.records.TextThingAnswer.{TextThingAnswer}
 
 -- the namespace's places and the counts
-abbrev pub summary_out : TextAnswer → TextMapAnswer
-summary_out (Summary s) = record {
+abbrev pub summary_out : Result TextSummary Refusal → TextMapAnswer
+summary_out (Ok s) = record {
   status = accepted;
   namespace_start = s.namespace.start;
   namespace_end = s.namespace.end;
@@ -32,7 +31,7 @@ summary_out (Summary s) = record {
   sectors = s.counts.sectors;
   things = s.counts.things;
 }
-summary_out (NoSummary r) = record {
+summary_out (Err r) = record {
   status = refused r;
   namespace_start = 0;
   namespace_end = 0;
@@ -47,9 +46,9 @@ abbrev pub TextJudged : List ℕ → TextMapAnswer → Type 0
 TextJudged text answer = answer ≡ summary_out (text_answer text)
 
 -- a block's kind and the place of its name
-abbrev pub block_out : BlockAnswer → TextBlockAnswer
-block_out (Block b) = record { status = accepted; kind = b.kind; start = b.start }
-block_out (NoBlock r) = record { status = refused r; kind = 0; start = 0 }
+abbrev pub block_out : Result TextBlock Refusal → TextBlockAnswer
+block_out (Ok b) = record { status = accepted; kind = b.kind; start = b.start }
+block_out (Err r) = record { status = refused r; kind = 0; start = 0 }
 
 -- the first block of a known kind from a place on
 abbrev pub BlockFound : List ℕ → ℕ → TextBlockAnswer → Type 0

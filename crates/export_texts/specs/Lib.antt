@@ -1,4 +1,3 @@
 -- Answers on a text map, as C and Rust are given them. Assumes nothing.
 
 pub mod Answers
-pub mod Inner

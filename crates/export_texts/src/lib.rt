@@ -4,15 +4,15 @@
 mod records;
 
 ghost use Rattle.std.specs.Prelude.{◌≡◌};
-ghost use Rattle.export_texts.specs.Answers.{TextJudged, BlockFound};
+ghost use Rattle.export_texts.specs.Answers.{summary_out, block_out, TextJudged, BlockFound};
 ghost use Rattle.export_texts.specs.Answers.{VertexNumbered, LinedefNumbered, SidedefNumbered, SectorNumbered, ThingNumbered};
 ghost use Rattle.export_texts.specs.Answers.{VertexFrom, LinedefFrom, SidedefFrom, SectorFrom, ThingFrom};
 
 pub use records::{
     TextLinedefAnswer, TextSectorAnswer, TextSidedefAnswer, TextThingAnswer, TextVertexAnswer,
 };
-use refusal::{Status, nothing_refused, refused};
-use text_map::{BlockAnswer, TextAnswer};
+use refusal::{Refusal, Status};
+use text_map::{TextBlock, TextSummary};
 use text_table::Scope;
 
 #[repr(C)]
@@ -36,37 +36,60 @@ pub struct TextBlockAnswer {
     pub start: usize,
 }
 
+impl From<Result<TextSummary, Refusal>> for TextMapAnswer {
+    ghost from_gives = { λ judged answer. answer ≡ summary_out judged };
+
+    fn from(judged: Result<TextSummary, Refusal>) -> TextMapAnswer {
+        match judged {
+            Ok(s) => TextMapAnswer {
+                status: Status::ACCEPTED,
+                namespace_start: s.namespace.start,
+                namespace_end: s.namespace.end,
+                vertices: s.counts.vertices,
+                linedefs: s.counts.linedefs,
+                sidedefs: s.counts.sidedefs,
+                sectors: s.counts.sectors,
+                things: s.counts.things,
+            },
+            Err(r) => TextMapAnswer {
+                status: Status::from(r),
+                namespace_start: 0,
+                namespace_end: 0,
+                vertices: 0,
+                linedefs: 0,
+                sidedefs: 0,
+                sectors: 0,
+                things: 0,
+            },
+        }
+    }
+}
+
+impl From<Result<TextBlock, Refusal>> for TextBlockAnswer {
+    ghost from_gives = { λ found answer. answer ≡ block_out found };
+
+    fn from(found: Result<TextBlock, Refusal>) -> TextBlockAnswer {
+        match found {
+            Ok(b) => TextBlockAnswer {
+                status: Status::ACCEPTED,
+                kind: b.kind,
+                start: b.start,
+            },
+            Err(r) => TextBlockAnswer {
+                status: Status::from(r),
+                kind: 0,
+                start: 0,
+            },
+        }
+    }
+}
+
 // The namespace and how many blocks of each kind, 90 to 93.
 #[unsafe(no_mangle)]
 pub extern "C" fn meshpigeon_text_map(text: &[u8]) -> TextMapAnswer
     ensures { TextJudged text.now result }
 {
-    match text_map::judge_text(text) {
-        TextAnswer::Summary(s) => {
-            let namespace = s.namespace;
-            let counts = s.counts;
-            TextMapAnswer {
-                status: nothing_refused(),
-                namespace_start: namespace.start,
-                namespace_end: namespace.end,
-                vertices: counts.vertices,
-                linedefs: counts.linedefs,
-                sidedefs: counts.sidedefs,
-                sectors: counts.sectors,
-                things: counts.things,
-            }
-        }
-        TextAnswer::Refused(r) => TextMapAnswer {
-            status: refused(r),
-            namespace_start: 0,
-            namespace_end: 0,
-            vertices: 0,
-            linedefs: 0,
-            sidedefs: 0,
-            sectors: 0,
-            things: 0,
-        },
-    }
+    text_map::judge_text(text).into()
 }
 
 // The first block of a known kind among the statements from a place on, up to its opening brace, 90 to 94.
@@ -74,18 +97,7 @@ pub extern "C" fn meshpigeon_text_map(text: &[u8]) -> TextMapAnswer
 pub extern "C" fn meshpigeon_text_block(text: &[u8], place: usize) -> TextBlockAnswer
     ensures { BlockFound text.now place result }
 {
-    match text_map::next_block(text, place) {
-        BlockAnswer::Block(b) => TextBlockAnswer {
-            status: nothing_refused(),
-            kind: b.kind,
-            start: b.start,
-        },
-        BlockAnswer::Refused(r) => TextBlockAnswer {
-            status: refused(r),
-            kind: 0,
-            start: 0,
-        },
-    }
+    text_map::next_block(text, place).into()
 }
 
 // Each kind's block of a number, 90 to 94.
@@ -104,8 +116,7 @@ pub extern "C" fn meshpigeon_text_linedef(text: &[u8], number: usize) -> TextLin
 {
     let mut places = [0; 34];
     let f = text_map::fields_numbered(text, Scope::Linedef, number, &mut places);
-    let namespace = f.namespace;
-    let id = text_map::id_of(text, namespace);
+    let id = text_map::id_of(text, f.namespace);
     records::linedef_by(text, id, &places, f)
 }
 

@@ -1,11 +1,13 @@
 // The records of blocks, as C and Rust are given them: with a refusal every field is 0.
-ghost use Rattle.std.specs.Prelude.{◌≡◌, ◌≤◌};
+ghost use Rattle.std.specs.Prelude.{◌≡◌, map};
 ghost use Rattle.export_texts.specs.Answers.{vertex_out, linedef_out, sidedef_out, sector_out, thing_out};
-ghost use Rattle.export_texts.specs.Inner.{size_by};
+ghost use Rattle.text_map.specs.Answers.{rows_by};
+ghost use Rattle.text_table.specs.Rows.{row_of};
 
-use refusal::{Check, Status, status_of};
+use refusal::{Refusal, Status};
 use text_map::BlockFields;
 use text_record::{TextLinedef, TextSector, TextSidedef, TextThing, TextVertex};
+use text_table::{Field, Scope};
 
 #[repr(C)]
 #[derive(Clone, Copy)]
@@ -50,33 +52,30 @@ pub struct TextThingAnswer {
 pub fn vertex_by(text: &[u8], places: &[usize; 34], f: BlockFields) -> TextVertexAnswer
     ensures { result ≡ vertex_out text.now f places.now }
 {
-    let check = f.check;
     TextVertexAnswer {
-        status: status_of(check),
+        status: Status::from(f.check),
         vertex: text_record::vertex_of(text, places),
         next: f.next,
     }
 }
 
-// How many bytes of a kind's rows are lent: none where the block is refused, so that every default is 0.
-fn size_by(size: usize, check: Check) -> usize
-    ensures { (result ≡ size_by size check) × (result ≤ size) }
+// The fields of a kind: none where the block is refused, so that every default is 0.
+fn fields_by(kind: Scope, check: Result<(), Refusal>) -> &'static [Field]
+    ensures { map row_of result.now ≡ rows_by kind check }
 {
     match check {
-        Check::Pass => size,
-        Check::Refused(_) => 0,
+        Ok(()) => text_table::fields(kind),
+        Err(_) => &[],
     }
 }
 
 pub fn linedef_by(text: &[u8], id: i32, places: &[usize; 34], f: BlockFields) -> TextLinedefAnswer
     ensures { result ≡ linedef_out text.now id f places.now }
 {
-    let check = f.check;
-    let rows = text_table::linedef();
-    let n = size_by(612, check);
+    let fields = fields_by(Scope::Linedef, f.check);
     TextLinedefAnswer {
-        status: status_of(check),
-        linedef: text_record::linedef_of(text, &rows[..n], places, id),
+        status: Status::from(f.check),
+        linedef: text_record::linedef_of(text, fields, places, id),
         next: f.next,
     }
 }
@@ -84,12 +83,10 @@ pub fn linedef_by(text: &[u8], id: i32, places: &[usize; 34], f: BlockFields) ->
 pub fn sidedef_by(text: &[u8], places: &[usize; 34], f: BlockFields) -> TextSidedefAnswer
     ensures { result ≡ sidedef_out text.now f places.now }
 {
-    let check = f.check;
-    let rows = text_table::sidedef();
-    let n = size_by(126, check);
+    let fields = fields_by(Scope::Sidedef, f.check);
     TextSidedefAnswer {
-        status: status_of(check),
-        sidedef: text_record::sidedef_of(text, &rows[..n], places),
+        status: Status::from(f.check),
+        sidedef: text_record::sidedef_of(text, fields, places),
         next: f.next,
     }
 }
@@ -97,12 +94,10 @@ pub fn sidedef_by(text: &[u8], places: &[usize; 34], f: BlockFields) -> TextSide
 pub fn sector_by(text: &[u8], places: &[usize; 34], f: BlockFields) -> TextSectorAnswer
     ensures { result ≡ sector_out text.now f places.now }
 {
-    let check = f.check;
-    let rows = text_table::sector();
-    let n = size_by(144, check);
+    let fields = fields_by(Scope::Sector, f.check);
     TextSectorAnswer {
-        status: status_of(check),
-        sector: text_record::sector_of(text, &rows[..n], places),
+        status: Status::from(f.check),
+        sector: text_record::sector_of(text, fields, places),
         next: f.next,
     }
 }
@@ -110,12 +105,10 @@ pub fn sector_by(text: &[u8], places: &[usize; 34], f: BlockFields) -> TextSecto
 pub fn thing_by(text: &[u8], places: &[usize; 34], f: BlockFields) -> TextThingAnswer
     ensures { result ≡ thing_out text.now f places.now }
 {
-    let check = f.check;
-    let rows = text_table::thing();
-    let n = size_by(558, check);
+    let fields = fields_by(Scope::Thing, f.check);
     TextThingAnswer {
-        status: status_of(check),
-        thing: text_record::thing_of(text, &rows[..n], places),
+        status: Status::from(f.check),
+        thing: text_record::thing_of(text, fields, places),
         next: f.next,
     }
 }

@@ -1,9 +1,7 @@
 -- A map's verdict with the length of its reason, as plain numbers. Assumes nothing.
-use Rattle.std.specs.Prelude.{List, ◌≡◌, ℕ, length}
+use Rattle.std.specs.Prelude.{List, ◌≡◌, ℕ, length, Ok, Err}
 use Rattle.wad.specs.Map.{marker_answer}
-use Rattle.map_check.specs.declared.Verdict.{Verdict}
-use Rattle.map_check.specs.declared.Verdict.TheVariants.{Accepted, Refused as NotAccepted}
-use Rattle.map_check.specs.Verdict.{verdict, words_after}
+use Rattle.map_check.specs.Verdict.{Verdict, verdict, words_after}
 use Rattle.reason.specs.declared.Reason.{Reason}
 use Rattle.reason.specs.Printing.{printed_length, printed_out, answer_by}
 use Rattle.export_why.specs.declared.ReasonAnswer.{ReasonAnswer}
@@ -11,8 +9,8 @@ use Rattle.refusal.specs.Status.{accepted, refused}
 
 -- depth and marker of an accepted map, and the length of what is printed
 abbrev pub reason_out : Verdict → ℕ → ReasonAnswer
-reason_out (Accepted depth marker) length = record { status = accepted; depth = depth; marker = marker; length = length }
-reason_out (NotAccepted r) length = record { status = refused r; depth = 0; marker = 0; length = length }
+reason_out (Ok map) length = record { status = accepted; depth = map.depth; marker = map.marker; length = length }
+reason_out (Err r) length = record { status = refused r; depth = 0; marker = 0; length = length }
 
 -- of an answer, 85 too
 abbrev pub answer_out : Reason → ReasonAnswer

@@ -2,11 +2,12 @@
 #![tactic(auto)]
 
 ghost use Rattle.std.specs.Prelude.{◌≡◌};
-ghost use Rattle.export_why.specs.Reasons.{reason_out, ReasonGiven};
+ghost use Rattle.export_why.specs.Reasons.{answer_out, ReasonGiven};
 
-use map_check::Verdict;
-use refusal::{Status, nothing_refused, refused};
+use reason::Reason;
+use refusal::Status;
 
+// Depth and marker are 0 with a refusal; it may have a reason too.
 #[repr(C)]
 #[derive(Clone, Copy)]
 pub struct ReasonAnswer {
@@ -14,6 +15,28 @@ pub struct ReasonAnswer {
     pub depth: usize,
     pub marker: usize,
     pub length: usize,
+}
+
+impl From<Reason> for ReasonAnswer {
+    ghost from_gives = { λ told answer. answer ≡ answer_out told };
+
+    fn from(told: Reason) -> ReasonAnswer {
+        let length = told.length;
+        match told.verdict {
+            Ok(map) => ReasonAnswer {
+                status: Status::ACCEPTED,
+                depth: map.depth,
+                marker: map.marker,
+                length,
+            },
+            Err(r) => ReasonAnswer {
+                status: Status::from(r),
+                depth: 0,
+                marker: 0,
+                length,
+            },
+        }
+    }
 }
 
 // The map of a name of eight bytes, judged over lent words, four for each node; the reason is printed into the front of the output.
@@ -27,26 +50,5 @@ pub extern "C" fn meshpigeon_why(
     ensures { ReasonGiven wad.now name.now words.old out.old result
         words.new out.new }
 {
-    let told = reason::judge_map(wad, name, words, out);
-    let verdict = told.verdict;
-    reason_out(verdict, told.length)
-}
-
-fn reason_out(verdict: Verdict, length: usize) -> ReasonAnswer
-    ensures { result ≡ reason_out verdict length }
-{
-    match verdict {
-        Verdict::Accepted { depth, marker } => ReasonAnswer {
-            status: nothing_refused(),
-            depth,
-            marker,
-            length,
-        },
-        Verdict::Refused(r) => ReasonAnswer {
-            status: refused(r),
-            depth: 0,
-            marker: 0,
-            length,
-        },
-    }
+    ReasonAnswer::from(reason::judge_map(wad, name, words, out))
 }

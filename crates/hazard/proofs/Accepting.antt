@@ -7,14 +7,13 @@ use Rattle.wad.specs.Header.{head_of, entry_count}
 use Rattle.wad.specs.Entries.{directory_of}
 use Rattle.map_lumps.specs.Lumps.{map_lumps}
 use Rattle.map_lumps.specs.Games.{game_at}
-use Rattle.map_check.specs.declared.Verdict.TheVariants.{Accepted}
-use Rattle.map_check.specs.Verdict.{verdict}
+use Rattle.map_check.specs.Verdict.{accepted, verdict}
 use Rattle.map_check.proofs.Passing.{blockmap_pass, long_at, lumps_pass}
 use Rattle.map_check.proofs.Answers.{marker_known}
 use Rattle.theorem_map.proofs.Demands.{known}
 use Rattle.hazard.specs.Inner.{Accepting}
 
-pub accepting : (wad name words : List ℕ) (depth marker : ℕ) → verdict wad name words ≡ Accepted depth marker → Accepting wad marker
+pub accepting : (wad name words : List ℕ) (depth marker : ℕ) → verdict wad name words ≡ accepted depth marker → Accepting wad marker
 accepting wad name words depth marker e =
     let k = (known wad name words depth marker e).below in
     record {

@@ -1,4 +1,4 @@
--- Laws of looks in a row: what an early return and a loop over `each_of` have to show. They are those of `refusal` for checks.
+-- Laws of looks in a row: what a loop over `each_of` has to show. They are those of `refusal` for checks.
 -- Assumes nothing.
 use Prim.Native.Nat.{ℕ, zero, suc, ◌+◌, ◌≤◌, ◌<◌}
 use mathlib.Core.Bool.{Bool, true, false}
@@ -8,30 +8,23 @@ use native.Mathlib.Nat.{eq-or-lt_of_le, le_of_suc-le-suc, not-suc-le-zero}
 use native.Mathlib.Numerals.{add-one}
 use native.Mathlib.Omega.{arith}
 use Rattle.hazard.specs.declared.Hazard.{Hazard}
-use Rattle.hazard.specs.declared.Finding.{Finding}
-use Rattle.hazard.specs.declared.Finding.TheVariants.{Nothing, Found}
-use Rattle.hazard.specs.Findings.{found_unless, ◌or_else◌, each_of}
+use Rattle.std.specs.Prelude.{Ok, Err}
+use Rattle.hazard.specs.Findings.{Finding, found_unless, ◌or_else◌, each_of}
 
 -- ---- a row
 
-pub found-then : {a : Finding} {h : Hazard} (y : Finding) → a ≡ Found h → Found h ≡ a or_else y
-found-then y e = sym (ap (λ (a : Finding). a or_else y) e)
-
-pub nothing_then : {a x y : Finding} → a ≡ Nothing → x ≡ y → x ≡ a or_else y
-nothing_then {a} {x} {y} e q = q ∙ sym (ap (λ (a : Finding). a or_else y) e)
-
-pub unless-nothing : (b : Bool) (h : Hazard) → found_unless b h ≡ Nothing → b ≡ true
+pub unless-nothing : (b : Bool) (h : Hazard) → found_unless b h ≡ Ok tt → b ≡ true
 unless-nothing true h e = refl
 unless-nothing false h e = let z : ◌≡◌ {A = ℕ} 0 1 = cc in absurd (omega arith)
 
-both_nothing : (a b : Finding) → a or_else b ≡ Nothing → (a ≡ Nothing) × (b ≡ Nothing)
-both_nothing Nothing b e = (refl, e)
-both_nothing (Found h) b e = let z : ◌≡◌ {A = ℕ} 0 1 = cc in absurd (omega arith)
+both_nothing : (a b : Finding) → a or_else b ≡ Ok tt → (a ≡ Ok tt) × (b ≡ Ok tt)
+both_nothing (Ok _) b e = (refl, e)
+both_nothing (Err h) b e = let z : ◌≡◌ {A = ℕ} 0 1 = cc in absurd (omega arith)
 
 -- ---- a scan
 
 module _ (f : ℕ → Finding) where
-  pub each_none : each_of f 0 ≡ Nothing
+  pub each_none : each_of f 0 ≡ Ok tt
   unfolding each_of
   each_none = refl
 
@@ -39,11 +32,11 @@ module _ (f : ℕ → Finding) where
   unfolding each_of
   each-suc n = refl
 
-  each-found : (n : ℕ) {h : Hazard} → each_of f n ≡ Found h → each_of f (suc n) ≡ Found h
+  each-found : (n : ℕ) {h : Hazard} → each_of f n ≡ Err h → each_of f (suc n) ≡ Err h
   each-found n e = rw (each-suc n, e)
 
   -- what is found among the first stays the answer, however many follow
-  each-kept : (i n : ℕ) {h : Hazard} → each_of f i ≡ Found h → i ≤ n → each_of f n ≡ Found h
+  each-kept : (i n : ℕ) {h : Hazard} → each_of f i ≡ Err h → i ≤ n → each_of f n ≡ Err h
   each-kept i zero e l = let z : i ≡ 0 = omega arith in rw z at e
   each-kept i (suc n) e l =
       ⊎_elim
@@ -52,7 +45,7 @@ module _ (f : ℕ → Finding) where
       (eq-or-lt_of_le l)
 
   -- a scan that finds nothing says so of each
-  pub each-nothing : (n : ℕ) → each_of f n ≡ Nothing → (i : ℕ) → i < n → f i ≡ Nothing
+  pub each-nothing : (n : ℕ) → each_of f n ≡ Ok tt → (i : ℕ) → i < n → f i ≡ Ok tt
   each-nothing zero e i l = absurd (not-suc-le-zero l)
   each-nothing (suc n) e i l =
       let both = both_nothing (each_of f n) (f n) (sym (each-suc n) ∙ e) in
@@ -64,7 +57,7 @@ module _ (f : ℕ → Finding) where
 pub record Scanned (f : ℕ → Finding) (n end i : ℕ) : Type 0 where
   pub ends : end ≡ n
   pub inside : i ≤ end
-  pub nothing : each_of f i ≡ Nothing
+  pub nothing : each_of f i ≡ Ok tt
 
 pub scanned_none : {f : ℕ → Finding} {n : ℕ} → Scanned f n n 0
 scanned_none {f} = record { ends = refl; inside = omega arith; nothing = each_none f }
@@ -73,15 +66,22 @@ module _ {f : ℕ → Finding} {n end i : ℕ} (s : Scanned f n end i) where
   -- where the look at `i` is one test
   pub tested_more : {b ok : Bool} (h : Hazard) → i < end → b ≡ ok → b ≡ true → f i ≡ found_unless ok h → Scanned f n end (i + 1)
   tested_more {b} h l q t d =
-      let none : f i ≡ Nothing = d ∙ ap (λ (x : Bool). found_unless x h) (sym q ∙ t) in
+      let none : f i ≡ Ok tt = d ∙ ap (λ (x : Bool). found_unless x h) (sym q ∙ t) in
       record { ends = s.ends; inside = omega arith; nothing = rw (add-one i, each-suc f i, s.nothing) none }
 
-  pub tested_stop : {b ok : Bool} {h : Hazard} → i < end → b ≡ ok → b ≡ false → f i ≡ found_unless ok h → Found h ≡ each_of f n
+  pub tested_stop : {b ok : Bool} {h : Hazard} → i < end → b ≡ ok → b ≡ false → f i ≡ found_unless ok h → ◌≡◌ {A = Finding} (Err h) (each_of f n)
   tested_stop {b} {ok} {h} l q t d =
-      let here : f i ≡ Found h = d ∙ ap (λ (x : Bool). found_unless x h) (sym q ∙ t) in
+      let here : f i ≡ Err h = d ∙ ap (λ (x : Bool). found_unless x h) (sym q ∙ t) in
       sym (each-kept f (suc i) n (rw (each-suc f i, s.nothing) here) (omega (arith, s.ends)))
 
-  pub scanned_done : end ≤ i → Nothing ≡ each_of f n
+  -- the same of a loop that goes on by `?`
+  pub scanned_passed : i < end → ◌≡◌ {A = Finding} (Ok tt) (f i) → Scanned f n end (i + 1)
+  scanned_passed l q = record { ends = s.ends; inside = omega arith; nothing = rw (add-one i, each-suc f i, s.nothing) (sym q) }
+
+  pub scanned_found : {h : Hazard} → i < end → ◌≡◌ {A = Finding} (Err h) (f i) → ◌≡◌ {A = Finding} (Err h) (each_of f n)
+  scanned_found {h} l q = sym (each-kept f (suc i) n (rw (each-suc f i, s.nothing) (sym q)) (omega (arith, s.ends)))
+
+  pub scanned_done : end ≤ i → ◌≡◌ {A = Finding} (Ok tt) (each_of f n)
   scanned_done l =
       let q : i ≡ n = omega (arith, s.ends, s.inside) in
       sym (rw q at s.nothing)

@@ -7,28 +7,26 @@ use mathlib.Core.Path.{◌≡◌, refl, sym, ap, ◌∙◌}
 use native.Mathlib.Omega.{arith}
 use lib.Dec.{leb, ltb, eqb}
 use Rattle.refusal.specs.declared.Refusal.TheVariants.{Blockmap}
-use Rattle.refusal.specs.declared.Check.{Check}
-use Rattle.refusal.specs.declared.Check.TheVariants.{Pass, Refused}
+use Rattle.refusal.specs.Checks.{Check}
+use Rattle.std.specs.Prelude.{Ok, Err}
 use Rattle.refusal.specs.Table.{record_of}
 use Rattle.refusal.specs.Checks.{unless, ◌and_then◌, each}
 use Rattle.refusal.proofs.Checks.{both, and_then_pass, unless_pass, each_none, each_pass}
 use Rattle.map_blockmap.specs.Blockmap.{word_count, word_at, cells_of, header_ok, list_ends, linedefs_named, all_under, list_ok, cell_check, blockmap_check}
 use Rattle.hazard.specs.declared.Hazard.TheVariants.{HighNumber}
-use Rattle.hazard.specs.declared.Finding.{Finding}
-use Rattle.hazard.specs.declared.Finding.TheVariants.{Nothing, Found}
-use Rattle.hazard.specs.Findings.{found_unless, ◌or_else◌, each_of}
+use Rattle.hazard.specs.Findings.{Finding, found_unless, ◌or_else◌, each_of}
 use Rattle.hazard.specs.Numbers.{list_high}
 use Rattle.hazard.specs.Inner.{ListsPass}
 use Rattle.hazard.proofs.Findings.{each_none as Found-None, each-suc as found-suc}
 
 -- BLOCKMAP's refusal as a hazard
 abbrev pub as_finding : Check → Finding
-as_finding Pass = Nothing
-as_finding (Refused r) = Found (HighNumber 10 (record_of r))
+as_finding (Ok _) = Ok tt
+as_finding (Err r) = Err (HighNumber 10 (record_of r))
 
 as_then : (a b : Check) → as_finding (a and_then b) ≡ as_finding a or_else as_finding b
-as_then Pass b = refl
-as_then (Refused r) b = refl
+as_then (Ok _) b = refl
+as_then (Err r) b = refl
 
 as_unless : (b : Bool) (i : ℕ) → as_finding (unless b (Blockmap i)) ≡ found_unless b (HighNumber 10 i)
 as_unless true i = refl
@@ -43,7 +41,7 @@ pub header-good : (lump : List ℕ) → ListsPass lump → header_ok lump ≡ tr
 header-good lump (linedefs, e) =
     unless_pass (header_ok lump) (Blockmap 0) (and_then_pass (unless (header_ok lump) (Blockmap 0)) (each (cell_check lump linedefs) (cells_of lump)) e).0
 
-module _ (lump : List ℕ) (linedefs : ℕ) (e : blockmap_check lump linedefs ≡ Pass) where
+module _ (lump : List ℕ) (linedefs : ℕ) (e : blockmap_check lump linedefs ≡ Ok tt) where
   -- the list of a cell is good but for its numbers, whatever these may be
   by_numbers : (offset n : ℕ) → list_ok lump linedefs offset ≡ true → list_ok lump n offset ≡ all_under n (linedefs_named lump offset)
   by_numbers offset n ok =

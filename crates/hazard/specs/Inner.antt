@@ -1,6 +1,5 @@
 -- Not for the reader of promises: what only contracts of inner functions cite. Assumes nothing.
-use Rattle.std.specs.Prelude.{ℕ, ◌+◌, ◌-◌, ◌≤◌, ◌<◌, Bool, true, false, not, ◌&&◌, ◌||◌, List, ◌≡◌, leb, ltb, length}
-use Rattle.refusal.specs.declared.Check.TheVariants.{Pass}
+use Rattle.std.specs.Prelude.{ℕ, ◌+◌, ◌-◌, ◌≤◌, ◌<◌, Bool, true, false, not, ◌&&◌, ◌||◌, List, ◌≡◌, leb, ltb, length, Ok}
 use Rattle.bits.specs.Bits.{is_noted}
 use Rattle.wad.specs.Header.{head_of, entry_count}
 use Rattle.wad.specs.Entries.{directory_of, file_check}
@@ -16,15 +15,15 @@ use Rattle.hazard.specs.Lists.{short_ok}
 
 -- BLOCKMAP passes 28
 abbrev pub BlockmapPasses : Bool → List (List ℕ) → Type 0
-BlockmapPasses hexen lumps = blockmap_check (map_lump lumps BLOCKMAP) (record_count lumps LINEDEFS (linedef_size hexen)) ≡ Pass
+BlockmapPasses hexen lumps = blockmap_check (map_lump lumps BLOCKMAP) (record_count lumps LINEDEFS (linedef_size hexen)) ≡ Ok tt
 
 -- BLOCKMAP passes 28 for some count of linedefs
 abbrev pub ListsPass : List ℕ → Type 0
-ListsPass lump = (linedefs : ℕ) × (blockmap_check lump linedefs ≡ Pass)
+ListsPass lump = (linedefs : ℕ) × (blockmap_check lump linedefs ≡ Ok tt)
 
 -- what the look for hazards relies on
 pub record Accepting (wad : List ℕ) (marker : ℕ) : Type 0 where
-  pub file : file_check wad ≡ Pass
+  pub file : file_check wad ≡ Ok tt
   pub long : marker + 11 ≤ entry_count (head_of wad)
   pub blockmap : BlockmapPasses (game_at (directory_of wad) (entry_count (head_of wad)) marker) (map_lumps wad (directory_of wad) marker)
 

@@ -2,8 +2,7 @@
 use Rattle.std.specs.Prelude.{ℕ, ◌+◌, Bool, List, leb, length}
 use Rattle.map_blockmap.specs.Blockmap.{word_at, cells_of, linedefs_named}
 use Rattle.hazard.specs.declared.Hazard.TheVariants.{LongList}
-use Rattle.hazard.specs.declared.Finding.{Finding}
-use Rattle.hazard.specs.Findings.{found_unless, each_of}
+use Rattle.hazard.specs.Findings.{Finding, found_unless, each_of}
 
 -- the list at word `offset` names at most `linedefs` linedefs; one that is named twice counts twice
 abbrev pub short_ok : List ℕ → ℕ → ℕ → Bool

@@ -13,8 +13,7 @@ use Rattle.record_table.specs.Lumps.{LINEDEFS, SIDEDEFS, SEGS, SSECTORS, BLOCKMA
 use Rattle.map_blockmap.specs.Blockmap.{word_at, cells_of, linedefs_named, all_under}
 use Rattle.map_lumps.specs.Lumps.{map_lump, record_count}
 use Rattle.hazard.specs.declared.Hazard.TheVariants.{HighNumber}
-use Rattle.hazard.specs.declared.Finding.{Finding}
-use Rattle.hazard.specs.Findings.{found_unless, ◌or_else◌, each_of}
+use Rattle.hazard.specs.Findings.{Finding, found_unless, ◌or_else◌, each_of}
 
 -- a 16-bit number that is the same when it is read as signed
 abbrev pub low_ok : ℕ → Bool

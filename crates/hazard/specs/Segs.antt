@@ -5,8 +5,7 @@ use Rattle.record_field.specs.Records.{record_bytes}
 use Rattle.record.specs.declared.subsector.Subsector.{Subsector}
 use Rattle.record.specs.Subsectors.{subsector_size, subsector_of}
 use Rattle.hazard.specs.declared.Hazard.TheVariants.{SegTwice}
-use Rattle.hazard.specs.declared.Finding.{Finding}
-use Rattle.hazard.specs.Findings.{found_unless, each_of}
+use Rattle.hazard.specs.Findings.{Finding, found_unless, each_of}
 
 -- subsector `k` of a lump
 abbrev pub subsector_in : List ℕ → ℕ → Subsector

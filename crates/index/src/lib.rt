@@ -10,7 +10,7 @@ ghost use Rattle.index.specs.Records.{record_at, precedes};
 
 // A name's eight bytes, zeros after the first zero, and the number of an entry that has it.
 #[repr(C)]
-#[derive(Clone, Copy)]
+#[derive(Clone, Copy, PartialEq, Eq, PartialOrd, Ord)]
 pub struct IndexRecord {
     pub name: [u8; 8],
     pub number: u16,
@@ -20,11 +20,7 @@ pub struct IndexRecord {
 pub fn precedes(a: IndexRecord, b: IndexRecord) -> bool
     ensures { result ≡ precedes a b }
 {
-    let first = a.name;
-    let second = b.name;
-    let x = keys::key_of(first);
-    let y = keys::key_of(second);
-    (x < y) | (x == y) & (a.number < b.number)
+    a < b
 }
 
 // The record of entry `i` of a directory.

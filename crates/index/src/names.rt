@@ -7,12 +7,8 @@ pub fn padded(name: &[u8]) -> [u8; 8]
     requires { length name.now ≡ 8 }
     ensures { result ≡ padded name.now }
 {
+    let n = name.iter().position(|c| *c == 0).unwrap_or(8);
     let mut bytes = [0; 8];
-    for i in 0..8 {
-        if name[i] == 0 {
-            return bytes;
-        }
-        bytes[i] = name[i];
-    }
+    bytes[..n].copy_from_slice(&name[..n]);
     bytes
 }

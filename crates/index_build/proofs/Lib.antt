@@ -1,7 +1,6 @@
 -- The laws of building. Assumes nothing.
 
 pub mod Moves
-pub mod Heaps
 pub mod SortedOver
 pub mod Bytes
 pub mod Rooms

@@ -6,7 +6,7 @@ use mathlib.Core.Path.{◌≡◌}
 use borrow.Author.Tests.{leb-true}
 use lib.Dec.{leb}
 use lib.ListN.{length}
-use Rattle.refusal.specs.declared.Check.TheVariants.{Pass}
+use Rattle.std.specs.Prelude.{Ok}
 use Rattle.refusal.specs.declared.Refusal.TheVariants.{IndexRoom}
 use Rattle.refusal.specs.Checks.{unless}
 use Rattle.refusal.proofs.Checks.{both, and_then_pass, unless_pass}
@@ -17,13 +17,13 @@ use Rattle.index.specs.Index.{record_offset}
 use Rattle.index_build.specs.Building.{build_check}
 
 pub record Passed (wad : List ℕ) (records room : ℕ) : Type 0 where
-  pub file : file_check wad ≡ Pass
-  pub header : file_header_check (length wad) (head_of wad) ≡ Pass
+  pub file : file_check wad ≡ Ok tt
+  pub header : file_header_check (length wad) (head_of wad) ≡ Ok tt
   pub few : entry_count (head_of wad) ≤ 4096
   pub enough : entry_count (head_of wad) ≤ records
   pub fits : record_offset (entry_count (head_of wad)) ≤ room
 
-pub passed : (wad : List ℕ) (records room : ℕ) → build_check wad records room ≡ Pass → Passed wad records room
+pub passed : (wad : List ℕ) (records room : ℕ) → build_check wad records room ≡ Ok tt → Passed wad records room
 passed wad records room e =
     let count = entry_count (head_of wad) in
     let rooms : Bool = leb count records && leb (record_offset count) room in

@@ -2,5 +2,4 @@
 
 pub mod Building
 pub mod Inner
-pub mod Heaps
 pub mod Arranging

@@ -5,7 +5,7 @@ use mathlib.Core.Path.{◌≡◌}
 use native.Mathlib.Omega.{arith}
 use borrow.Author.Tests.{le-leb, eq-eqb}
 use lib.ListN.{length}
-use Rattle.refusal.specs.declared.Check.TheVariants.{Pass}
+use Rattle.std.specs.Prelude.{Ok}
 use Rattle.refusal.specs.declared.Refusal.TheVariants.{IndexEntries}
 use Rattle.refusal.specs.Checks.{unless}
 use Rattle.refusal.proofs.Checks.{and_then_pass, unless_pass}
@@ -19,7 +19,7 @@ use Rattle.index_check.specs.Checking.{index_head_check, index_check}
 use Rattle.index_check.specs.Promises.{AcceptsTheIndex}
 
 module _ (wad : List ℕ) where
-  pub head_passes : file_check wad ≡ Pass → index_head_check wad (index_bytes wad) ≡ Pass
+  pub head_passes : file_check wad ≡ Ok tt → index_head_check wad (index_bytes wad) ≡ Ok tt
   head_passes e =
       let size = index_size wad in
       let n = index_count wad in
@@ -29,7 +29,7 @@ module _ (wad : List ℕ) where
 
 pub accepts_the_index : AcceptsTheIndex
 accepts_the_index wad index e = (
-  λ (p : index_check wad index ≡ Pass).
+  λ (p : index_check wad index ≡ Ok tt).
       let rest = (and_then_pass (index_head_check wad index) (unless (same_bytes index (index_bytes wad)) IndexEntries) p).1 in
       same_equal index (index_bytes wad) (unless_pass (same_bytes index (index_bytes wad)) IndexEntries rest),
   λ (p : index ≡ index_bytes wad). rw (p, head_passes wad e, equal_same (index_bytes wad)),

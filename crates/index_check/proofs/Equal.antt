@@ -12,8 +12,8 @@ use lib.Seq.{take_all, take-add, drop-drop}
 use Rattle.index.proofs.Sorting.{precedes_trans}
 use Rattle.endian.specs.Unsigned.{Bytes, u16_at, u16_bytes, u32_bytes}
 use Rattle.endian.proofs.Unsigned.{u16_at-fits}
-use Rattle.refusal.specs.declared.Check.{Check}
-use Rattle.refusal.specs.declared.Check.TheVariants.{Pass, Refused}
+use Rattle.refusal.specs.Checks.{Check}
+use Rattle.std.specs.Prelude.{Ok, Err}
 use Rattle.refusal.specs.declared.Refusal.{Refusal}
 use Rattle.refusal.specs.declared.Refusal.TheVariants.{IndexEntries}
 use Rattle.refusal.specs.Checks.{unless}
@@ -157,7 +157,7 @@ module _ (wad index : List ℕ) (bytes : Bytes index) (head : Headed (entry_coun
       (λ i h. ap index_record_bytes (sorted_at dir count index good i h)) in
       sym (take-append-drop 11 index) ∙ (λ i. head_bytes i ++ rows i)
 
-  passes_equal : records_check dir count index ≡ Pass → index ≡ index_bytes wad
+  passes_equal : records_check dir count index ≡ Ok tt → index ≡ index_bytes wad
   passes_equal e =
       let two = and_then_pass (unless (eqb (length index) (record_offset count)) IndexEntries) (each_record dir count index) e in
       let size = eqb-true (length index) (record_offset count) (unless_pass (eqb (length index) (record_offset count)) IndexEntries two.0) in
@@ -195,7 +195,7 @@ module _ (wad : List ℕ) where
       let here = in_index (suc i) h in
       order-suc (index_bytes wad) i ∙ (λ k. precedes (before k) (here k)) ∙ holds.ascending i (suc i) (omega arith) (omega (arith, holds.long, h))
 
-  index_passes : records_check entries many (index_bytes wad) ≡ Pass
+  index_passes : records_check entries many (index_bytes wad) ≡ Ok tt
   index_passes =
       rw (eq-eqb (length (index_bytes wad)) (record_offset many) (index_size wad))
       (each_all (λ k. unless (record_ok entries many (index_bytes wad) k) IndexEntries) many
@@ -203,7 +203,7 @@ module _ (wad : List ℕ) where
 
 -- ---- both ways
 
-refused-by : (dir : List ℕ) (count : ℕ) (index : List ℕ) (r : Refusal) → records_check dir count index ≡ Refused r → IndexEntries ≡ r
+refused-by : (dir : List ℕ) (count : ℕ) (index : List ℕ) (r : Refusal) → records_check dir count index ≡ Err r → IndexEntries ≡ r
 refused-by dir count index r e =
     and_then_by (unless (eqb (length index) (record_offset count)) IndexEntries) (each_record dir count index) e
     (λ p. unless-named (eqb (length index) (record_offset count)) IndexEntries p)
@@ -220,7 +220,7 @@ records_equal wad index bytes head version =
         → c ≡ unless b IndexEntries
     by true e c q =
         sym q ∙ ap (records_check (directory_of wad) (entry_count (head_of wad))) (same_equal index (index_bytes wad) e) ∙ index_passes wad
-    by false e Pass q =
+    by false e (Ok _) q =
         let is = passes_equal wad index bytes head version q in
         not_both (ap (λ (xs : List ℕ). same_bytes xs (index_bytes wad)) is ∙ equal_same (index_bytes wad)) e
-    by false e (Refused r) q = ap Refused (sym (refused-by (directory_of wad) (entry_count (head_of wad)) index r q))
+    by false e (Err r) q = ap Err (sym (refused-by (directory_of wad) (entry_count (head_of wad)) index r q))

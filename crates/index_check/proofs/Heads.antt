@@ -7,7 +7,7 @@ use borrow.Author.Tests.{leb-true, eqb-true}
 use lib.Dec.{leb, eqb}
 use lib.ListN.{length, take}
 use Rattle.endian.specs.Unsigned.{u16_at, u32_at}
-use Rattle.refusal.specs.declared.Check.TheVariants.{Pass}
+use Rattle.std.specs.Prelude.{Ok}
 use Rattle.refusal.specs.declared.Refusal.TheVariants.{IndexHead, IndexVersion}
 use Rattle.refusal.specs.Checks.{unless, ◌and_then◌}
 use Rattle.refusal.proofs.Checks.{both, and_then_pass, unless_pass}
@@ -43,11 +43,11 @@ headed count len index e =
 
 -- 1 to 6, 82 and 83
 pub record Passed (wad index : List ℕ) : Type 0 where
-  pub file : file_check wad ≡ Pass
+  pub file : file_check wad ≡ Ok tt
   pub head : Headed (entry_count (head_of wad)) (length wad) index
   pub version : u16_at index version_place ≡ 1
 
-pub passed : (wad index : List ℕ) → index_head_check wad index ≡ Pass → Passed wad index
+pub passed : (wad index : List ℕ) → index_head_check wad index ≡ Ok tt → Passed wad index
 passed wad index e =
     let file = and_then_pass (file_check wad) (unless (index_head_ok wad index) IndexHead and_then unless (version_ok index) IndexVersion) e in
     let rest = and_then_pass (unless (index_head_ok wad index) IndexHead) (unless (version_ok index) IndexVersion) file.1 in

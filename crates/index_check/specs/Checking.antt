@@ -1,7 +1,7 @@
 -- The full check of an index beside its file (02, W-210): 82, 83 and 84 after 1 to 6. Assumes nothing.
 use Rattle.std.specs.Prelude.{ℕ, Bool, ◌&&◌, List, leb, eqb, length, take}
 use Rattle.endian.specs.Unsigned.{u16_at, u32_at}
-use Rattle.refusal.specs.declared.Check.{Check}
+use Rattle.refusal.specs.Checks.{Check}
 use Rattle.refusal.specs.declared.Refusal.TheVariants.{IndexHead, IndexVersion, IndexEntries}
 use Rattle.refusal.specs.Checks.{unless, ◌and_then◌}
 use Rattle.name.specs.Names.{same_bytes}

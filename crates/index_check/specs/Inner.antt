@@ -1,7 +1,7 @@
 -- What is asked of the records of an index, one by one (W-210): what inner functions are held to. Assumes nothing.
 use Rattle.std.specs.Prelude.{ℕ, ◌+◌, ◌-◌, Bool, true, ◌&&◌, cond, List, ltb, eqb, length}
 use Rattle.endian.specs.Unsigned.{u16_at}
-use Rattle.refusal.specs.declared.Check.{Check}
+use Rattle.refusal.specs.Checks.{Check}
 use Rattle.refusal.specs.declared.Refusal.TheVariants.{IndexEntries}
 use Rattle.refusal.specs.Checks.{unless, ◌and_then◌, each}
 use Rattle.name.specs.Names.{same_bytes}

@@ -11,28 +11,25 @@ use head::head_ok;
 pub use head::record_offset;
 use records::judge_records;
 pub use records::record_in;
-use refusal::{Check, Refusal};
+use refusal::Refusal;
 
 // 1 to 6 of the file, 82 and 83: what a lookup asks first too.
-pub fn judge_head(wad: &[u8], index: &[u8]) -> Check
+pub fn judge_head(wad: &[u8], index: &[u8]) -> Result<(), Refusal>
     ensures { result ≡ index_head_check wad.now index.now }
 {
-    if let Check::Refused(r) = wad::judge_file(wad) {
-        return Check::Refused(r);
-    }
-    if head_ok(wad::entry_count(wad), wad.len(), index) {
-        return refusal::pass_if(endian::u16_at(index, 3) == 1, Refusal::IndexVersion);
-    }
-    Check::Refused(Refusal::IndexHead)
+    wad::judge_file(wad)?;
+    refusal::pass_if(
+        head_ok(wad::entry_count(wad), wad.len(), index),
+        Refusal::IndexHead,
+    )?;
+    refusal::pass_if(endian::u16_at(index, 3) == 1, Refusal::IndexVersion)
 }
 
 // And 84 for any other difference. Records in order, each of an entry, and as many as there are entries, can be no others than
 // the index has: so nothing is sorted here.
-pub fn judge(wad: &[u8], index: &[u8]) -> Check
+pub fn judge(wad: &[u8], index: &[u8]) -> Result<(), Refusal>
     ensures { result ≡ index_check wad.now index.now }
 {
-    if let Check::Refused(r) = judge_head(wad, index) {
-        return Check::Refused(r);
-    }
+    judge_head(wad, index)?;
     judge_records(wad::directory_of(wad), wad::entry_count(wad), index)
 }

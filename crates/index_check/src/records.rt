@@ -3,9 +3,9 @@ ghost use Rattle.std.specs.Prelude.{◌≡◌, ◌+◌, ◌*◌, ◌<◌, ◌≤
 ghost use Rattle.index.specs.Index.{record_offset};
 ghost use Rattle.index_check.specs.Inner.{record_in, entry_ok, order_ok, record_ok, records_check};
 
-use crate::head::{record_offset, same_bytes};
+use crate::head::record_offset;
 use index::IndexRecord;
-use refusal::{Check, Refusal};
+use refusal::Refusal;
 
 // Record i of an index.
 pub fn record_in(index: &[u8], i: usize) -> IndexRecord
@@ -25,13 +25,9 @@ fn of_entry(dir: &[u8], count: usize, index: &[u8], i: usize) -> bool
     requires i_bound { (i < 4096) × (record_offset i + 10 ≤ length index.now) }
     ensures { result ≡ entry_ok dir.now count (record_in index.now i) }
 {
-    let at = record_offset(i);
-    let number = endian::u16_at(index, at + 8) as usize;
-    if count <= number {
-        return false;
-    }
-    let name = index::names::padded(wad::part(dir, 16 * number + 8, 8));
-    same_bytes(wad::part(index, at, 8), &name)
+    let record = record_in(index, i);
+    let number = record.number as usize;
+    number < count && record == index::record_at(dir, number)
 }
 
 // The record before precedes it.
@@ -39,10 +35,7 @@ fn in_order(index: &[u8], i: usize) -> bool
     requires { (i < 4096) × (record_offset i + 10 ≤ length index.now) }
     ensures { result ≡ order_ok index.now i }
 {
-    if i == 0 {
-        return true;
-    }
-    index::precedes(record_in(index, i - 1), record_in(index, i))
+    i == 0 || index::precedes(record_in(index, i - 1), record_in(index, i))
 }
 
 fn record_ok(dir: &[u8], count: usize, index: &[u8], i: usize) -> bool
@@ -50,21 +43,17 @@ fn record_ok(dir: &[u8], count: usize, index: &[u8], i: usize) -> bool
     requires i_bound { (i < 4096) × (record_offset i + 10 ≤ length index.now) }
     ensures { result ≡ record_ok dir.now count index.now i }
 {
-    of_entry(dir, count, index, i) & in_order(index, i)
+    of_entry(dir, count, index, i) && in_order(index, i)
 }
 
 // The length, and then each record in turn.
-pub fn judge_records(dir: &[u8], count: usize, index: &[u8]) -> Check
+pub fn judge_records(dir: &[u8], count: usize, index: &[u8]) -> Result<(), Refusal>
     requires { (count ≤ 4096) × (16 * count ≤ length dir.now) }
     ensures { result ≡ records_check dir.now count index.now }
 {
-    if index.len() != record_offset(count) {
-        return Check::Refused(Refusal::IndexEntries);
-    }
+    refusal::pass_if(index.len() == record_offset(count), Refusal::IndexEntries)?;
     for i in 0..count {
-        if !record_ok(dir, count, index, i) {
-            return Check::Refused(Refusal::IndexEntries);
-        }
+        refusal::pass_if(record_ok(dir, count, index, i), Refusal::IndexEntries)?;
     }
-    Check::Pass
+    Ok(())
 }

@@ -10,13 +10,12 @@ use borrow.Author.Tests.{ltb-true, ltb-false, lt-ltb, eq-eqb, not-true}
 use lib.Dec.{ltb, eqb}
 use lib.ListN.{length, get_or, drop, length-take}
 use lib.Seq.{ext_get_or}
-use Rattle.refusal.specs.declared.Check.{Check}
-use Rattle.refusal.specs.declared.Check.TheVariants.{Pass, Refused}
+use Rattle.refusal.specs.Checks.{Check}
+use Rattle.std.specs.Prelude.{Ok, Err}
 use Rattle.refusal.specs.declared.Refusal.TheVariants.{EntryMissing}
 use Rattle.refusal.proofs.Checks.{and_then_pass}
 use Rattle.name.specs.Names.{same_bytes, same_name}
 use Rattle.name.proofs.Bytes.{same_equal, equal_same}
-use Rattle.wad.specs.declared.map.Marker.TheVariants.{Entry, Refused as NoMarker}
 use Rattle.wad.specs.declared.map.MarkerSearch.{MarkerSearch}
 use Rattle.wad.specs.Header.{head_of, entry_count}
 use Rattle.wad.specs.Entries.{directory_of, entry_name, file_check}
@@ -39,17 +38,17 @@ use Rattle.index_find.proofs.Halving.{Ends, compared_few, past-ends}
 -- ---- the search from the end
 
 module _ (dir name : List ℕ) where
-  find_none : (n : ℕ) → ((m : ℕ) → m < n → same_name (entry_name dir m) name ≡ false) → find_marker dir name n ≡ NoMarker EntryMissing
+  find_none : (n : ℕ) → ((m : ℕ) → m < n → same_name (entry_name dir m) name ≡ false) → find_marker dir name n ≡ Err EntryMissing
   find_none zero none = find_marker-none dir name
   find_none (suc n) none =
       find_marker_on dir name n (suc n) refl refl (none n (omega arith)) ∙ find_none n (λ m h. none m (omega arith))
 
   find-last : (n k : ℕ) → k < n → same_name (entry_name dir k) name ≡ true → ((m : ℕ) → k < m → m < n → same_name (entry_name dir m) name ≡ false)
-      → find_marker dir name n ≡ Entry k
+      → find_marker dir name n ≡ Ok k
   find-last zero k h is none = absurd (omega arith)
   find-last (suc n) k h is none =
       ⊎_elim
-      (λ (e : k ≡ n). find_marker-found dir name n (suc n) refl refl (subst (λ (m : ℕ). same_name (entry_name dir m) name ≡ true) e is) ∙ ap Entry (sym e))
+      (λ (e : k ≡ n). find_marker-found dir name n (suc n) refl refl (subst (λ (m : ℕ). same_name (entry_name dir m) name ≡ true) e is) ∙ ap Ok (sym e))
       (λ (l : k < n).
       find_marker_on dir name n (suc n) refl refl (none n l (omega arith)) ∙ find-last n k l is (λ m a b. none m a (omega arith)))
       (eq-or-lt_of_le (le_of_suc-le-suc h))
@@ -208,12 +207,12 @@ few_if true search other h k = h
 few_if false search other h k = k
 
 few-by : (wad index name : List ℕ) (c : Check) → index_head_check wad index ≡ c → (find_answer wad index name).compared ≤ 13
-few-by wad index name Pass e =
+few-by wad index name (Ok _) e =
     let file = (and_then_pass (file_check wad) _ e).0 in
     let most = (file_sound wad (file-header wad file)).few in
     let few = compared_few (not_above index name) 13 (entry_count (head_of wad)) 0 (entry_count (head_of wad)) (omega arith) in
     rw e (few_if (eqb (length name) 8) _ _ few zero-le)
-few-by wad index name (Refused r) e = rw e zero-le
+few-by wad index name (Err r) e = rw e zero-le
 
 pub lookup-holds : (wad index name : List ℕ) → LookupHolds wad index name
 lookup-holds wad index name =

@@ -2,12 +2,20 @@
 -- smaller search. Assumes nothing.
 use Prim.Native.Nat.{ℕ, zero, suc, ◌+◌, ◌-◌, ◌/◌, ◌≤◌, ◌<◌}
 use mathlib.Core.Bool.{Bool, true, false, cond}
-use mathlib.Core.Path.{◌≡◌, sym, ap, ◌∙◌}
+use mathlib.Core.Path.{◌≡◌, refl, sym, ap, ◌∙◌}
 use native.Mathlib.Omega.{arith}
 use borrow.Author.Tests.{ne_eqb}
 use lib.Dec.{eqb}
-use Rattle.index_find.specs.Finding.{past_by, compared_by}
-use Rattle.index_find.specs.Inner.{of_last}
+use Rattle.std.specs.Bool.{then_some}
+use Rattle.std.specs.Prelude.{List, Ok, Err, ⊤, MatchOption}
+use Rattle.refusal.specs.declared.Refusal.{Refusal}
+use Rattle.refusal.specs.declared.Refusal.TheVariants.{EntryMissing}
+use Rattle.refusal.specs.Checks.{Check, unless, ◌and_then◌}
+use Rattle.refusal.proofs.Checks.{refused-same}
+use Rattle.wad.specs.declared.map.MarkerSearch.{MarkerSearch}
+use Rattle.wad.specs.Map.{searched}
+use Rattle.index_find.specs.Finding.{is_equal, number_in, believed, last_past, past_by, compared_by}
+use Rattle.index_find.specs.Inner.{last_if, entry_of}
 use Rattle.index_find.proofs.Halving.{past-none, past-step, compared_none, compared_step}
 
 module _ (low : ℕ → Bool) where
@@ -102,5 +110,33 @@ module _ (low : ℕ → Bool) where
 
 -- ---- the last record gone past
 
-pub last_more : (test : ℕ → Bool) (i : ℕ) → test i ≡ of_last test (i + 1)
-last_more test i = let e : suc i ≡ i + 1 = omega arith in ap (of_last test) e
+pub last_more : (test : ℕ → Bool) (i : ℕ) → then_some (test i) i ≡ last_if test (i + 1)
+last_more test i = let e : suc i ≡ i + 1 = omega arith in ap (last_if test) e
+
+-- it is one of those gone past
+pub last_within : (test : ℕ → Bool) (past count : ℕ) → past ≤ count → MatchOption (last_if test past) ⊤ (λ i. i < count)
+last_within test zero count h = tt
+last_within test (suc i) count h = by (test i)
+  where
+    by : (b : Bool) → MatchOption (then_some b i) ⊤ (λ i. i < count)
+    by true = h
+    by false = tt
+
+-- ---- what is answered
+
+-- the entry that the last one leads to
+pub entry_last : (dir : List ℕ) (count : ℕ) (index name : List ℕ) (past : ℕ)
+    → entry_of dir count index name (last_if (is_equal index name) past) ≡ last_past dir count index name past
+entry_last dir count index name zero = refl
+entry_last dir count index name (suc i) = by (is_equal index name i)
+  where
+    by : (b : Bool) → entry_of dir count index name (then_some b i) ≡ cond b (believed dir count name (number_in index i)) (Err EntryMissing)
+    by true = refl
+    by false = refl
+
+-- a refusal before any name is compared
+pub nothing_compared : (h : Check) (b : Bool) (search : MarkerSearch) {r : Refusal} → h and_then unless b EntryMissing ≡ Err r
+    → ◌≡◌ {A = MarkerSearch} (record { marker = Err r; compared = 0 }) (searched h (cond b search (record { marker = Err EntryMissing; compared = 0 })))
+nothing_compared (Ok _) true s e = let z : ◌≡◌ {A = ℕ} 0 1 = cc in absurd (omega arith)
+nothing_compared (Ok _) false s e = sym (ap (λ (r : Refusal). record { marker = Err r; compared = 0 }) (refused-same e))
+nothing_compared (Err _) b s e = sym (ap (λ (r : Refusal). record { marker = Err r; compared = 0 }) (refused-same e))

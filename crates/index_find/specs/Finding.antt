@@ -1,11 +1,10 @@
 -- The last entry of a name by an index, by halves (02, W-210). The index is not trusted: the entry that it leads to
 -- is looked up in the directory. Assumes nothing.
-use Rattle.std.specs.Prelude.{ℕ, zero, suc, ◌+◌, ◌-◌, ◌/◌, Bool, false, ◌&&◌, not, cond, List, ltb, eqb, length}
+use Rattle.std.specs.Prelude.{ℕ, zero, suc, ◌+◌, ◌-◌, ◌/◌, Bool, false, ◌&&◌, not, cond, List, ltb, eqb, length, Result, Ok, Err}
 use Rattle.endian.specs.Unsigned.{u16_at}
+use Rattle.refusal.specs.declared.Refusal.{Refusal}
 use Rattle.refusal.specs.declared.Refusal.TheVariants.{EntryMissing}
 use Rattle.name.specs.Names.{same_bytes, same_name}
-use Rattle.wad.specs.declared.map.Marker.{Marker}
-use Rattle.wad.specs.declared.map.Marker.TheVariants.{Entry, Refused as NoMarker}
 use Rattle.wad.specs.declared.map.MarkerSearch.{MarkerSearch}
 use Rattle.wad.specs.Slices.{part}
 use Rattle.wad.specs.Header.{head_of, entry_count}
@@ -48,15 +47,15 @@ compared_by low (suc fuel) past left =
     (compared_by low fuel past (left / 2))))
 
 -- the entry of a number, if it is one and has the name
-abbrev pub believed : List ℕ → ℕ → List ℕ → ℕ → Marker
+abbrev pub believed : List ℕ → ℕ → List ℕ → ℕ → Result ℕ Refusal
 believed dir count name number =
-    cond (ltb number count && same_name (entry_name dir number) name) (Entry number) (NoMarker EntryMissing)
+    cond (ltb number count && same_name (entry_name dir number) name) (Ok number) (Err EntryMissing)
 
 -- the entry of the last record gone past, if that record has the asked name
-abbrev pub last_past : List ℕ → ℕ → List ℕ → List ℕ → ℕ → Marker
-last_past dir count index name zero = NoMarker EntryMissing
+abbrev pub last_past : List ℕ → ℕ → List ℕ → List ℕ → ℕ → Result ℕ Refusal
+last_past dir count index name zero = Err EntryMissing
 last_past dir count index name (suc i) =
-    cond (is_equal index name i) (believed dir count name (number_in index i)) (NoMarker EntryMissing)
+    cond (is_equal index name i) (believed dir count name (number_in index i)) (Err EntryMissing)
 
 -- what the index leads to; a name of another length than eight bytes is compared with nothing
 abbrev pub lookup : List ℕ → ℕ → List ℕ → List ℕ → MarkerSearch
@@ -66,7 +65,7 @@ lookup dir count index name =
       marker = last_past dir count index name (past_by (not_above index name) count 0 count);
       compared = compared_by (not_above index name) count 0 count;
     })
-    (record { marker = NoMarker EntryMissing; compared = 0 })
+    (record { marker = Err EntryMissing; compared = 0 })
 
 -- 1 to 6, 82 and 83, with nothing compared; then the entry, or 11
 abbrev pub find_answer : List ℕ → List ℕ → List ℕ → MarkerSearch

@@ -3,43 +3,52 @@
 
 mod halves;
 
-ghost use Rattle.std.specs.Prelude.{◌≡◌, ◌*◌, ◌≤◌, length};
-ghost use Rattle.wad.specs.declared.map.Marker.TheVariants.{Refused as NoMarker};
+ghost use Rattle.std.specs.Prelude.{◌≡◌, ◌*◌, ◌<◌, ◌≤◌, ⊤, eqb, length, MatchOption};
+ghost use Rattle.refusal.specs.declared.Refusal.TheVariants.{EntryMissing};
+ghost use Rattle.refusal.specs.Checks.{unless, ◌and_then◌};
 ghost use Rattle.index.specs.Index.{record_offset};
-ghost use Rattle.index_find.specs.Finding.{is_equal, believed, last_past, lookup, find_answer};
-ghost use Rattle.index_find.specs.Inner.{of_last};
+ghost use Rattle.index_check.specs.Checking.{index_head_check};
+ghost use Rattle.index_find.specs.Finding.{believed, lookup, find_answer};
+ghost use Rattle.index_find.specs.Inner.{entry_of};
 
-use halves::{GonePast, gone_past};
-use index_check::record_offset;
-use refusal::{Check, Refusal};
-use wad::{Marker, MarkerSearch};
+use halves::gone_past;
+use refusal::Refusal;
+use wad::MarkerSearch;
 
 // The entry of a number from the index, if there is such an entry and it has the name.
-fn believed(dir: &[u8], count: usize, name: &[u8], number: usize) -> Marker
+fn believed(dir: &[u8], count: usize, name: &[u8], number: usize) -> Result<usize, Refusal>
     requires { (16 * count ≤ length dir.now) × (length name.now ≡ 8) }
     ensures { result ≡ believed dir.now count name.now number }
 {
-    if count <= number {
-        return Marker::Refused(Refusal::EntryMissing);
+    if number < count && name::same_name(wad::part(dir, 16 * number + 8, 8), name) {
+        Ok(number)
+    } else {
+        Err(Refusal::EntryMissing)
     }
-    if name::same_name(wad::part(dir, 16 * number + 8, 8), name) {
-        return Marker::Entry(number);
-    }
-    Marker::Refused(Refusal::EntryMissing)
 }
 
 // The entry of the last record gone past, if that record has the asked name. Its name is not compared again.
-fn last_past(dir: &[u8], count: usize, index: &[u8], name: &[u8], gone: GonePast) -> Marker
+fn entry_of(
+    dir: &[u8],
+    count: usize,
+    index: &[u8],
+    name: &[u8],
+    last: Option<usize>,
+) -> Result<usize, Refusal>
     requires count_in_bounds { (16 * count ≤ length dir.now) × (length name.now ≡ 8) }
-    requires past_bound { (gone.past ≤ 4096) × (record_offset gone.past ≤ length index.now) }
-    requires equal_value { gone.equal ≡ of_last (is_equal index.now name.now) gone.past }
-    ensures { result ≡ last_past dir.now count index.now name.now gone.past }
+    requires count_bound { (count ≤ 4096) × (record_offset count ≤ length index.now) }
+    requires last_bound { MatchOption last ⊤ (λ i. i < count) }
+    ensures { result ≡ entry_of dir.now count index.now name.now last }
 {
-    if gone.equal {
-        let at = record_offset(gone.past - 1);
-        return believed(dir, count, name, endian::u16_at(index, at + 8) as usize);
+    match last {
+        Some(i) => believed(
+            dir,
+            count,
+            name,
+            index_check::record_in(index, i).number as usize,
+        ),
+        None => Err(Refusal::EntryMissing),
     }
-    Marker::Refused(Refusal::EntryMissing)
 }
 
 // What the index leads to.
@@ -50,19 +59,17 @@ fn look_up(dir: &[u8], count: usize, index: &[u8], name: &[u8]) -> MarkerSearch
 {
     let gone = gone_past(index, count, name);
     MarkerSearch {
-        marker: last_past(dir, count, index, name, gone),
+        marker: entry_of(dir, count, index, name, gone.last),
         compared: gone.compared,
     }
 }
 
-// A refusal before any name is compared.
-fn nothing_compared(r: Refusal) -> MarkerSearch
-    ensures { result ≡ record { marker = NoMarker r; compared = 0 } }
+// The file and the index's head, and then a name of another length than eight bytes: no entry has it.
+fn judge(wad: &[u8], index: &[u8], name: &[u8]) -> Result<(), Refusal>
+    ensures { result ≡ (index_head_check wad.now index.now and_then unless (eqb (length name.now) 8) EntryMissing) }
 {
-    MarkerSearch {
-        marker: Marker::Refused(r),
-        compared: 0,
-    }
+    index_check::judge_head(wad, index)?;
+    refusal::pass_if(name.len() == 8, Refusal::EntryMissing)
 }
 
 // The last entry of the name, and how many names were compared: 1 to 6 of the file, 82 (head), 83 (version) and 11
@@ -70,11 +77,11 @@ fn nothing_compared(r: Refusal) -> MarkerSearch
 pub fn find(wad: &[u8], index: &[u8], name: &[u8]) -> MarkerSearch
     ensures { result ≡ find_answer wad.now index.now name.now }
 {
-    if let Check::Refused(r) = index_check::judge_head(wad, index) {
-        return nothing_compared(r);
+    match judge(wad, index, name) {
+        Ok(()) => look_up(wad::directory_of(wad), wad::entry_count(wad), index, name),
+        Err(r) => MarkerSearch {
+            marker: Err(r),
+            compared: 0,
+        },
     }
-    if name.len() == 8 {
-        return look_up(wad::directory_of(wad), wad::entry_count(wad), index, name);
-    }
-    nothing_compared(Refusal::EntryMissing)
 }

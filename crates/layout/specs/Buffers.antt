@@ -1,9 +1,8 @@
 -- A lent buffer after a check. Assumes nothing.
-use Rattle.std.specs.Prelude.{List, ◌++◌, ℕ, length, drop}
-use Rattle.refusal.specs.declared.Check.{Check}
-use Rattle.refusal.specs.declared.Check.TheVariants.{Pass, Refused}
+use Rattle.std.specs.Prelude.{List, ◌++◌, ℕ, length, drop, Ok, Err}
+use Rattle.refusal.specs.Checks.{Check}
 
 -- where it passes the first bytes are those that are written, and later ones as found; where it refuses nothing is changed
 abbrev pub buffer_after : Check → List ℕ → List ℕ → List ℕ
-buffer_after Pass written buffer = written ++ drop (length written) buffer
-buffer_after (Refused r) written buffer = buffer
+buffer_after (Ok _) written buffer = written ++ drop (length written) buffer
+buffer_after (Err r) written buffer = buffer

@@ -11,7 +11,7 @@ use lib.Dec.{leb, ltb, eqb}
 use lib.ListN.{length, get_or, set}
 use lib.Seq.{get_or-set_same, get_or-set_other}
 use Rattle.map_blockmap.specs.Blockmap.{word_count, word_at, cells_of, side_ok, header_ok, list_end, list_ends, numbers_from, all_under, list_ok}
-use Rattle.map_blockmap.specs.Notes.{ends_well, bit, NotedFrom}
+use Rattle.map_blockmap.specs.Notes.{ends_well, NotedFrom}
 
 module _ (lump : List ℕ) (linedefs : ℕ) where
   -- a list at word `w` ends well if the mark is there, or a linedef before a place that ends well
@@ -60,22 +60,17 @@ module _ (lump : List ℕ) (linedefs : ℕ) where
       ∙ both_by (eqb w list_end) w (list_ends lump left) (all_under linedefs (numbers_from lump left)) (numbers_from lump left) refl
 
   -- a place noted before those that are noted already
-  pub noted_more : (at top : ℕ) (notes : List ℕ) {b : Bool} {v : ℕ} → at < length notes
-      → v ≡ bit b → b ≡ ends_well lump linedefs (word_count lump - at)
-      → NotedFrom lump linedefs (suc at) top notes → NotedFrom lump linedefs at top (set notes at v)
-  noted_more at top notes {b} {v} h e q rest i low high =
+  pub noted_more : (at top : ℕ) (notes : List Bool) {b : Bool} → at < length notes
+      → b ≡ ends_well lump linedefs (word_count lump - at)
+      → NotedFrom lump linedefs (suc at) top notes → NotedFrom lump linedefs at top (set notes at b)
+  noted_more at top notes {b} h q rest i low high =
       ⊎_elim
       (λ (same : at ≡ i).
-      ap (λ (k : ℕ). get_or (set notes at v) k 0) (sym same) ∙ get_or-set_same notes at v 0 h ∙ e ∙ ap bit q
-      ∙ ap (λ (k : ℕ). bit (ends_well lump linedefs (word_count lump - k))) same)
+      ap (λ (k : ℕ). get_or (set notes at b) k false) (sym same) ∙ get_or-set_same notes at b false h ∙ q
+      ∙ ap (λ (k : ℕ). ends_well lump linedefs (word_count lump - k)) same)
       (λ (later : at < i).
-      get_or-set_other notes at i v 0 (λ (same : i ≡ at). omega arith) ∙ rest i later high)
+      get_or-set_other notes at i b false (λ (same : i ≡ at). omega arith) ∙ rest i later high)
       (eq-or-lt_of_le low)
-
--- a noted test is the test
-pub bit-one : (b : Bool) → eqb (bit b) 1 ≡ b
-bit-one true = refl
-bit-one false = refl
 
 -- ---- a cell's list, by where its offset lies
 
@@ -87,11 +82,11 @@ module _ (lump : List ℕ) (linedefs offset : ℕ) where
   list_ok-past h = rw (le-ltb offset (word_count lump) h, and-false (leb (4 + cells_of lump) offset))
 
   -- where the notes say whether the words after the leading 0 end well
-  pub list_ok-noted : {w v : ℕ} → 4 + cells_of lump ≤ offset → offset < word_count lump → w ≡ word_at lump offset
-      → v ≡ bit (ends_well lump linedefs (word_count lump - (offset + 1))) → (eqb w 0 && eqb v 1) ≡ list_ok lump linedefs offset
+  pub list_ok-noted : {w : ℕ} {v : Bool} → 4 + cells_of lump ≤ offset → offset < word_count lump → w ≡ word_at lump offset
+      → v ≡ ends_well lump linedefs (word_count lump - (offset + 1)) → (eqb w 0 && v) ≡ list_ok lump linedefs offset
   list_ok-noted low high e q =
-      (λ i. eqb (e i) 0 && eqb (q i) 1)
-      ∙ rw (bit-one (ends_well lump linedefs (word_count lump - (offset + 1))), ends_well-list lump linedefs (word_count lump - (offset + 1)), le-leb (4 + cells_of lump) offset low, lt-ltb offset (word_count lump) high)
+      (λ i. eqb (e i) 0 && q i)
+      ∙ rw (ends_well-list lump linedefs (word_count lump - (offset + 1)), le-leb (4 + cells_of lump) offset low, lt-ltb offset (word_count lump) high)
 
 -- ---- a good header
 

@@ -2,7 +2,7 @@
 -- each cell, and lists of linedef numbers. Assumes nothing.
 use Rattle.std.specs.Prelude.{ℕ, zero, suc, ◌+◌, ◌-◌, ◌*◌, ◌/◌, ◌%◌, Bool, true, false, ◌&&◌, ◌||◌, cond, List, [], ◌∷◌, leb, ltb, eqb, length}
 use Rattle.endian.specs.Unsigned.{u16_at}
-use Rattle.refusal.specs.declared.Check.{Check}
+use Rattle.refusal.specs.Checks.{Check}
 use Rattle.refusal.specs.declared.Refusal.TheVariants.{Blockmap}
 use Rattle.refusal.specs.Checks.{unless, ◌and_then◌, each}
 

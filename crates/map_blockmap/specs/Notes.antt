@@ -12,17 +12,12 @@ ends_well lump linedefs (suc left) =
     true
     (ltb (word_at lump (word_count lump - suc left)) linedefs && ends_well lump linedefs left)
 
--- a test as a number
-abbrev pub bit : Bool → ℕ
-bit true = 1
-bit false = 0
-
 -- for the places from `from` to `top`, whether the words from there on end a list well
-abbrev pub NotedFrom : List ℕ → ℕ → ℕ → ℕ → List ℕ → Type 0
+abbrev pub NotedFrom : List ℕ → ℕ → ℕ → ℕ → List Bool → Type 0
 NotedFrom lump linedefs from top notes =
-    (i : ℕ) → from ≤ i → i ≤ top → get_or notes i 0 ≡ bit (ends_well lump linedefs (word_count lump - i))
+    (i : ℕ) → from ≤ i → i ≤ top → get_or notes i false ≡ ends_well lump linedefs (word_count lump - i)
 
 -- the same for every place that a cell's offset and the word after it can reach
-pub record Noted (lump : List ℕ) (linedefs : ℕ) (notes : List ℕ) : Type 0 where
+pub record Noted (lump : List ℕ) (linedefs : ℕ) (notes : List Bool) : Type 0 where
   pub places : min (word_count lump) 65536 < length notes
-  pub noted : (i : ℕ) → i ≤ 65536 → i ≤ word_count lump → get_or notes i 0 ≡ bit (ends_well lump linedefs (word_count lump - i))
+  pub noted : (i : ℕ) → i ≤ 65536 → i ≤ word_count lump → get_or notes i false ≡ ends_well lump linedefs (word_count lump - i)

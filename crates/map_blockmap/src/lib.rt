@@ -3,12 +3,12 @@
 // specs/.
 #![tactic(auto)]
 
-ghost use Rattle.std.specs.Prelude.{true, ◌&&◌, cond, ◌≡◌, ◌+◌, ◌-◌, ◌<◌, ◌≤◌, min, ltb, eqb, length};
+ghost use Rattle.std.specs.Prelude.{true, ◌&&◌, cond, ◌≡◌, ◌+◌, ◌-◌, ◌^◌, ◌<◌, ◌≤◌, min, ltb, eqb, length};
 ghost use Rattle.refusal.specs.Checks.{each};
 ghost use Rattle.map_blockmap.specs.Blockmap.{word_count, word_at, cells_of, side_ok, header_ok, list_ok, cell_check, blockmap_check};
-ghost use Rattle.map_blockmap.specs.Notes.{ends_well, bit, NotedFrom, Noted};
+ghost use Rattle.map_blockmap.specs.Notes.{ends_well, NotedFrom, Noted};
 
-use refusal::{Check, Refusal};
+use refusal::Refusal;
 
 // As many places as a 16-bit offset and the word after it can reach.
 const PLACES: usize = 65537;
@@ -17,13 +17,13 @@ const PLACES: usize = 65537;
 const FEW: usize = 1024;
 
 // 28: the header, then the cells in turn.
-pub fn judge_blockmap(lump: &[u8], linedefs: usize) -> Check
+pub fn judge_blockmap(lump: &[u8], linedefs: usize) -> Result<(), Refusal>
     ensures { result ≡ blockmap_check lump.now linedefs }
 {
-    if header_ok(lump) {
-        return judge_lists(lump, linedefs);
+    if !header_ok(lump) {
+        return Err(Refusal::Blockmap(0));
     }
-    Check::Refused(Refusal::Blockmap(0))
+    judge_lists(lump, linedefs)
 }
 
 fn header_ok(lump: &[u8]) -> bool
@@ -59,34 +59,28 @@ pub fn word_at(lump: &[u8], i: usize) -> usize
 }
 
 // The cells of a lump whose header is good.
-fn judge_lists(lump: &[u8], linedefs: usize) -> Check
+fn judge_lists(lump: &[u8], linedefs: usize) -> Result<(), Refusal>
     requires { header_ok lump.now ≡ true }
     ensures { result ≡ each (cell_check lump.now linedefs) (cells_of lump.now) }
 {
     if lump.len() / 2 < FEW {
-        return judge_few(lump, linedefs);
+        return judge_in::<FEW>(lump, linedefs);
     }
-    judge_many(lump, linedefs)
+    judge_in::<PLACES>(lump, linedefs)
 }
 
-fn judge_few(lump: &[u8], linedefs: usize) -> Check
-    requires { (header_ok lump.now ≡ true) × (word_count lump.now < 1024) }
+// The same with N notes, which are enough.
+fn judge_in<const N: usize>(lump: &[u8], linedefs: usize) -> Result<(), Refusal>
+    requires header { header_ok lump.now ≡ true }
+    requires enough { (min (word_count lump.now) 65536 < N) × (N < 2 ^ 63) }
     ensures { result ≡ each (cell_check lump.now linedefs) (cells_of lump.now) }
 {
-    let mut notes = [0u8; FEW];
-    judge_noting(lump, linedefs, &mut notes)
-}
-
-fn judge_many(lump: &[u8], linedefs: usize) -> Check
-    requires { header_ok lump.now ≡ true }
-    ensures { result ≡ each (cell_check lump.now linedefs) (cells_of lump.now) }
-{
-    let mut notes = [0u8; PLACES];
+    let mut notes = [false; N];
     judge_noting(lump, linedefs, &mut notes)
 }
 
 // The same over notes that are long enough.
-fn judge_noting(lump: &[u8], linedefs: usize, notes: &mut [u8]) -> Check
+fn judge_noting(lump: &[u8], linedefs: usize, notes: &mut [bool]) -> Result<(), Refusal>
     requires { (header_ok lump.now ≡ true) × (min (word_count lump.now) 65536 < length notes.old) }
     ensures { result ≡ each (cell_check lump.now linedefs) (cells_of lump.now) }
 {
@@ -95,21 +89,22 @@ fn judge_noting(lump: &[u8], linedefs: usize, notes: &mut [u8]) -> Check
     judge_cells(lump, cells, linedefs, notes)
 }
 
-fn judge_cells(lump: &[u8], cells: usize, linedefs: usize, notes: &[u8]) -> Check
+fn judge_cells(lump: &[u8], cells: usize, linedefs: usize, notes: &[bool]) -> Result<(), Refusal>
     requires cells_value { (cells ≡ cells_of lump.now) × (4 + cells ≤ word_count lump.now) }
     requires noted { Noted lump.now linedefs notes.now }
     ensures { result ≡ each (cell_check lump.now linedefs) cells }
 {
     for i in 0..cells {
-        if !cell_ok(lump, cells, linedefs, notes, i) {
-            return Check::Refused(Refusal::Blockmap(i));
-        }
+        refusal::pass_if(
+            cell_ok(lump, cells, linedefs, notes, i),
+            Refusal::Blockmap(i),
+        )?;
     }
-    Check::Pass
+    Ok(())
 }
 
 // One look at the notes tells of a cell's list.
-fn cell_ok(lump: &[u8], cells: usize, linedefs: usize, notes: &[u8], i: usize) -> bool
+fn cell_ok(lump: &[u8], cells: usize, linedefs: usize, notes: &[bool], i: usize) -> bool
     requires cells_value { (cells ≡ cells_of lump.now) × ((4 + cells ≤ word_count lump.now) × (i < cells)) }
     requires noted { Noted lump.now linedefs notes.now }
     ensures { result ≡ list_ok lump.now linedefs (word_at lump.now (4 + i)) }
@@ -121,23 +116,17 @@ fn cell_ok(lump: &[u8], cells: usize, linedefs: usize, notes: &[u8], i: usize) -
     if lump.len() / 2 <= offset {
         return false;
     }
-    (word_at(lump, offset) == 0) & (notes[offset + 1] == 1)
+    (word_at(lump, offset) == 0) & notes[offset + 1]
 }
 
 // Notes for every place that an offset can reach whether the words from there on end a list well.
-fn note_lists(lump: &[u8], linedefs: usize, notes: &mut [u8])
+fn note_lists(lump: &[u8], linedefs: usize, notes: &mut [bool])
     requires { min (word_count lump.now) 65536 < length notes.old }
     ensures { Noted lump.now linedefs notes.new }
 {
-    let top = smaller(lump.len() / 2, 65536);
+    let top = (lump.len() / 2).min(65536);
     let well = ends_from(lump, linedefs, top);
     note_below(lump, linedefs, top, well, notes);
-}
-
-fn smaller(a: usize, b: usize) -> usize
-    ensures { result ≡ min a b }
-{
-    if a <= b { a } else { b }
 }
 
 // Whether the words from `first` on end a list well.
@@ -145,10 +134,8 @@ fn ends_from(lump: &[u8], linedefs: usize, first: usize) -> bool
     requires { first ≤ word_count lump.now }
     ensures { result ≡ ends_well lump.now linedefs (word_count lump.now - first) }
 {
-    let mut at = lump.len() / 2;
     let mut well = false;
-    while first < at {
-        at -= 1;
+    for at in (first..lump.len() / 2).rev() {
         well = ends_at(word_at(lump, at), linedefs, well);
     }
     well
@@ -156,18 +143,16 @@ fn ends_from(lump: &[u8], linedefs: usize, first: usize) -> bool
 
 // Notes for each place below `top` whether the words from there on end a list well. The words from `top` on do as `well`
 // says.
-fn note_below(lump: &[u8], linedefs: usize, top: usize, well: bool, notes: &mut [u8])
+fn note_below(lump: &[u8], linedefs: usize, top: usize, well: bool, notes: &mut [bool])
     requires top_bound { (top ≤ word_count lump.now) × (top < length notes.old) }
     requires well_value { well ≡ ends_well lump.now linedefs (word_count lump.now - top) }
     ensures { NotedFrom lump.now linedefs 0 top notes.new }
 {
-    notes[top] = flag(well);
-    let mut at = top;
+    notes[top] = well;
     let mut ends = well;
-    while 0 < at {
-        at -= 1;
+    for at in (0..top).rev() {
         ends = ends_at(word_at(lump, at), linedefs, ends);
-        notes[at] = flag(ends);
+        notes[at] = ends;
     }
 }
 
@@ -179,10 +164,4 @@ fn ends_at(word: usize, linedefs: usize, after: bool) -> bool
         return true;
     }
     (word < linedefs) & after
-}
-
-fn flag(b: bool) -> u8
-    ensures { result ≡ bit b }
-{
-    if b { 1 } else { 0 }
 }

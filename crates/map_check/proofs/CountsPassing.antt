@@ -7,7 +7,7 @@ use native.Mathlib.Omega.{arith}
 use borrow.Author.Tests.{leb-true, leb-false, ltb-true, eqb-true, le-leb, lt-leb}
 use lib.Dec.{leb, ltb, eqb}
 use lib.ListN.{length}
-use Rattle.refusal.specs.declared.Check.TheVariants.{Pass}
+use Rattle.std.specs.Prelude.{Ok}
 use Rattle.refusal.specs.declared.Refusal.TheVariants.{RecordSize, RecordCount}
 use Rattle.refusal.specs.Checks.{unless}
 use Rattle.refusal.proofs.Checks.{both, and_then_pass, unless_pass}
@@ -21,7 +21,7 @@ use Rattle.map_lumps.proofs.Places.{each_place_pass, nodes_size}
 
 -- ---- 20 and 21: sizes and counts
 
-module _ (hexen : Bool) (lumps : List (List ℕ)) (e : each_place (size_check hexen lumps) 8 ≡ Pass) where
+module _ (hexen : Bool) (lumps : List (List ℕ)) (e : each_place (size_check hexen lumps) 8 ≡ Ok tt) where
   module _ (place : ℕ) (low : 1 ≤ place) (high : place ≤ 8) where
     abbrev count : ℕ
     count = record_count lumps place (record_size hexen place)

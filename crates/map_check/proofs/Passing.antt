@@ -7,7 +7,7 @@ use native.Mathlib.Omega.{arith}
 use borrow.Author.Tests.{leb-true, ltb-true}
 use lib.Dec.{leb, ltb, eqb}
 use lib.ListN.{length}
-use Rattle.refusal.specs.declared.Check.TheVariants.{Pass}
+use Rattle.std.specs.Prelude.{Ok}
 use Rattle.refusal.specs.declared.Refusal.TheVariants.{MarkerRun, SubsectorReference, NodeReference, WorkWords}
 use Rattle.refusal.specs.Checks.{unless, ◌and_then◌}
 use Rattle.refusal.proofs.Checks.{both, and_then_pass, unless_pass, each_pass}
@@ -39,7 +39,7 @@ use Rattle.map_check.proofs.CountsPassing.{count-least, count_most, nodes_whole,
 
 -- ---- 12: the ten lumps follow the marker
 
-pub run_long : (dir : List ℕ) (count marker : ℕ) → run_check dir count marker ≡ Pass → marker + 11 ≤ count
+pub run_long : (dir : List ℕ) (count marker : ℕ) → run_check dir count marker ≡ Ok tt → marker + 11 ≤ count
 run_long dir count marker e =
     let p = and_then_pass (unless (eqb (entry_size dir marker) 0) (MarkerRun 0)) (each_place (place_check dir count marker) 10) e in
     let last = each_place_pass (place_check dir count marker) 10 p.1 BLOCKMAP (omega arith) (omega arith) in
@@ -49,18 +49,18 @@ run_long dir count marker e =
 
 -- ---- 20 to 30
 
-module _ (hexen : Bool) (lumps : List (List ℕ)) (words : ℕ) (e : lumps_check hexen lumps words ≡ Pass) where
-  sizes : sizes_check hexen lumps ≡ Pass
+module _ (hexen : Bool) (lumps : List (List ℕ)) (words : ℕ) (e : lumps_check hexen lumps words ≡ Ok tt) where
+  sizes : sizes_check hexen lumps ≡ Ok tt
   sizes = (and_then_pass (sizes_check hexen lumps) _ e).0
 
-  pub counts : each_place (size_check hexen lumps) 8 ≡ Pass
+  pub counts : each_place (size_check hexen lumps) 8 ≡ Ok tt
   counts = (and_then_pass (each_place (size_check hexen lumps) 8) (reject_check lumps) sizes).0
 
-  rest : (references_check hexen lumps and_then (blockmap_check (map_lump lumps BLOCKMAP) (record_count lumps LINEDEFS (linedef_size hexen)) and_then work_check lumps words)) ≡ Pass
+  rest : (references_check hexen lumps and_then (blockmap_check (map_lump lumps BLOCKMAP) (record_count lumps LINEDEFS (linedef_size hexen)) and_then work_check lumps words)) ≡ Ok tt
   rest = (and_then_pass (sizes_check hexen lumps) _ e).1
 
   -- 26 and 27
-  both_pass : (subsectors_check lumps ≡ Pass) × (nodes_check lumps ≡ Pass)
+  both_pass : (subsectors_check lumps ≡ Ok tt) × (nodes_check lumps ≡ Ok tt)
   both_pass =
       let references = (and_then_pass (references_check hexen lumps) _ rest).0 in
       let p = (and_then_pass (linedefs_check hexen lumps) _ references).1 in
@@ -69,12 +69,12 @@ module _ (hexen : Bool) (lumps : List (List ℕ)) (words : ℕ) (e : lumps_check
       and_then_pass (subsectors_check lumps) (nodes_check lumps) r
 
   -- 28 and 30
-  last_pass : (blockmap_check (map_lump lumps BLOCKMAP) (record_count lumps LINEDEFS (linedef_size hexen)) ≡ Pass) × (work_check lumps words ≡ Pass)
+  last_pass : (blockmap_check (map_lump lumps BLOCKMAP) (record_count lumps LINEDEFS (linedef_size hexen)) ≡ Ok tt) × (work_check lumps words ≡ Ok tt)
   last_pass =
       let p = (and_then_pass (references_check hexen lumps) _ rest).1 in
       and_then_pass (blockmap_check (map_lump lumps BLOCKMAP) (record_count lumps LINEDEFS (linedef_size hexen))) (work_check lumps words) p
 
-  pub blockmap_pass : blockmap_check (map_lump lumps BLOCKMAP) (record_count lumps LINEDEFS (linedef_size hexen)) ≡ Pass
+  pub blockmap_pass : blockmap_check (map_lump lumps BLOCKMAP) (record_count lumps LINEDEFS (linedef_size hexen)) ≡ Ok tt
   blockmap_pass = last_pass.0
 
   -- the segs of each subsector are the map's
@@ -122,12 +122,12 @@ module _ (wad : List ℕ) (marker lent : ℕ) where
       → map_check dir count marker (map_lumps wad dir marker) lent ≡ check_at wad marker lent
   check-same d n = λ i. map_check (d i) (n i) marker (map_lumps wad (d i) marker) lent
 
-  module _ (e : check_at wad marker lent ≡ Pass) where
-    two : (run_check (directory_of wad) (entry_count (head_of wad)) marker ≡ Pass)
-        × (lumps_check (game_at (directory_of wad) (entry_count (head_of wad)) marker) (map_lumps wad (directory_of wad) marker) lent ≡ Pass)
+  module _ (e : check_at wad marker lent ≡ Ok tt) where
+    two : (run_check (directory_of wad) (entry_count (head_of wad)) marker ≡ Ok tt)
+        × (lumps_check (game_at (directory_of wad) (entry_count (head_of wad)) marker) (map_lumps wad (directory_of wad) marker) lent ≡ Ok tt)
     two = and_then_pass (run_check (directory_of wad) (entry_count (head_of wad)) marker) _ e
 
-    pub lumps_pass : lumps_check (game_at (directory_of wad) (entry_count (head_of wad)) marker) (map_lumps wad (directory_of wad) marker) lent ≡ Pass
+    pub lumps_pass : lumps_check (game_at (directory_of wad) (entry_count (head_of wad)) marker) (map_lumps wad (directory_of wad) marker) lent ≡ Ok tt
     lumps_pass = two.1
 
     pub long_at : marker + 11 ≤ entry_count (head_of wad)

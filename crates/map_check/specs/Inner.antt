@@ -3,8 +3,7 @@ use Rattle.std.specs.Prelude.{ℕ, ◌*◌, List, ◌≡◌}
 use Rattle.node.specs.Nodes.{nodes_of}
 use Rattle.node_route.specs.Heights.{graph_verdict}
 use Rattle.node_graph.specs.Judging.{cleared}
-use Rattle.map_check.specs.declared.Verdict.{Verdict}
-use Rattle.map_check.specs.Verdict.{graph_answer}
+use Rattle.map_check.specs.Verdict.{Verdict, graph_answer}
 
 -- what the map check answers where only the node graph is left to judge
 pub record AnsweredBy (nodes : List ℕ) (marker : ℕ) (words : List ℕ) (answer : Verdict) (after : List ℕ) : Type 0 where

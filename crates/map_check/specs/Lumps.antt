@@ -1,6 +1,6 @@
 -- The checks of a map's own lumps, 20 to 30, in the order of 01's table. Assumes nothing.
 use Rattle.std.specs.Prelude.{ℕ, ◌*◌, Bool, List, leb}
-use Rattle.refusal.specs.declared.Check.{Check}
+use Rattle.refusal.specs.Checks.{Check}
 use Rattle.refusal.specs.declared.Refusal.TheVariants.{WorkWords}
 use Rattle.refusal.specs.Checks.{unless, ◌and_then◌}
 use Rattle.map_blockmap.specs.Blockmap.{blockmap_check}

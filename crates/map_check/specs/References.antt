@@ -1,6 +1,6 @@
 -- The references of a map's records to each other, over its lumps: 23 to 27 (01, "References"). Assumes nothing.
 use Rattle.std.specs.Prelude.{ℕ, Bool, List}
-use Rattle.refusal.specs.declared.Check.{Check}
+use Rattle.refusal.specs.Checks.{Check}
 use Rattle.refusal.specs.Checks.{◌and_then◌, each}
 use Rattle.record_linedef.specs.Linedefs.{linedef_size}
 use Rattle.record.specs.Sidedefs.{sidedef_size}

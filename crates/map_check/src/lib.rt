@@ -3,8 +3,7 @@
 
 mod lumps;
 
-ghost use Rattle.std.specs.Prelude.{◌≡◌, ◌*◌, ◌/◌, ◌<◌, ◌≤◌, length};
-ghost use Rattle.refusal.specs.declared.Check.TheVariants.{Pass};
+ghost use Rattle.std.specs.Prelude.{◌≡◌, ◌*◌, ◌/◌, ◌<◌, ◌≤◌, length, Ok};
 ghost use Rattle.wad.specs.Header.{head_of, entry_count};
 ghost use Rattle.wad.specs.Entries.{file_check};
 ghost use Rattle.node.specs.Nodes.{nodes_of};
@@ -13,39 +12,35 @@ ghost use Rattle.map_lumps.specs.Lumps.{map_lumps};
 ghost use Rattle.map_check.specs.Inner.{AnsweredBy};
 ghost use Rattle.map_check.specs.Verdict.{map_check, graph_answer, Answered, AnsweredAt};
 
-use node_route::Graph;
+use node_route::GraphError;
 use record::Node;
-use refusal::{Check, Refusal};
-use wad::Marker;
+use refusal::Refusal;
 
-// What is answered of a map.
-#[derive(Clone, Copy)]
-pub enum Verdict {
-    // the largest number of nodes on a route, and the marker's entry number
-    Accepted { depth: usize, marker: usize },
-    Refused(Refusal),
+// What is answered of a map that passes.
+#[derive(Clone, Copy, Debug, PartialEq, Eq)]
+pub struct Accepted {
+    // the largest number of nodes on a route
+    pub depth: usize,
+    // the marker's entry number
+    pub marker: usize,
 }
 
 // The map of the asked name, judged. The words are lent for the node graph: four for each node. A refusal below 31 leaves
 // them as found; 31, 32 and acceptance leave the first four for each node zero and the others as found.
-pub fn judge_map(wad: &[u8], name: &[u8], words: &mut [u16]) -> Verdict
+pub fn judge_map(wad: &[u8], name: &[u8], words: &mut [u16]) -> Result<Accepted, Refusal>
     ensures { Answered wad.now name.now words.old result words.new }
 {
-    match wad::find_map(wad, name) {
-        Marker::Refused(r) => Verdict::Refused(r),
-        Marker::Entry(marker) => judge_at(wad, marker, words),
-    }
+    let marker = wad::find_map(wad, name)?;
+    judge_at(wad, marker, words)
 }
 
 // The map at a marker that was found. Whoever searches in another way, as in a pair of files, goes on here.
-pub fn judge_at(wad: &[u8], marker: usize, words: &mut [u16]) -> Verdict
-    requires { (file_check wad.now ≡ Pass) × (marker < entry_count (head_of wad.now)) }
+pub fn judge_at(wad: &[u8], marker: usize, words: &mut [u16]) -> Result<Accepted, Refusal>
+    requires { (file_check wad.now ≡ Ok tt) × (marker < entry_count (head_of wad.now)) }
     ensures { AnsweredAt wad.now marker words.old result words.new }
 {
     let dir = wad::directory_of(wad);
-    if let Check::Refused(r) = judge_below(wad, dir, wad::entry_count(wad), marker, words.len()) {
-        return Verdict::Refused(r);
-    }
+    judge_below(wad, dir, wad::entry_count(wad), marker, words.len())?;
     judge_graph(
         map_lumps::map_lump(wad, dir, marker, Node::PLACE),
         marker,
@@ -54,14 +49,18 @@ pub fn judge_at(wad: &[u8], marker: usize, words: &mut [u16]) -> Verdict
 }
 
 // 12 to 30. Who prints the reason of a refusal goes on from here (W-211).
-pub fn judge_below(wad: &[u8], dir: &[u8], count: usize, marker: usize, words: usize) -> Check
+pub fn judge_below(
+    wad: &[u8],
+    dir: &[u8],
+    count: usize,
+    marker: usize,
+    words: usize,
+) -> Result<(), Refusal>
     requires { (16 * count ≤ length dir.now) × (marker < count) }
     ensures { result ≡ map_check dir.now count marker
         (map_lumps wad.now dir.now marker) words }
 {
-    if let Check::Refused(r) = map_lumps::judge_run(dir, count, marker) {
-        return Check::Refused(r);
-    }
+    map_lumps::judge_run(dir, count, marker)?;
     lumps::check_lumps(
         map_lumps::game_at(dir, count, marker),
         wad,
@@ -72,7 +71,7 @@ pub fn judge_below(wad: &[u8], dir: &[u8], count: usize, marker: usize, words: u
 }
 
 // 31, 32, or accepted.
-fn judge_graph(nodes: &[u8], marker: usize, words: &mut [u16]) -> Verdict
+fn judge_graph(nodes: &[u8], marker: usize, words: &mut [u16]) -> Result<Accepted, Refusal>
     requires { Judgeable nodes.now (nodes_of nodes.now) words.old }
     ensures { AnsweredBy nodes.now marker words.old result words.new }
 {
@@ -83,12 +82,9 @@ fn judge_graph(nodes: &[u8], marker: usize, words: &mut [u16]) -> Verdict
 }
 
 // A graph's verdict as the map's.
-pub fn verdict_of(graph: Graph, marker: usize) -> Verdict
+pub fn verdict_of(graph: Result<usize, GraphError>, marker: usize) -> Result<Accepted, Refusal>
     ensures { result ≡ graph_answer graph marker }
 {
-    match graph {
-        Graph::HasLoop => Verdict::Refused(Refusal::NodeLoop),
-        Graph::HasShared => Verdict::Refused(Refusal::NodeShared),
-        Graph::HasDepth(depth) => Verdict::Accepted { depth, marker },
-    }
+    let depth = graph?;
+    Ok(Accepted { depth, marker })
 }

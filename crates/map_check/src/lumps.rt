@@ -1,6 +1,5 @@
 // The checks of a map's lumps, each on the parts of the file that the directory names: refusals 20 to 30 in their order.
-ghost use Rattle.std.specs.Prelude.{◌≡◌, ◌+◌, ◌*◌, ◌≤◌, length};
-ghost use Rattle.refusal.specs.declared.Check.TheVariants.{Pass};
+ghost use Rattle.std.specs.Prelude.{◌≡◌, ◌+◌, ◌*◌, ◌≤◌, length, Ok};
 ghost use Rattle.record_linedef.specs.Linedefs.{linedef_size};
 ghost use Rattle.record_table.specs.Lumps.{LINEDEFS, BLOCKMAP};
 ghost use Rattle.map_blockmap.specs.Blockmap.{blockmap_check};
@@ -13,14 +12,15 @@ use map_blockmap::judge_blockmap;
 use map_lumps::{judge_reject, judge_sizes, map_lump, record_count};
 use map_reference::{judge_linedefs, judge_nodes, judge_segs, judge_sidedefs, judge_subsectors};
 use record::{Node, Sector, Seg, Sidedef, Subsector, Vertex};
+use record_field::GameRecord;
 use record_linedef::Linedef;
 use record_table::{BLOCKMAP, REJECT};
-use refusal::{Check, Refusal};
+use refusal::Refusal;
 
 // 22. The counts have passed.
-fn check_reject(hexen: bool, wad: &[u8], dir: &[u8], marker: usize) -> Check
+fn check_reject(hexen: bool, wad: &[u8], dir: &[u8], marker: usize) -> Result<(), Refusal>
     requires marker_in_bounds { 16 * (marker + 11) ≤ length dir.now }
-    requires marker_value { each_place (size_check hexen (map_lumps wad.now dir.now marker)) 8 ≡ Pass }
+    requires marker_value { each_place (size_check hexen (map_lumps wad.now dir.now marker)) 8 ≡ Ok tt }
     ensures { result ≡ reject_check (map_lumps wad.now dir.now marker) }
 {
     judge_reject(
@@ -30,17 +30,15 @@ fn check_reject(hexen: bool, wad: &[u8], dir: &[u8], marker: usize) -> Check
 }
 
 // 20 to 22.
-fn check_sizes(hexen: bool, wad: &[u8], dir: &[u8], marker: usize) -> Check
+fn check_sizes(hexen: bool, wad: &[u8], dir: &[u8], marker: usize) -> Result<(), Refusal>
     requires { 16 * (marker + 11) ≤ length dir.now }
     ensures { result ≡ sizes_check hexen (map_lumps wad.now dir.now marker) }
 {
-    if let Check::Refused(r) = judge_sizes(hexen, wad, dir, marker) {
-        return Check::Refused(r);
-    }
+    judge_sizes(hexen, wad, dir, marker)?;
     check_reject(hexen, wad, dir, marker)
 }
 
-fn check_linedefs(hexen: bool, wad: &[u8], dir: &[u8], marker: usize) -> Check
+fn check_linedefs(hexen: bool, wad: &[u8], dir: &[u8], marker: usize) -> Result<(), Refusal>
     requires { 16 * (marker + 11) ≤ length dir.now }
     ensures { result ≡ linedefs_check hexen (map_lumps wad.now dir.now marker) }
 {
@@ -52,7 +50,7 @@ fn check_linedefs(hexen: bool, wad: &[u8], dir: &[u8], marker: usize) -> Check
     )
 }
 
-fn check_sidedefs(wad: &[u8], dir: &[u8], marker: usize) -> Check
+fn check_sidedefs(wad: &[u8], dir: &[u8], marker: usize) -> Result<(), Refusal>
     requires { 16 * (marker + 11) ≤ length dir.now }
     ensures { result ≡ sidedefs_check (map_lumps wad.now dir.now marker) }
 {
@@ -62,7 +60,7 @@ fn check_sidedefs(wad: &[u8], dir: &[u8], marker: usize) -> Check
     )
 }
 
-fn check_segs(hexen: bool, wad: &[u8], dir: &[u8], marker: usize) -> Check
+fn check_segs(hexen: bool, wad: &[u8], dir: &[u8], marker: usize) -> Result<(), Refusal>
     requires { 16 * (marker + 11) ≤ length dir.now }
     ensures { result ≡ segs_check hexen (map_lumps wad.now dir.now marker) }
 {
@@ -74,7 +72,7 @@ fn check_segs(hexen: bool, wad: &[u8], dir: &[u8], marker: usize) -> Check
     )
 }
 
-fn check_subsectors(wad: &[u8], dir: &[u8], marker: usize) -> Check
+fn check_subsectors(wad: &[u8], dir: &[u8], marker: usize) -> Result<(), Refusal>
     requires { 16 * (marker + 11) ≤ length dir.now }
     ensures { result ≡ subsectors_check (map_lumps wad.now dir.now marker) }
 {
@@ -84,7 +82,7 @@ fn check_subsectors(wad: &[u8], dir: &[u8], marker: usize) -> Check
     )
 }
 
-fn check_nodes(wad: &[u8], dir: &[u8], marker: usize) -> Check
+fn check_nodes(wad: &[u8], dir: &[u8], marker: usize) -> Result<(), Refusal>
     requires { 16 * (marker + 11) ≤ length dir.now }
     ensures { result ≡ nodes_check (map_lumps wad.now dir.now marker) }
 {
@@ -95,27 +93,19 @@ fn check_nodes(wad: &[u8], dir: &[u8], marker: usize) -> Check
 }
 
 // 23 to 27.
-fn check_references(hexen: bool, wad: &[u8], dir: &[u8], marker: usize) -> Check
+fn check_references(hexen: bool, wad: &[u8], dir: &[u8], marker: usize) -> Result<(), Refusal>
     requires { 16 * (marker + 11) ≤ length dir.now }
     ensures { result ≡ references_check hexen (map_lumps wad.now dir.now marker) }
 {
-    if let Check::Refused(r) = check_linedefs(hexen, wad, dir, marker) {
-        return Check::Refused(r);
-    }
-    if let Check::Refused(r) = check_sidedefs(wad, dir, marker) {
-        return Check::Refused(r);
-    }
-    if let Check::Refused(r) = check_segs(hexen, wad, dir, marker) {
-        return Check::Refused(r);
-    }
-    if let Check::Refused(r) = check_subsectors(wad, dir, marker) {
-        return Check::Refused(r);
-    }
+    check_linedefs(hexen, wad, dir, marker)?;
+    check_sidedefs(wad, dir, marker)?;
+    check_segs(hexen, wad, dir, marker)?;
+    check_subsectors(wad, dir, marker)?;
     check_nodes(wad, dir, marker)
 }
 
 // 28.
-fn check_blockmap(hexen: bool, wad: &[u8], dir: &[u8], marker: usize) -> Check
+fn check_blockmap(hexen: bool, wad: &[u8], dir: &[u8], marker: usize) -> Result<(), Refusal>
     requires { 16 * (marker + 11) ≤ length dir.now }
     ensures { result ≡ blockmap_check (map_lump (map_lumps wad.now dir.now marker) BLOCKMAP)
         (record_count (map_lumps wad.now dir.now marker) LINEDEFS (linedef_size hexen)) }
@@ -127,7 +117,7 @@ fn check_blockmap(hexen: bool, wad: &[u8], dir: &[u8], marker: usize) -> Check
 }
 
 // 30. A quarter of the words, so that no product can wrap.
-fn check_work(wad: &[u8], dir: &[u8], marker: usize, words: usize) -> Check
+fn check_work(wad: &[u8], dir: &[u8], marker: usize, words: usize) -> Result<(), Refusal>
     requires { 16 * (marker + 11) ≤ length dir.now }
     ensures { result ≡ work_check (map_lumps wad.now dir.now marker) words }
 {
@@ -138,18 +128,18 @@ fn check_work(wad: &[u8], dir: &[u8], marker: usize, words: usize) -> Check
 }
 
 // 20 to 30.
-pub fn check_lumps(hexen: bool, wad: &[u8], dir: &[u8], marker: usize, words: usize) -> Check
+pub fn check_lumps(
+    hexen: bool,
+    wad: &[u8],
+    dir: &[u8],
+    marker: usize,
+    words: usize,
+) -> Result<(), Refusal>
     requires { 16 * (marker + 11) ≤ length dir.now }
     ensures { result ≡ lumps_check hexen (map_lumps wad.now dir.now marker) words }
 {
-    if let Check::Refused(r) = check_sizes(hexen, wad, dir, marker) {
-        return Check::Refused(r);
-    }
-    if let Check::Refused(r) = check_references(hexen, wad, dir, marker) {
-        return Check::Refused(r);
-    }
-    if let Check::Refused(r) = check_blockmap(hexen, wad, dir, marker) {
-        return Check::Refused(r);
-    }
+    check_sizes(hexen, wad, dir, marker)?;
+    check_references(hexen, wad, dir, marker)?;
+    check_blockmap(hexen, wad, dir, marker)?;
     check_work(wad, dir, marker, words)
 }

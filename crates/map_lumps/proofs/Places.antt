@@ -5,8 +5,8 @@ use mathlib.Core.List.{List}
 use mathlib.Core.Path.{◌≡◌, refl, ap, sym, ◌∙◌}
 use native.Mathlib.Numerals.{add-one}
 use native.Mathlib.Omega.{arith}
-use Rattle.refusal.specs.declared.Check.{Check}
-use Rattle.refusal.specs.declared.Check.TheVariants.{Pass}
+use Rattle.refusal.specs.Checks.{Check}
+use Rattle.std.specs.Prelude.{Ok}
 use Rattle.refusal.proofs.Checks.{each_pass}
 use Rattle.wad.specs.Lump.{lump_at}
 use Rattle.record.specs.Subsectors.{subsector_size}
@@ -65,6 +65,6 @@ sectors_size true = refl
 sectors_size false = refl
 
 -- a scan of the places that passes says that the check of each passes
-pub each_place_pass : (f : ℕ → Check) (n : ℕ) → each_place f n ≡ Pass → (place : ℕ) → 1 ≤ place → place ≤ n → f place ≡ Pass
+pub each_place_pass : (f : ℕ → Check) (n : ℕ) → each_place f n ≡ Ok tt → (place : ℕ) → 1 ≤ place → place ≤ n → f place ≡ Ok tt
 each_place_pass f n e zero low high = absurd (omega arith)
 each_place_pass f n e (suc i) low high = ap f (sym (add-one i)) ∙ each_pass (λ j. f (j + 1)) n e i (omega arith)

@@ -5,7 +5,7 @@ use mathlib.Core.List.{List}
 use mathlib.Core.Path.{◌≡◌, sym}
 use lib.Dec.{ltb}
 use Rattle.refusal.specs.declared.Refusal.TheVariants.{EntryNumber}
-use Rattle.refusal.specs.declared.Check.{Check}
+use Rattle.refusal.specs.Checks.{Check}
 use Rattle.refusal.specs.Checks.{unless, ◌and_then◌}
 use Rattle.wad.specs.Header.{head_of, entry_count}
 use Rattle.wad.specs.Entries.{directory_of, file_check}

@@ -1,7 +1,7 @@
 -- A map's own ten lumps (01, "One map"), as the parts of the file that the ten entries after the marker name, by their
 -- places. Assumes nothing.
 use Rattle.std.specs.Prelude.{ℕ, ◌+◌, ◌/◌, List, [], ◌∷◌, map, length, get_or}
-use Rattle.refusal.specs.declared.Check.{Check}
+use Rattle.refusal.specs.Checks.{Check}
 use Rattle.refusal.specs.Checks.{each}
 use Rattle.wad.specs.Lump.{lump_at}
 use Rattle.record_table.specs.Lumps.{THINGS, LINEDEFS, SIDEDEFS, VERTEXES, SEGS, SSECTORS, NODES, SECTORS, REJECT, BLOCKMAP}

@@ -1,6 +1,6 @@
 -- The marker and the ten names after it: 12 (01, "One map"). Assumes nothing.
 use Rattle.std.specs.Prelude.{ℕ, ◌+◌, Bool, ◌&&◌, List, ltb, eqb}
-use Rattle.refusal.specs.declared.Check.{Check}
+use Rattle.refusal.specs.Checks.{Check}
 use Rattle.refusal.specs.declared.Refusal.TheVariants.{MarkerRun}
 use Rattle.refusal.specs.Checks.{unless, ◌and_then◌}
 use Rattle.wad.specs.Entries.{entry_name}

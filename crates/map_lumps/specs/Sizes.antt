@@ -1,7 +1,7 @@
 -- Sizes and counts of the eight lumps of records, by the game, and the length of REJECT: 20 to 22 (01, "One map"; W-205).
 -- Assumes nothing.
 use Rattle.std.specs.Prelude.{ℕ, ◌+◌, ◌*◌, ◌/◌, ◌%◌, Bool, not, ◌&&◌, ◌||◌, List, leb, ltb, eqb, length}
-use Rattle.refusal.specs.declared.Check.{Check}
+use Rattle.refusal.specs.Checks.{Check}
 use Rattle.refusal.specs.declared.Refusal.TheVariants.{RecordSize, RecordCount, RejectLength}
 use Rattle.refusal.specs.Checks.{unless, ◌and_then◌}
 use Rattle.record.specs.Subsectors.{subsector_size}

@@ -4,14 +4,12 @@ ghost use Rattle.map_lumps.specs.Lumps.{each_place};
 ghost use Rattle.map_lumps.specs.Run.{named_ok, place_check, run_check};
 ghost use Rattle.map_lumps.specs.Games.{game_at, game_answer};
 
-use refusal::{Check, Refusal};
+use refusal::Refusal;
 
-// What is answered of a map's game.
-#[derive(Clone, Copy)]
+#[derive(Clone, Copy, Debug, PartialEq, Eq)]
 pub enum Game {
     Doom,
     Hexen,
-    Refused(Refusal),
 }
 
 fn named_ok(dir: &[u8], count: usize, i: usize, name: &[u8]) -> bool
@@ -24,7 +22,7 @@ fn named_ok(dir: &[u8], count: usize, i: usize, name: &[u8]) -> bool
     false
 }
 
-fn judge_place(dir: &[u8], count: usize, marker: usize, place: usize) -> Check
+fn judge_place(dir: &[u8], count: usize, marker: usize, place: usize) -> Result<(), Refusal>
     requires { (16 * count ≤ length dir.now) × (marker < count) × (1 ≤ place) × (place ≤ 10) }
     ensures { result ≡ place_check dir.now count marker place }
 {
@@ -35,31 +33,28 @@ fn judge_place(dir: &[u8], count: usize, marker: usize, place: usize) -> Check
     )
 }
 
-fn judge_places(dir: &[u8], count: usize, marker: usize) -> Check
+fn judge_places(dir: &[u8], count: usize, marker: usize) -> Result<(), Refusal>
     requires { (16 * count ≤ length dir.now) × (marker < count) }
     ensures { result ≡ each_place (place_check dir.now count marker) 10 }
 {
     for i in 0..10 {
-        if let Check::Refused(r) = judge_place(dir, count, marker, i + 1) {
-            return Check::Refused(r);
-        }
+        judge_place(dir, count, marker, i + 1)?;
     }
-    Check::Pass
+    Ok(())
 }
 
 // 12 in place order.
-pub fn judge_run(dir: &[u8], count: usize, marker: usize) -> Check
+pub fn judge_run(dir: &[u8], count: usize, marker: usize) -> Result<(), Refusal>
     requires { (16 * count ≤ length dir.now) × (marker < count) }
     ensures { result ≡ run_check dir.now count marker }
 {
     let empty = wad::entry_size(dir, marker) == 0;
-    refusal::then(
-        refusal::pass_if(empty, Refusal::MarkerRun(0)),
-        judge_places(dir, count, marker),
-    )
+    refusal::pass_if(empty, Refusal::MarkerRun(0))?;
+    judge_places(dir, count, marker)
 }
 
-// The map's game: whether the eleventh entry after the marker is BEHAVIOR.
+// The map's game: whether the eleventh entry after the marker is BEHAVIOR. It stays a bool, true for Hexen, as C's structs and
+// the record crates' functions take it (`hexen`).
 pub fn game_at(dir: &[u8], count: usize, marker: usize) -> bool
     requires { (16 * count ≤ length dir.now) × (marker < count) }
     ensures { result ≡ game_at dir.now count marker }
@@ -68,18 +63,16 @@ pub fn game_at(dir: &[u8], count: usize, marker: usize) -> bool
 }
 
 // The game of the map whose marker is an entry, 1 to 7. Nothing is asked of the entry itself.
-pub fn map_game(wad: &[u8], marker: usize) -> Game
+pub fn map_game(wad: &[u8], marker: usize) -> Result<Game, Refusal>
     ensures { result ≡ game_answer wad.now marker }
 {
-    if let Check::Refused(r) = wad::judge_file(wad) {
-        return Game::Refused(r);
-    }
+    wad::judge_file(wad)?;
     let count = wad::entry_count(wad);
     if count <= marker {
-        return Game::Refused(Refusal::EntryNumber);
+        return Err(Refusal::EntryNumber);
     }
     if game_at(wad::directory_of(wad), count, marker) {
-        return Game::Hexen;
+        return Ok(Game::Hexen);
     }
-    Game::Doom
+    Ok(Game::Doom)
 }

@@ -7,7 +7,7 @@ ghost use Rattle.map_lumps.specs.Sizes.{whole_ok, alone_ok, record_count_ok, siz
 
 use crate::{map_lump, record_count};
 use record::{Node, Subsector};
-use refusal::{Check, Refusal};
+use refusal::Refusal;
 
 fn whole_ok(hexen: bool, wad: &[u8], dir: &[u8], marker: usize, place: usize) -> bool
     requires { (16 * (marker + 11) ≤ length dir.now) × (1 ≤ place) × (place ≤ 8) }
@@ -42,36 +42,39 @@ fn record_count_ok(hexen: bool, wad: &[u8], dir: &[u8], marker: usize, place: us
         & alone_ok(wad, dir, marker, place)
 }
 
-fn judge_size(hexen: bool, wad: &[u8], dir: &[u8], marker: usize, place: usize) -> Check
+fn judge_size(
+    hexen: bool,
+    wad: &[u8],
+    dir: &[u8],
+    marker: usize,
+    place: usize,
+) -> Result<(), Refusal>
     requires { (16 * (marker + 11) ≤ length dir.now) × (1 ≤ place) × (place ≤ 8) }
     ensures { result ≡ size_check hexen (map_lumps wad.now dir.now marker) place }
 {
-    let whole = refusal::pass_if(
+    refusal::pass_if(
         whole_ok(hexen, wad, dir, marker, place),
         Refusal::RecordSize(place),
-    );
-    let count = refusal::pass_if(
+    )?;
+    refusal::pass_if(
         record_count_ok(hexen, wad, dir, marker, place),
         Refusal::RecordCount(place),
-    );
-    refusal::then(whole, count)
+    )
 }
 
 // 20 and 21, lump by lump, by the game's sizes.
-pub fn judge_sizes(hexen: bool, wad: &[u8], dir: &[u8], marker: usize) -> Check
+pub fn judge_sizes(hexen: bool, wad: &[u8], dir: &[u8], marker: usize) -> Result<(), Refusal>
     requires { 16 * (marker + 11) ≤ length dir.now }
     ensures { result ≡ each_place (size_check hexen (map_lumps wad.now dir.now marker)) 8 }
 {
     for i in 0..8 {
-        if let Check::Refused(r) = judge_size(hexen, wad, dir, marker, i + 1) {
-            return Check::Refused(r);
-        }
+        judge_size(hexen, wad, dir, marker, i + 1)?;
     }
-    Check::Pass
+    Ok(())
 }
 
 // 22. The counts have passed, so that the square fits.
-pub fn judge_reject(reject: usize, sectors: usize) -> Check
+pub fn judge_reject(reject: usize, sectors: usize) -> Result<(), Refusal>
     requires { sectors ≤ 65535 }
     ensures { result ≡ unless (eqb reject (reject_size sectors)) RejectLength }
 {

@@ -1,6 +1,6 @@
 -- The references of a record to others: 23 to 27 (01, "References"). Linedefs are read by the map's game. Assumes nothing.
 use Rattle.std.specs.Prelude.{ℕ, ◌+◌, ◌/◌, ◌%◌, Bool, not, ◌&&◌, ◌||◌, List, leb, ltb, eqb, length}
-use Rattle.refusal.specs.declared.Check.{Check}
+use Rattle.refusal.specs.Checks.{Check}
 use Rattle.refusal.specs.declared.Refusal.TheVariants.{LinedefReference, SidedefReference, SegReference, SubsectorReference, NodeReference}
 use Rattle.refusal.specs.Checks.{unless}
 use Rattle.record_linedef.specs.declared.Linedef.{Linedef}

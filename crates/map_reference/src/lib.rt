@@ -2,9 +2,9 @@
 // records it has. The definitions are in specs/.
 #![tactic(auto)]
 
-ghost use Rattle.std.specs.Prelude.{◌≡◌, ◌+◌, ◌*◌, ◌/◌, ◌<◌, ◌≤◌, ltb, length};
+ghost use Rattle.std.specs.Prelude.{◌≡◌, ◌+◌, ◌*◌, ◌/◌, ◌<◌, ◌≤◌, ℕ, ltb, length};
 ghost use Rattle.endian.specs.Unsigned.{u16_at};
-ghost use Rattle.refusal.specs.Checks.{each};
+ghost use Rattle.refusal.specs.Checks.{Check, each};
 ghost use Rattle.record_field.specs.Records.{record_bytes};
 ghost use Rattle.record_linedef.specs.Linedefs.{linedef_size, linedef_of};
 ghost use Rattle.record.specs.Sidedefs.{sidedef_size, sidedef_of};
@@ -14,8 +14,9 @@ ghost use Rattle.record.specs.Nodes.{node_size};
 ghost use Rattle.map_reference.specs.References.{two_sided, linedef_ok, left_ok, seg_ok, subsector_ok, linedef_check, sidedef_check, seg_check, subsector_check, node_check};
 
 use record::{Node, Seg, Sidedef, Subsector};
+use record_field::GameRecord;
 use record_linedef::{Linedef, NO_SIDEDEF};
-use refusal::{Check, Refusal};
+use refusal::Refusal;
 
 // Where the fields stand in their records.
 pub const START: usize = 0;
@@ -55,16 +56,21 @@ fn linedef_ok(hexen: bool, linedefs: &[u8], vertices: usize, sidedefs: usize, i:
         & !(two_sided(field(linedefs, size, i, FLAGS)) & (left == NO_SIDEDEF))
 }
 
-pub fn judge_linedefs(hexen: bool, linedefs: &[u8], vertices: usize, sidedefs: usize) -> Check
+pub fn judge_linedefs(
+    hexen: bool,
+    linedefs: &[u8],
+    vertices: usize,
+    sidedefs: usize,
+) -> Result<(), Refusal>
     ensures { result ≡ each (linedef_check hexen linedefs.now vertices sidedefs)
         (length linedefs.now / linedef_size hexen) }
 {
-    for i in 0..linedefs.len() / Linedef::size(hexen) {
-        if !linedef_ok(hexen, linedefs, vertices, sidedefs, i) {
-            return Check::Refused(Refusal::LinedefReference(i));
-        }
-    }
-    Check::Pass
+    judge_each(linedefs.len() / Linedef::size(hexen), |i| {
+        refusal::pass_if(
+            linedef_ok(hexen, linedefs, vertices, sidedefs, i),
+            Refusal::LinedefReference(i),
+        )
+    })
 }
 
 fn sidedef_ok(sidedefs: &[u8], sectors: usize, i: usize) -> bool
@@ -74,15 +80,15 @@ fn sidedef_ok(sidedefs: &[u8], sectors: usize, i: usize) -> bool
     field(sidedefs, Sidedef::SIZE, i, SECTOR) < sectors
 }
 
-pub fn judge_sidedefs(sidedefs: &[u8], sectors: usize) -> Check
+pub fn judge_sidedefs(sidedefs: &[u8], sectors: usize) -> Result<(), Refusal>
     ensures { result ≡ each (sidedef_check sidedefs.now sectors) (length sidedefs.now / sidedef_size) }
 {
-    for i in 0..sidedefs.len() / Sidedef::SIZE {
-        if !sidedef_ok(sidedefs, sectors, i) {
-            return Check::Refused(Refusal::SidedefReference(i));
-        }
-    }
-    Check::Pass
+    judge_each(sidedefs.len() / Sidedef::SIZE, |i| {
+        refusal::pass_if(
+            sidedef_ok(sidedefs, sectors, i),
+            Refusal::SidedefReference(i),
+        )
+    })
 }
 
 // Whether linedef i is there and has a left side.
@@ -108,16 +114,16 @@ fn seg_ok(hexen: bool, segs: &[u8], linedefs: &[u8], vertices: usize, i: usize) 
         & ((direction == 0) | ((direction == 1) & left_ok(hexen, linedefs, linedef)))
 }
 
-pub fn judge_segs(hexen: bool, segs: &[u8], linedefs: &[u8], vertices: usize) -> Check
+pub fn judge_segs(hexen: bool, segs: &[u8], linedefs: &[u8], vertices: usize) -> Result<(), Refusal>
     ensures { result ≡ each (seg_check hexen segs.now linedefs.now vertices)
         (length segs.now / seg_size) }
 {
-    for i in 0..segs.len() / Seg::SIZE {
-        if !seg_ok(hexen, segs, linedefs, vertices, i) {
-            return Check::Refused(Refusal::SegReference(i));
-        }
-    }
-    Check::Pass
+    judge_each(segs.len() / Seg::SIZE, |i| {
+        refusal::pass_if(
+            seg_ok(hexen, segs, linedefs, vertices, i),
+            Refusal::SegReference(i),
+        )
+    })
 }
 
 fn subsector_ok(subsectors: &[u8], segs: usize, i: usize) -> bool
@@ -128,27 +134,38 @@ fn subsector_ok(subsectors: &[u8], segs: usize, i: usize) -> bool
     (1 <= number) & (field(subsectors, Subsector::SIZE, i, FIRST) + number <= segs)
 }
 
-pub fn judge_subsectors(subsectors: &[u8], segs: usize) -> Check
+pub fn judge_subsectors(subsectors: &[u8], segs: usize) -> Result<(), Refusal>
     ensures { result ≡ each (subsector_check subsectors.now segs)
         (length subsectors.now / subsector_size) }
 {
-    for i in 0..subsectors.len() / Subsector::SIZE {
-        if !subsector_ok(subsectors, segs, i) {
-            return Check::Refused(Refusal::SubsectorReference(i));
-        }
-    }
-    Check::Pass
+    judge_each(subsectors.len() / Subsector::SIZE, |i| {
+        refusal::pass_if(
+            subsector_ok(subsectors, segs, i),
+            Refusal::SubsectorReference(i),
+        )
+    })
 }
 
-pub fn judge_nodes(nodes: &[u8], subsectors: usize) -> Check
+pub fn judge_nodes(nodes: &[u8], subsectors: usize) -> Result<(), Refusal>
     ensures { result ≡ each (node_check nodes.now subsectors) (length nodes.now / node_size) }
 {
-    for i in 0..nodes.len() / Node::SIZE {
-        if !node::node_ok(nodes, subsectors, i) {
-            return Check::Refused(Refusal::NodeReference(i));
-        }
+    judge_each(nodes.len() / Node::SIZE, |i| {
+        refusal::pass_if(
+            node::node_ok(nodes, subsectors, i),
+            Refusal::NodeReference(i),
+        )
+    })
+}
+
+// The first refusal among the checks of 0 to n - 1.
+fn judge_each<F: Fn(usize) -> Result<(), Refusal>>(n: usize, check: F) -> Result<(), Refusal>
+    requires { (i : ℕ) → i < n → F.pre check i }
+    ensures { (f : ℕ → Check) → ((i : ℕ) (c : Check) → i < n → F.post check i c → c ≡ f i) → result ≡ each f n }
+{
+    for i in 0..n {
+        check(i)?;
     }
-    Check::Pass
+    Ok(())
 }
 
 // The unsigned number at `at` of record i, read in place.

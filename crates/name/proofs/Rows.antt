@@ -1,16 +1,16 @@
 -- Names of eight bytes as rows of tests, byte by byte: what precedes the first zero is looked at one byte after the other.
 -- Assumes nothing.
 use Prim.Native.Nat.{ℕ, zero, suc, ◌+◌, ◌<◌}
-use mathlib.Core.Bool.{Bool, true, false, not, ◌&&◌, ◌||◌}
+use mathlib.Core.Bool.{Bool, true, false, ◌&&◌, ◌||◌}
 use mathlib.Core.List.{List, [], ◌∷◌}
-use mathlib.Core.Path.{◌≡◌, refl, sym, ap, ◌∙◌}
+use mathlib.Core.Path.{◌≡◌, refl, sym, ◌∙◌}
 use native.Mathlib.Omega.{arith}
 use native.Mathlib.Numerals.{add-one}
 use borrow.Author.Tests.{eqb-true, eqb-false, ne_eqb, lt-ltb}
 use lib.Dec.{ltb, eqb}
 use lib.ListN.{length, drop, get_or}
 use lib.Seq.{drop-cons, drop-length}
-use Rattle.name.specs.Names.{name_of, character_ok, characters_ok, name_ok, same_name, fits}
+use Rattle.name.specs.Names.{name_of, character_ok, characters_ok, name_ok, same_name}
 
 -- ---- a list of a known length has its elements
 
@@ -105,76 +105,3 @@ good-stop n (suc i) h good e =
 
 pub good-all : (n : List ℕ) → GoodTo n (length n) → 0 < length n → true ≡ name_ok n
 good-all n good h = sym (good h ∙ rw (drop-length n))
-
--- ---- tests in turn
-
-fits_more : (ok : ℕ → Bool) (oks : List (ℕ → Bool)) (c : ℕ) (cs : List ℕ) → ok 0 ≡ false
-    → fits (ok ∷ oks) (name_of (c ∷ cs)) ≡ (ok c && fits oks (name_of cs))
-fits_more ok oks c cs none = by (eqb c 0) refl
-  where
-    by : (b : Bool) → eqb c 0 ≡ b → fits (ok ∷ oks) (name_of (c ∷ cs)) ≡ (ok c && fits oks (name_of cs))
-    by true e = rw (eqb-true c 0 e, none)
-    by false e = rw (name_on c cs e)
-
-fits-end : (c : ℕ) (cs : List ℕ) → fits [] (name_of (c ∷ cs)) ≡ eqb c 0
-fits-end c cs = by (eqb c 0) refl
-  where
-    by : (b : Bool) → eqb c 0 ≡ b → fits [] (name_of (c ∷ cs)) ≡ b
-    by true e = rw (name-end c cs e)
-    by false e = rw (name_on c cs e)
-
--- ---- all bytes
-
--- no test passes a zero
-abbrev pub no_zero : List (ℕ → Bool) → Bool
-no_zero [] = true
-no_zero (ok ∷ oks) = not (ok 0) && no_zero oks
-
--- the tests in turn, and then a zero, if there is a byte left
-abbrev passes : List (ℕ → Bool) → List ℕ → Bool
-passes [] [] = true
-passes [] (c ∷ cs) = eqb c 0
-passes (ok ∷ oks) [] = false
-passes (ok ∷ oks) (c ∷ cs) = ok c && passes oks cs
-
-both_by : (a b : Bool) → (not a && b) ≡ true → (a ≡ false) × (b ≡ true)
-both_by true b e = let z : ◌≡◌ {A = ℕ} 0 1 = cc in absurd (omega arith)
-both_by false b e = (refl, e)
-
-fits-passes : (oks : List (ℕ → Bool)) (cs : List ℕ) → no_zero oks ≡ true → fits oks (name_of cs) ≡ passes oks cs
-fits-passes [] [] e = refl
-fits-passes [] (c ∷ cs) e = fits-end c cs
-fits-passes (ok ∷ oks) [] e = refl
-fits-passes (ok ∷ oks) (c ∷ cs) e =
-    let two = both_by (ok 0) (no_zero oks) e in
-    fits_more ok oks c cs two.0 ∙ ap (λ (b : Bool). ok c && b) (fits-passes oks cs two.1)
-
-and_assoc : (a b c : Bool) → (a && b && c) ≡ (a && (b && c))
-and_assoc true b c = refl
-and_assoc false b c = refl
-
--- the same after a test that gave `b`, as a row of tests is grouped
-abbrev pub passes_after : Bool → List (ℕ → Bool) → List ℕ → Bool
-passes_after b [] [] = b && true
-passes_after b [] (c ∷ cs) = b && eqb c 0
-passes_after b (ok ∷ oks) [] = b && false
-passes_after b (ok ∷ oks) (c ∷ cs) = passes_after (b && ok c) oks cs
-
-passes-after : (b : Bool) (oks : List (ℕ → Bool)) (cs : List ℕ) → passes_after b oks cs ≡ (b && passes oks cs)
-passes-after b [] [] = refl
-passes-after b [] (c ∷ cs) = refl
-passes-after b (ok ∷ oks) [] = refl
-passes-after b (ok ∷ oks) (c ∷ cs) = passes-after (b && ok c) oks cs ∙ and_assoc b (ok c) (passes oks cs)
-
--- ---- the eight bytes, as the code tests them
-
-abbrev pub rest_of : List ℕ → List ℕ
-rest_of n = get_or n 1 0 ∷ get_or n 2 0 ∷ get_or n 3 0 ∷ get_or n 4 0 ∷ get_or n 5 0 ∷ get_or n 6 0 ∷ get_or n 7 0 ∷ []
-
-pub tests_row : (ok : ℕ → Bool) (oks : List (ℕ → Bool)) → no_zero (ok ∷ oks) ≡ true → (n : List ℕ) → length n ≡ 8
-    → passes_after (ok (get_or n 0 0)) oks (rest_of n) ≡ fits (ok ∷ oks) (name_of n)
-tests_row ok oks z =
-    eight (λ (n : List ℕ). passes_after (ok (get_or n 0 0)) oks (rest_of n) ≡ fits (ok ∷ oks) (name_of n))
-    (λ a b c d e f g h.
-    let rest = b ∷ c ∷ d ∷ e ∷ f ∷ g ∷ h ∷ [] in
-    passes-after (ok a) oks rest ∙ sym (fits-passes (ok ∷ oks) (a ∷ rest) z))

@@ -3,21 +3,12 @@
 #![tactic(auto)]
 
 ghost use Rattle.std.specs.Prelude.{◌≡◌, length};
-ghost use Rattle.name.specs.Names.{name_of, within, character_ok, name_ok, same_name, episode_name, low_name, high_name, map_name_ok};
-
-// The characters of a name from 45 to 95, a bit for each.
-const CHARACTERS: u64 = 1688849859223545;
+ghost use Rattle.name.specs.Names.{name_of, character_ok, name_ok, same_name, episode_name, low_name, high_name, map_name_ok};
 
 fn character_ok(c: u8) -> bool
     ensures { result ≡ character_ok c }
 {
-    if c < 45 {
-        return false;
-    }
-    if 95 < c {
-        return false;
-    }
-    (CHARACTERS >> ((c - 45) as u64)) % 2 == 1
+    matches!(c, b'A'..=b'Z' | b'0'..=b'9' | b'['..=b']' | b'-' | b'_')
 }
 
 // One character or more before the zero, all of them good. A zero is no character, so that each byte is tested once.
@@ -49,22 +40,12 @@ pub fn same_name(a: &[u8], b: &[u8]) -> bool
     true
 }
 
-fn within(least: u8, most: u8, c: u8) -> bool
-    ensures { result ≡ within least most c }
-{
-    (least <= c) & (c <= most)
-}
-
 // E, 1-9, M, 1-9
 fn episode_name(name: &[u8]) -> bool
     requires { length name.now ≡ 8 }
     ensures { result ≡ episode_name (name_of name.now) }
 {
-    (name[0] == 69)
-        & within(49, 57, name[1])
-        & (name[2] == 77)
-        & within(49, 57, name[3])
-        & (name[4] == 0)
+    matches!(name, [b'E', b'1'..=b'9', b'M', b'1'..=b'9', 0, ..])
 }
 
 // MAP and 01 to 09
@@ -72,12 +53,7 @@ fn low_name(name: &[u8]) -> bool
     requires { length name.now ≡ 8 }
     ensures { result ≡ low_name (name_of name.now) }
 {
-    (name[0] == 77)
-        & (name[1] == 65)
-        & (name[2] == 80)
-        & (name[3] == 48)
-        & within(49, 57, name[4])
-        & (name[5] == 0)
+    matches!(name, [b'M', b'A', b'P', b'0', b'1'..=b'9', 0, ..])
 }
 
 // MAP and 10 to 99
@@ -85,19 +61,11 @@ fn high_name(name: &[u8]) -> bool
     requires { length name.now ≡ 8 }
     ensures { result ≡ high_name (name_of name.now) }
 {
-    (name[0] == 77)
-        & (name[1] == 65)
-        & (name[2] == 80)
-        & within(49, 57, name[3])
-        & within(48, 57, name[4])
-        & (name[5] == 0)
+    matches!(name, [b'M', b'A', b'P', b'1'..=b'9', b'0'..=b'9', 0, ..])
 }
 
 pub fn map_name_ok(name: &[u8]) -> bool
     ensures { result ≡ map_name_ok name.now }
 {
-    if name.len() == 8 {
-        return episode_name(name) | low_name(name) | high_name(name);
-    }
-    false
+    name.len() == 8 && (episode_name(name) || low_name(name) || high_name(name))
 }

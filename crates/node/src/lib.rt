@@ -12,7 +12,7 @@ use record::Node;
 pub const SUBSECTOR_BIT: usize = 32768;
 
 // A choice at a node: which child is taken.
-#[derive(Clone, Copy)]
+#[derive(Clone, Copy, PartialEq, Eq)]
 pub enum Choice {
     Right,
     Left,

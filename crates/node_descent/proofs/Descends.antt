@@ -10,15 +10,14 @@ use lib.Dec.{ltb, eqb}
 use lib.IntN.{ℤ}
 use lib.ListN.{length}
 use Rattle.record.specs.Nodes.{node_size}
-use Rattle.node_descent.specs.declared.Descent.TheVariants.{Found}
+use Rattle.std.specs.Prelude.{Ok}
 use Rattle.node.specs.Nodes.{nodes_of, root}
 use Rattle.node_descent.specs.Walks.{nodes_ok, subsectors_ok}
-use Rattle.node_route.specs.declared.Graph.{Graph}
 use Rattle.node_route.specs.Heights.{graph_verdict}
 use Rattle.node_descent.specs.Promises.{Descends}
 use Rattle.node.proofs.Nodes.{ChildrenInRange, root-node}
 use Rattle.node_route.proofs.Verdict.{depth_verdict}
-use Rattle.node_descent.proofs.Walks.{walk-only, descent-root, finds}
+use Rattle.node_descent.proofs.Walks.{found_at, walk-only, descent-root, finds}
 
 -- a NODES lump and a count of subsectors that have passed every check before the graph's
 pub record Passed (nodes : List ℕ) (subsectors : ℕ) : Type 0 where
@@ -32,7 +31,7 @@ pub record Passed (nodes : List ℕ) (subsectors : ℕ) : Type 0 where
 -- where the verdict is a depth, every point descends
 abbrev pub DescentHolds : List ℕ → ℕ → Type 0
 DescentHolds nodes subsectors =
-    Passed nodes subsectors → (depth : ℕ) → graph_verdict nodes ≡ Graph.HasDepth depth
+    Passed nodes subsectors → (depth : ℕ) → graph_verdict nodes ≡ Ok depth
     → (x y : ℤ) → Descends nodes subsectors x y depth
 
 alone_ok_lem : (count subsectors : ℕ) → (count ≡ 0 → subsectors ≡ 1) → (ltb 0 count || eqb subsectors 1) ≡ true
@@ -69,7 +68,7 @@ module _ (nodes : List ℕ) (subsectors : ℕ) where
       record {
         subsector = f.subsector;
         count = f.passed;
-        found = descent-root nodes subsectors x y (nodes_ok_lem p) (subsectors_ok_lem p) ∙ f.found ∙ ap (Found f.subsector) none;
+        found = descent-root nodes subsectors x y (nodes_ok_lem p) (subsectors_ok_lem p) ∙ f.found ∙ ap (found_at f.subsector) none;
         walk = f.walk;
         only = λ s k w. walk-only nodes x y f.walk w;
         shallow = rw is at f.low;

@@ -14,14 +14,19 @@ use Rattle.refusal.proofs.Checks.{both}
 use Rattle.refusal.specs.declared.Refusal.TheVariants.{DescentNodes, DescentSubsectors, DescentChild, DescentLoop}
 use Rattle.node.specs.declared.Choice.{Choice}
 use Rattle.node_descent.specs.declared.Descent.{Descent}
-use Rattle.node_descent.specs.declared.Descent.TheVariants.{Found, Refused}
+use Rattle.refusal.specs.declared.Refusal.{Refusal}
+use Rattle.std.specs.Prelude.{Result, Ok, Err}
 use Rattle.node.specs.Nodes.{nodes_of, subsector_bit, root, child_of, child_ok}
 use Rattle.node_route.specs.Heights.{stands, height}
 use Rattle.node_descent.specs.Side.{side_at, chosen}
-use Rattle.node_descent.specs.Walks.{Walk, ends, goes, descent_from, nodes_ok, subsectors_ok, descent}
+use Rattle.node_descent.specs.Walks.{Walk, ends, goes, end_at, descent_from, nodes_ok, subsectors_ok, descent}
 use Rattle.node.proofs.Choices.{le_larger}
 use Rattle.node.proofs.Nodes.{ChildrenInRange, child_ok-node}
 use Rattle.node_route.proofs.Heights.{node_or_end, stands-none, stands_child, height-node}
+
+-- a descent that ends at a subsector, with the count of nodes passed
+abbrev pub found_at : ℕ → ℕ → Result Descent Refusal
+found_at subsector count = Ok (record { subsector = subsector; count = count })
 
 module _ (nodes : List ℕ) (x y : ℤ) where
   -- a walk has one end and one count
@@ -41,18 +46,18 @@ module _ (nodes : List ℕ) (subsectors : ℕ) (x y : ℤ) where
   -- ---- the cases
 
   pub descent-end : (more count w : ℕ) → subsector_bit ≤ w
-      → descent_from nodes subsectors x y more count w ≡ Found (w - subsector_bit) count
+      → descent_from nodes subsectors x y more count w ≡ Ok (end_at w count)
   unfolding descent_from
   descent-end zero count w h = rw (le-ltb w subsector_bit h)
   descent-end (suc more) count w h = rw (le-ltb w subsector_bit h)
 
-  pub descent-loop : (count w : ℕ) → w < subsector_bit → descent_from nodes subsectors x y 0 count w ≡ Refused DescentLoop
+  pub descent-loop : (count w : ℕ) → w < subsector_bit → descent_from nodes subsectors x y 0 count w ≡ Err DescentLoop
   unfolding descent_from
   descent-loop count w h = rw (lt-ltb w subsector_bit h)
 
   pub descent_child : (more count w : ℕ) → w < subsector_bit
       → child_ok (nodes_of nodes) subsectors (chosen nodes x y w) ≡ false
-      → descent_from nodes subsectors x y (suc more) count w ≡ Refused (DescentChild w)
+      → descent_from nodes subsectors x y (suc more) count w ≡ Err (DescentChild w)
   unfolding descent_from
   descent_child more count w h e = rw (lt-ltb w subsector_bit h, e)
 
@@ -63,12 +68,12 @@ module _ (nodes : List ℕ) (subsectors : ℕ) (x y : ℤ) where
   unfolding descent_from
   descent-goes more count w h e = rw (lt-ltb w subsector_bit h, e)
 
-  pub descent_nodes : nodes_ok nodes ≡ false → descent nodes subsectors x y ≡ Refused DescentNodes
+  pub descent_nodes : nodes_ok nodes ≡ false → descent nodes subsectors x y ≡ Err DescentNodes
   unfolding descent
   descent_nodes n = rw n
 
   pub descent-subsectors : nodes_ok nodes ≡ true → subsectors_ok (nodes_of nodes) subsectors ≡ false
-      → descent nodes subsectors x y ≡ Refused DescentSubsectors
+      → descent nodes subsectors x y ≡ Err DescentSubsectors
   unfolding descent
   descent-subsectors n s = rw (n, s)
 
@@ -77,26 +82,29 @@ module _ (nodes : List ℕ) (subsectors : ℕ) (x y : ℤ) where
   unfolding descent
   descent-root n s = rw (n, s)
 
-  -- ---- a turn of the code's loop, whose answer `d` is the descent with the choices that are left
+  -- ---- the code's loop, whose answer `d` is the descent with the choices that are left
 
-  module _ (count passed w : ℕ) {d : Descent} (whole : descent_from nodes subsectors x y (count - passed) passed w ≡ d)
-      (node : w < subsector_bit) where
-    pub turn_loop : passed ≡ count → Refused DescentLoop ≡ d
-    turn_loop e =
+  module _ (count passed w : ℕ) {d : Result Descent Refusal} (whole : descent_from nodes subsectors x y (count - passed) passed w ≡ d) where
+    pub loop_end : subsector_bit ≤ w → ◌≡◌ {A = Result Descent Refusal} (Ok (end_at w passed)) d
+    loop_end h = sym (descent-end (count - passed) passed w h) ∙ whole
+
+    pub loop_refused : count ≤ passed → w < subsector_bit → ◌≡◌ {A = Result Descent Refusal} (Err DescentLoop) d
+    loop_refused h node =
         let none : count - passed ≡ 0 = omega arith in
         sym (descent-loop passed w node) ∙ (rw none at whole)
 
-    pub turn_child : passed ≤ count → (passed ≡ count → ⊥) → child_ok (nodes_of nodes) subsectors (chosen nodes x y w) ≡ false
-        → Refused (DescentChild w) ≡ d
-    turn_child h n bad =
-        let more : count - passed ≡ suc (count - (passed + 1)) = omega arith in
-        sym (descent_child (count - (passed + 1)) passed w node bad) ∙ (rw more at whole)
+    module _ (h : passed < count) (node : w < subsector_bit) where
+      pub turn_child : child_ok (nodes_of nodes) subsectors (chosen nodes x y w) ≡ false
+          → ◌≡◌ {A = Result Descent Refusal} (Err (DescentChild w)) d
+      turn_child bad =
+          let more : count - passed ≡ suc (count - (passed + 1)) = omega arith in
+          sym (descent_child (count - (passed + 1)) passed w node bad) ∙ (rw more at whole)
 
-    pub turn_goes : passed ≤ count → (passed ≡ count → ⊥) → child_ok (nodes_of nodes) subsectors (chosen nodes x y w) ≡ true
-        → descent_from nodes subsectors x y (count - (passed + 1)) (passed + 1) (chosen nodes x y w) ≡ d
-    turn_goes h n ok =
-        let more : count - passed ≡ suc (count - (passed + 1)) = omega arith in
-        sym (descent-goes (count - (passed + 1)) passed w node ok) ∙ (rw more at whole)
+      pub turn_goes : child_ok (nodes_of nodes) subsectors (chosen nodes x y w) ≡ true
+          → descent_from nodes subsectors x y (count - (passed + 1)) (passed + 1) (chosen nodes x y w) ≡ d
+      turn_goes ok =
+          let more : count - passed ≡ suc (count - (passed + 1)) = omega arith in
+          sym (descent-goes (count - (passed + 1)) passed w node ok) ∙ (rw more at whole)
 
   -- ---- the walk, where the choices run out
 
@@ -104,7 +112,7 @@ module _ (nodes : List ℕ) (subsectors : ℕ) (x y : ℤ) where
   pub record Finds (more count w : ℕ) : Type 0 where
     pub subsector : ℕ
     pub passed : ℕ
-    pub found : descent_from nodes subsectors x y more count w ≡ Found subsector (count + passed)
+    pub found : descent_from nodes subsectors x y more count w ≡ found_at subsector (count + passed)
     pub walk : Walk nodes x y w subsector passed
     pub low : passed ≤ height nodes more w
 
@@ -115,7 +123,7 @@ module _ (nodes : List ℕ) (subsectors : ℕ) (x y : ℤ) where
       record {
         subsector = w - subsector_bit;
         passed = 0;
-        found = descent-end more count w h ∙ ap (Found (w - subsector_bit)) none;
+        found = descent-end more count w h ∙ ap (found_at (w - subsector_bit)) none;
         walk = ends back;
         low = zero-le;
       }
@@ -128,7 +136,7 @@ module _ (nodes : List ℕ) (subsectors : ℕ) (x y : ℤ) where
       record {
         subsector = f.subsector;
         passed = suc f.passed;
-        found = descent-goes more count w h e ∙ f.found ∙ ap (Found f.subsector) one;
+        found = descent-goes more count w h e ∙ f.found ∙ ap (found_at f.subsector) one;
         walk = goes h f.walk;
         low = rw (height-node nodes more h) (suc-le-suc (le_trans f.low larger));
       }

@@ -5,9 +5,9 @@ mod side;
 
 ghost use Rattle.std.specs.Prelude.{◌≡◌, ◌+◌, ◌*◌, ◌≤◌, ◌<◌, length};
 ghost use Rattle.record.specs.Nodes.{node_size};
-ghost use Rattle.node.specs.Nodes.{root};
+ghost use Rattle.node.specs.Nodes.{subsector_bit, root};
 ghost use Rattle.node_descent.specs.Side.{chosen};
-ghost use Rattle.node_descent.specs.Walks.{nodes_ok, subsectors_ok, descent_from, descent};
+ghost use Rattle.node_descent.specs.Walks.{nodes_ok, subsectors_ok, end_at, descent_from, descent};
 
 use node::{Choice, SUBSECTOR_BIT};
 use record::Node;
@@ -17,25 +17,20 @@ pub use side::side_at;
 // The most nodes, and the most subsectors.
 const MOST: usize = 32767;
 
-// What the descent of a point answers.
+// Where the descent of a point ends: the subsector, and how many nodes were passed.
 #[derive(Clone, Copy)]
-pub enum Descent {
-    // the subsector, and how many nodes were passed
-    Found { subsector: usize, count: usize },
-    Refused(Refusal),
+pub struct Descent {
+    pub subsector: usize,
+    pub count: usize,
 }
 
 // The descent of the point (x, y) over any NODES lump, for any count of subsectors.
-pub fn descend(nodes: &[u8], subsectors: usize, x: i16, y: i16) -> Descent
+pub fn descend(nodes: &[u8], subsectors: usize, x: i16, y: i16) -> Result<Descent, Refusal>
     ensures { result ≡ descent nodes.now subsectors x y }
 {
-    if !nodes_ok(nodes) {
-        return Descent::Refused(Refusal::DescentNodes);
-    }
+    refusal::pass_if(nodes_ok(nodes), Refusal::DescentNodes)?;
     let count = nodes.len() / Node::SIZE;
-    if !subsectors_ok(count, subsectors) {
-        return Descent::Refused(Refusal::DescentSubsectors);
-    }
+    refusal::pass_if(subsectors_ok(count, subsectors), Refusal::DescentSubsectors)?;
     descend_from_root(nodes, count, subsectors, x, y)
 }
 
@@ -52,26 +47,42 @@ pub fn subsectors_ok(count: usize, subsectors: usize) -> bool
 }
 
 // The walk from the root: a choice at each node, and no more choices than nodes.
-fn descend_from_root(nodes: &[u8], count: usize, subsectors: usize, x: i16, y: i16) -> Descent
+fn descend_from_root(
+    nodes: &[u8],
+    count: usize,
+    subsectors: usize,
+    x: i16,
+    y: i16,
+) -> Result<Descent, Refusal>
     requires { node_size * count ≡ length nodes.now }
     ensures { result ≡ descent_from nodes.now subsectors x y count 0 (root count) }
 {
     let mut word = root_word(count);
-    let mut passed = 0;
-    while word < SUBSECTOR_BIT {
-        if passed == count {
-            return Descent::Refused(Refusal::DescentLoop);
+    for passed in 0..count {
+        if SUBSECTOR_BIT <= word {
+            return Ok(end_at(word, passed));
         }
         let next = chosen_child(nodes, x, y, word);
-        if !node::child_ok(count, subsectors, next) {
-            return Descent::Refused(Refusal::DescentChild(word));
-        }
+        refusal::pass_if(
+            node::child_ok(count, subsectors, next),
+            Refusal::DescentChild(word),
+        )?;
         word = next;
-        passed += 1;
     }
-    Descent::Found {
+    if word < SUBSECTOR_BIT {
+        return Err(Refusal::DescentLoop);
+    }
+    Ok(end_at(word, count))
+}
+
+// The subsector that a word names.
+fn end_at(word: usize, count: usize) -> Descent
+    requires { subsector_bit ≤ word }
+    ensures { result ≡ end_at word count }
+{
+    Descent {
         subsector: word - SUBSECTOR_BIT,
-        count: passed,
+        count,
     }
 }
 

@@ -11,7 +11,8 @@ use borrow.Author.Tests.{lt-ltb, le-ltb, ltb-true, eq-eqb, eqb-true}
 use Rattle.refusal.proofs.Checks.{both}
 use Rattle.node.specs.declared.Choice.{Choice}
 use Rattle.node.specs.declared.Choice.TheVariants.{Right, Left}
-use Rattle.node_route.specs.declared.Graph.{Graph}
+use Rattle.std.specs.Prelude.{Err}
+use Rattle.node_route.specs.declared.GraphError.{GraphError}
 use Rattle.node.specs.Nodes.{nodes_of, subsector_bit, child_of, root}
 use Rattle.node.specs.Ranges.{NodesInRange}
 use Rattle.node_route.specs.Routes.{Follow}
@@ -31,7 +32,7 @@ module _ (nodes : List ℕ) (count : ℕ) (least : 1 ≤ count) (most : count �
 
   -- ---- the verdict at the root
 
-  loop-at-root : stands nodes count (count - 1) ≡ true → graph_verdict nodes ≡ Graph.HasLoop
+  loop-at-root : stands nodes count (count - 1) ≡ true → graph_verdict nodes ≡ Err GraphError.HasLoop
   loop-at-root e = verdict-loop nodes (rw (counted, root-last count least) e)
 
   depth_at_root : {h : ℕ} → Tall nodes (count - 1) h → h ≤ count → (looping nodes ≡ false) × (root_height nodes ≡ h)

@@ -5,7 +5,8 @@ use mathlib.Core.Bool.{true, false}
 use mathlib.Core.List.{List}
 use mathlib.Core.Path.{◌≡◌, ap, ◌∙◌}
 use native.Mathlib.Omega.{arith}
-use Rattle.node_route.specs.declared.Graph.{Graph}
+use Rattle.std.specs.Prelude.{Ok, Err}
+use Rattle.node_route.specs.declared.GraphError.{GraphError}
 use Rattle.node.specs.Nodes.{nodes_of, subsector_bit}
 use Rattle.node_route.specs.Routes.{Reached, Shared}
 use Rattle.node_route.specs.Heights.{repeats, graph_verdict}
@@ -63,10 +64,10 @@ module _ (nodes : List ℕ) (count : ℕ) (words : List ℕ) (depth : ℕ) (g : 
         child = p.child;
       })
 
-  pub answers-shared : repeats (child_words nodes words count) ≡ true → graph_verdict nodes ≡ Graph.HasShared
+  pub answers-shared : repeats (child_words nodes words count) ≡ true → graph_verdict nodes ≡ Err GraphError.HasShared
   answers-shared e = verdict-shared nodes x.straight (marked-shared e)
 
-  pub answers_depth : repeats (child_words nodes words count) ≡ false → graph_verdict nodes ≡ Graph.HasDepth depth
+  pub answers_depth : repeats (child_words nodes words count) ≡ false → graph_verdict nodes ≡ Ok depth
   answers_depth e =
       let alone : Shared nodes → ⊥ = λ (s : Shared nodes). (let t = shared-marked s in let z : ◌≡◌ {A = ℕ} 0 1 = cc in omega arith) in
-      verdict_depth nodes x.straight alone ∙ ap Graph.HasDepth x.high
+      verdict_depth nodes x.straight alone ∙ ap Ok x.high

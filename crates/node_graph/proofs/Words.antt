@@ -1,6 +1,6 @@
 -- The search's state in the work words: what the writes of a step and of the beginning do to the marks and the path.
 -- Assumes nothing.
-use Prim.Native.Nat.{ℕ, suc, ◌+◌, ◌-◌, ◌≤◌, ◌<◌}
+use Prim.Native.Nat.{ℕ, suc, ◌+◌, ◌-◌, ◌*◌, ◌≤◌, ◌<◌}
 use mathlib.Core.List.{List, ◌++◌}
 use mathlib.Core.Path.{◌≡◌, refl, ap, ◌∙◌}
 use native.Mathlib.Numerals.{add-one}
@@ -9,6 +9,7 @@ use lib.ListN.{length, get_or, set, drop, replicate, length-set, length-append, 
 use lib.Seq.{get_or-set_same, get_or-set_other, drop_at}
 use Rattle.node.specs.declared.Choice.{Choice}
 use Rattle.node.specs.Nodes.{nodes_of, subsector_bit, child_of}
+use Rattle.node_graph.specs.declared.NodeGraph.{NodeGraph}
 use Rattle.node_graph.specs.Judging.{cleared}
 use Rattle.node_graph.specs.Looks.{mark_of, path_of, look_below, LooksInside, pushed, begun}
 use Rattle.node_graph.specs.Searching.{unmet, Tall, Due, Searchable, State, effort, LoopMet, Explored}
@@ -144,11 +145,9 @@ module _ (nodes : List ℕ) (count : ℕ) (words : List ℕ) (g : Searchable nod
   pub state_done : State nodes count words 0 → Explored nodes (mark_of words) (mark_of words (count - 1))
   state_done s = path_done nodes count g.least g.most counted g.in_range (mark_of words) (path_of words count) 0 s refl
 
--- what the search is given goes by the number of words
-pub searchable_long : {nodes : List ℕ} {count : ℕ} {words : List ℕ} (after : List ℕ) → length after ≡ length words
-    → Searchable nodes count words → Searchable nodes count after
-searchable_long after same g =
-    record { whole = g.whole; least = g.least; most = g.most; enough = rw same g.enough; in_range = g.in_range }
+-- what the search is given, for lemmas
+pub searchable : (g : NodeGraph) {words : List ℕ} → 2 * g.count ≤ length words → Searchable g.nodes.now g.count words
+searchable g h = record { whole = g.whole; least = g.least; most = g.most; enough = h; in_range = g.in_range }
 
 -- clearing after a part at the front was written
 pub cleared_front : (words front : List ℕ) (n : ℕ) → length front ≡ n → cleared (front ++ drop n words) n ≡ cleared words n

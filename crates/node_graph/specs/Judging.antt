@@ -1,7 +1,7 @@
 -- What the graph check is given and what it promises (01, "The node graph": 4 × N lent words, whose first contents change
 -- nothing; "Refusal numbers": the first 4 × N are zero afterwards, later ones as found). Assumes nothing.
-use Rattle.std.specs.Prelude.{ℕ, ◌*◌, ◌≤◌, List, ◌++◌, ◌≡◌, length, drop, replicate}
-use Rattle.node_route.specs.declared.Graph.{Graph}
+use Rattle.std.specs.Prelude.{ℕ, ◌*◌, ◌≤◌, List, ◌++◌, ◌≡◌, length, drop, replicate, Result}
+use Rattle.node_route.specs.declared.GraphError.{GraphError}
 use Rattle.record.specs.Nodes.{node_size}
 use Rattle.node.specs.Ranges.{NodesInRange}
 use Rattle.node_route.specs.Heights.{graph_verdict}
@@ -18,6 +18,6 @@ abbrev pub cleared : List ℕ → ℕ → List ℕ
 cleared words n = replicate n 0 ++ drop n words
 
 -- the answer, and the words afterwards
-pub record GraphJudged (nodes : List ℕ) (count : ℕ) (before after : List ℕ) (answer : Graph) : Type 0 where
+pub record GraphJudged (nodes : List ℕ) (count : ℕ) (before after : List ℕ) (answer : Result ℕ GraphError) : Type 0 where
   pub verdict : answer ≡ graph_verdict nodes
   pub words : after ≡ cleared before (4 * count)

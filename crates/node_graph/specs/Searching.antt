@@ -1,12 +1,9 @@
 -- The state of the search for loop and depth between two steps. Assumes nothing.
-use Rattle.std.specs.Prelude.{ℕ, zero, suc, ◌+◌, ◌-◌, ◌*◌, ◌≤◌, ◌<◌, false, cond, List, ◌≡◌, eqb, length}
+use Rattle.std.specs.Prelude.{ℕ, zero, suc, ◌+◌, ◌-◌, ◌*◌, ◌≤◌, ◌<◌, false, cond, List, ◌≡◌, eqb, length, Result, Ok, Err}
 use Rattle.node.specs.declared.Choice.{Choice}
 use Rattle.node.specs.declared.Choice.TheVariants.{Right, Left}
-use Rattle.node_route.specs.declared.Graph.{Graph}
-use Rattle.node_graph.specs.declared.Step.{Step}
-use Rattle.node_graph.specs.declared.Step.TheVariants.{Looped, Path}
-use Rattle.node_graph.specs.declared.Search.{Search}
-use Rattle.node_graph.specs.declared.Search.TheVariants.{Looping, Done}
+use Rattle.node_route.specs.declared.GraphError.{GraphError}
+use Rattle.node_graph.specs.declared.LoopError.{LoopError}
 use Rattle.record.specs.Nodes.{node_size}
 use Rattle.node.specs.Nodes.{nodes_of, subsector_bit, child_of, root}
 use Rattle.node_route.specs.Routes.{Reached}
@@ -70,7 +67,7 @@ effort words count sp = unmet (mark_of words) count + unmet (mark_of words) coun
 -- what the search knows where it meets a loop: the first `n` choices by the rule are at different nodes, the last of them leads
 -- to one of these again, and the marks tell each
 pub record LoopMet (nodes : List ℕ) (mark : ℕ → ℕ) (n : ℕ) : Type 0 where
-  pub loops : graph_verdict nodes ≡ Graph.HasLoop
+  pub loops : graph_verdict nodes ≡ Err GraphError.HasLoop
   pub some : 0 < n
   pub few : n ≤ nodes_of nodes
   pub in_range : (j : ℕ) → j < n → word_after nodes (loop_choice nodes) j < nodes_of nodes
@@ -79,10 +76,10 @@ pub record LoopMet (nodes : List ℕ) (mark : ℕ → ℕ) (n : ℕ) : Type 0 wh
   pub told : (j : ℕ) → j < n
       → path_choice nodes mark (word_after nodes (loop_choice nodes) j) ≡ loop_choice nodes (word_after nodes (loop_choice nodes) j)
 
--- what a step from `before` to `after` answers
-abbrev pub Stepped : List ℕ → ℕ → List ℕ → ℕ → List ℕ → Step → Type 0
-Stepped nodes count before sp after Looped = LoopMet nodes (mark_of after) sp
-Stepped nodes count before sp after (Path next) =
+-- what a step from `before` to `after` answers: the loop that it meets, or the path's new length
+abbrev pub Stepped : List ℕ → ℕ → List ℕ → ℕ → List ℕ → Result ℕ LoopError → Type 0
+Stepped nodes count before sp after (Err e) = LoopMet nodes (mark_of after) e.choices
+Stepped nodes count before sp after (Ok next) =
     State nodes count after next × (effort after count next < effort before count sp)
 
 -- what the search knows at its end: there is no loop, the depth, that the marked nodes are the reached ones, and that each
@@ -94,7 +91,7 @@ pub record Explored (nodes : List ℕ) (mark : ℕ → ℕ) (depth : ℕ) : Type
   pub every : (i : ℕ) → Reached nodes i → i < subsector_bit → (i < nodes_of nodes) × (mark i ≡ 0 → ⊥)
   pub told : (i : ℕ) → Reached nodes i → i < subsector_bit → height_choice nodes mark i ≡ deep_choice nodes i
 
--- what the search answers, with the words that it leaves
-abbrev pub Searched : List ℕ → List ℕ → Search → Type 0
-Searched nodes after (Looping n) = LoopMet nodes (mark_of after) n
-Searched nodes after (Done depth) = Explored nodes (mark_of after) depth
+-- what the search answers, with the words that it leaves: the loop that it meets, or the depth
+abbrev pub Searched : List ℕ → List ℕ → Result ℕ LoopError → Type 0
+Searched nodes after (Err e) = LoopMet nodes (mark_of after) e.choices
+Searched nodes after (Ok depth) = Explored nodes (mark_of after) depth

@@ -3,20 +3,25 @@
 // specs/Looks.antt says what the work words hold.
 #![tactic(auto)]
 
-ghost use Rattle.std.specs.Prelude.{◌≡◌, max, ◌+◌, ◌≤◌, ◌<◌, length};
+ghost use Rattle.std.specs.Prelude.{◌≡◌, ◌+◌, ◌*◌, ◌≤◌, ◌<◌, length};
+ghost use Rattle.refusal.specs.declared.Refusal.TheVariants.{NodeLoop};
+ghost use Rattle.node_route.specs.declared.GraphError.TheVariants.{HasLoop};
 ghost use Rattle.node_route.specs.Heights.{graph_verdict};
 ghost use Rattle.node_graph.specs.Judging.{Judgeable, GraphJudged, cleared};
+ghost use Rattle.record.specs.Nodes.{node_size};
 ghost use Rattle.node.specs.Nodes.{subsector_bit};
+ghost use Rattle.node.specs.Ranges.{NodesInRange};
 ghost use Rattle.node_graph.specs.Looks.{mark_of, look_at, joined, look_below, LooksInside, pushed, begun};
-ghost use Rattle.node_graph.specs.Searching.{State, Searchable, Stepped, Explored, Searched};
+ghost use Rattle.node_graph.specs.Searching.{State, Stepped, Explored, Searched};
 
 use node::Choice;
-use node_route::Graph;
+use node_route::GraphError;
+use refusal::Refusal;
 
 // The mark of a node on the path. A height is at most the count of nodes.
 pub const ON_PATH: u16 = 65535;
 
-// What the marks say of a child.
+// What the marks say of a child: three outcomes, each handled in its own way, so no Result.
 #[derive(Clone, Copy)]
 pub enum Look {
     // a node not met yet
@@ -27,34 +32,42 @@ pub enum Look {
     Height(u16),
 }
 
-// What a step finds.
-#[derive(Clone, Copy)]
-pub enum Step {
-    Looped,
-    // the path's new length
-    Path(usize),
+// The search met a loop.
+#[derive(Clone, Copy, PartialEq, Eq)]
+pub struct LoopError {
+    // how many choices lead into it
+    pub choices: usize,
 }
 
-// What the search finds.
-#[derive(Clone, Copy)]
-pub enum Search {
-    // a loop, and how many choices lead into it
-    Looping(usize),
-    // no loop, and the depth
-    Done(usize),
+impl From<LoopError> for GraphError {
+    ghost from_gives = { λ _ e. e ≡ HasLoop };
+
+    fn from(_: LoopError) -> GraphError {
+        GraphError::HasLoop
+    }
+}
+
+impl From<LoopError> for Refusal {
+    ghost from_gives = { λ _ r. r ≡ NodeLoop };
+
+    fn from(_: LoopError) -> Refusal {
+        Refusal::NodeLoop
+    }
 }
 
 // Loop, shared child or depth of a NODES lump whose children are in range. Whatever the words hold changes nothing; afterwards
-// the first four for each node are zero, and the others as found.
-pub fn judge(nodes: &[u8], count: usize, words: &mut [u16]) -> Graph
+// the first four for each node are zero, and the others as found. The lump and its count come apart, as docs/PROMISES.md names this
+// call; below they are one `NodeGraph`.
+pub fn judge(nodes: &[u8], count: usize, words: &mut [u16]) -> Result<usize, GraphError>
     requires { Judgeable nodes.now count words.old }
     ensures { GraphJudged nodes.now count words.old words.new result }
 {
     if count == 0 {
-        return Graph::HasDepth(0);
+        return Ok(0);
     }
     let used = 4 * count;
-    let answer = graph_of(nodes, count, &mut words[..used]);
+    let graph = NodeGraph { nodes, count };
+    let answer = graph.verdict(&mut words[..used]);
     clear(words, used);
     answer
 }
@@ -64,48 +77,73 @@ pub fn clear(words: &mut [u16], n: usize)
     requires { n ≤ length words.old }
     ensures { words.new ≡ cleared words.old n }
 {
-    for i in 0..n {
-        words[i] = 0;
-    }
+    words[..n].fill(0);
 }
 
-// The verdict of at least one node. Whatever the words hold, only what the search wrote is read.
-fn graph_of(nodes: &[u8], count: usize, words: &mut [u16]) -> Graph
-    requires { Searchable nodes.now count words.old }
-    ensures { result ≡ graph_verdict nodes.now }
-{
-    match explore(nodes, count, words) {
-        Search::Looping(_) => Graph::HasLoop,
-        Search::Done(depth) => shared_or_deep(nodes, count, words, depth),
-    }
+// A NODES lump with a root: whole nodes, 1 to 32,767 of them, whose children are in range.
+#[derive(Clone, Copy)]
+pub struct NodeGraph<'a> {
+    pub nodes: &'a [u8],
+    pub count: usize,
+    pub ghost whole: { node_size * count ≡ length nodes.now },
+    pub ghost least: { 1 ≤ count },
+    pub ghost most: { count ≤ 32767 },
+    pub ghost in_range: { NodesInRange nodes.now },
 }
 
-// Without a loop: a child that two ways lead to, or the depth. The marked nodes are the reached ones.
-fn shared_or_deep(nodes: &[u8], count: usize, words: &[u16], depth: usize) -> Graph
-    requires { Searchable nodes.now count words.now × Explored nodes.now (mark_of words.now) depth }
-    ensures { result ≡ graph_verdict nodes.now }
-{
-    if node_sharing::shares(nodes, count, words) {
-        return Graph::HasShared;
+impl NodeGraph<'_> {
+    // The verdict. Whatever the words hold, only what the search wrote is read.
+    fn verdict(&self, words: &mut [u16]) -> Result<usize, GraphError>
+        requires { 2 * self.now.count ≤ length words.old }
+        ensures { result ≡ graph_verdict self.now.nodes.now }
+    {
+        let depth = self.explore(words)?;
+        self.shared_or_deep(words, depth)
     }
-    Graph::HasDepth(depth)
-}
 
-// The whole search. The marks tell the way into the loop, or the heights.
-pub fn explore(nodes: &[u8], count: usize, words: &mut [u16]) -> Search
-    requires { Searchable nodes.now count words.old }
-    ensures { Searched nodes.now words.new result }
-{
-    start(words, count);
-    let mut sp = 1;
-    while 0 < sp {
-        match take_step(nodes, count, words, sp) {
-            Step::Looped => return Search::Looping(sp),
-            Step::Path(next) => sp = next,
+    // Without a loop: a child that two ways lead to, or the depth. The marked nodes are the reached ones.
+    fn shared_or_deep(&self, words: &[u16], depth: usize) -> Result<usize, GraphError>
+        requires { (2 * self.now.count ≤ length words.now) × Explored self.now.nodes.now (mark_of words.now) depth }
+        ensures { result ≡ graph_verdict self.now.nodes.now }
+    {
+        if node_sharing::shares(self.nodes, self.count, words) {
+            return Err(GraphError::HasShared);
+        }
+        Ok(depth)
+    }
+
+    // The whole search: the depth, or the loop that it meets. The marks tell the heights, or the way into the loop.
+    pub fn explore(&self, words: &mut [u16]) -> Result<usize, LoopError>
+        requires { 2 * self.now.count ≤ length words.old }
+        ensures { Searched self.now.nodes.now words.new result }
+    {
+        start(words, self.count);
+        let mut sp = 1;
+        while 0 < sp {
+            sp = self.take_step(words, sp)?;
+        }
+        Ok(words[self.count - 1] as usize)
+    }
+
+    // One step at the path's end: to a child not met yet, or back with its height. The path's new length.
+    fn take_step(&self, words: &mut [u16], sp: usize) -> Result<usize, LoopError>
+        requires { (2 * self.now.count ≤ length words.old) × State self.now.nodes.now self.now.count words.old sp × (0 < sp) }
+        ensures { Stepped self.now.nodes.now self.now.count words.old sp words.new result }
+    {
+        let last = self.count + (sp - 1);
+        let top = words[last] as usize;
+        match look_below(self.nodes, words, top) {
+            Look::New(child) => {
+                push(words, self.count, sp, child);
+                Ok(sp + 1)
+            }
+            Look::OnPath => Err(LoopError { choices: sp }),
+            Look::Height(height) => {
+                words[top] = height + 1;
+                Ok(sp - 1)
+            }
         }
     }
-    let depth = words[count - 1] as usize;
-    Search::Done(depth)
 }
 
 // No node is met but the root, which is the path.
@@ -123,26 +161,6 @@ fn push(words: &mut [u16], count: usize, sp: usize, node: usize)
 {
     words[node] = ON_PATH;
     words[count + sp] = node as u16;
-}
-
-// One step at the path's end: to a child not met yet, or back with its height.
-fn take_step(nodes: &[u8], count: usize, words: &mut [u16], sp: usize) -> Step
-    requires { Searchable nodes.now count words.old × State nodes.now count words.old sp × (0 < sp) }
-    ensures { Stepped nodes.now count words.old sp words.new result }
-{
-    let last = count + (sp - 1);
-    let top = words[last] as usize;
-    match look_below(nodes, words, top) {
-        Look::New(child) => {
-            push(words, count, sp, child);
-            return Step::Path(sp + 1);
-        }
-        Look::OnPath => return Step::Looped,
-        Look::Height(height) => {
-            words[top] = height + 1;
-            return Step::Path(sp - 1);
-        }
-    }
 }
 
 // Both children of a node.
@@ -176,19 +194,9 @@ fn look_at(words: &[u16], child: usize) -> Look
 fn join(right: Look, left: Look) -> Look
     ensures { result ≡ joined right left }
 {
-    match right {
-        Look::New(child) => Look::New(child),
-        Look::OnPath => Look::OnPath,
-        Look::Height(a) => match left {
-            Look::New(child) => Look::New(child),
-            Look::OnPath => Look::OnPath,
-            Look::Height(b) => Look::Height(larger(a, b)),
-        },
+    match (right, left) {
+        (Look::Height(a), Look::Height(b)) => Look::Height(a.max(b)),
+        (Look::Height(_), first) => first,
+        (first, _) => first,
     }
-}
-
-fn larger(a: u16, b: u16) -> u16
-    ensures { result ≡ max a b }
-{
-    if a < b { b } else { a }
 }

@@ -9,7 +9,8 @@ use native.Mathlib.Omega.{arith}
 use borrow.Author.Tests.{le-leb}
 use lib.ListN.{length}
 use Rattle.node.specs.declared.Choice.{Choice}
-use Rattle.node_route.specs.declared.Graph.{Graph}
+use Rattle.std.specs.Prelude.{Ok, Err}
+use Rattle.node_route.specs.declared.GraphError.{GraphError}
 use Rattle.node.specs.Nodes.{nodes_of, subsector_bit, child_of}
 use Rattle.node_route.specs.Routes.{Follow, Reached}
 use Rattle.node_route.specs.Heights.{member, graph_verdict}
@@ -96,7 +97,7 @@ module _ (nodes : List ℕ) (mark : ℕ → ℕ) (n : ℕ) (m : LoopMet nodes ma
       }
 
   pub loop-printed : (out out' : List ℕ) → out' ≡ printed out (bytes_of (choices_from nodes (path_choice nodes mark) 0 n))
-      → WayPrinted nodes out out' (record { verdict = Graph.HasLoop; length = n })
+      → WayPrinted nodes out out' (record { verdict = Err GraphError.HasLoop; length = n })
   loop-printed out out' e =
       record {
         verdict = sym m.loops;
@@ -139,7 +140,7 @@ module _ (nodes : List ℕ) (rule : ℕ → Choice) where
       (subst (λ (w : ℕ). Follow nodes w cs v) next f.1) i (omega arith))
 
 module _ (nodes : List ℕ) (mark : ℕ → ℕ) (depth : ℕ) (x : Explored nodes mark depth)
-    (accepted : graph_verdict nodes ≡ Graph.HasDepth depth) where
+    (accepted : graph_verdict nodes ≡ Ok depth) where
   made : (j : ℕ) → j < depth → word_after nodes (deep_choice nodes) j < subsector_bit
   made j h =
       let t = route-holds nodes depth accepted in
@@ -185,7 +186,7 @@ module _ (nodes : List ℕ) (mark : ℕ → ℕ) (depth : ℕ) (x : Explored nod
       }
 
   pub route-printed : (out out' : List ℕ) → out' ≡ printed out (bytes_of (choices_from nodes (height_choice nodes mark) 0 depth))
-      → WayPrinted nodes out out' (record { verdict = Graph.HasDepth depth; length = depth })
+      → WayPrinted nodes out out' (record { verdict = Ok depth; length = depth })
   route-printed out out' e =
       record {
         verdict = sym accepted;
@@ -199,11 +200,11 @@ module _ (nodes : List ℕ) where
   nothing : (out : List ℕ) → out ≡ printed out (bytes_of [])
   nothing out = rw (le-leb 0 (length out) (omega arith))
 
-  pub shared-printed : graph_verdict nodes ≡ Graph.HasShared → (out : List ℕ)
-      → WayPrinted nodes out out (record { verdict = Graph.HasShared; length = 0 })
+  pub shared-printed : graph_verdict nodes ≡ Err GraphError.HasShared → (out : List ℕ)
+      → WayPrinted nodes out out (record { verdict = Err GraphError.HasShared; length = 0 })
   shared-printed e out = record { verdict = sym e; length = rw e; out = rw e (nothing out) }
 
-  pub none-printed : nodes_of nodes ≡ 0 → (out : List ℕ) → WayPrinted nodes out out (record { verdict = Graph.HasDepth 0; length = 0 })
+  pub none-printed : nodes_of nodes ≡ 0 → (out : List ℕ) → WayPrinted nodes out out (record { verdict = Ok 0; length = 0 })
   none-printed none out =
       let e = verdict-none nodes none in
       let empty : route_of nodes ≡ [] = rw none (route-none nodes subsector_bit) in

@@ -1,24 +1,19 @@
 -- Not for the reader of promises: what only contracts of inner functions cite. Assumes nothing.
-use Rattle.std.specs.Prelude.{ℕ, zero, suc, ◌*◌, ◌≤◌, ◌<◌, Bool, cond, List, [], ◌∷◌, ◌≡◌, length}
+use Rattle.std.specs.Prelude.{ℕ, zero, suc, ◌*◌, ◌≤◌, ◌<◌, List, [], ◌∷◌, ◌≡◌, length}
 use Rattle.record.specs.Nodes.{node_size}
 use Rattle.node.specs.declared.Choice.{Choice}
 use Rattle.node.specs.Ranges.{NodesInRange}
 use Rattle.node_graph.specs.Ways.{word_after}
-use Rattle.node_graph.specs.Looks.{path_choice, height_choice}
 use Rattle.node_path.specs.Ways.{bytes_of}
-
--- the choice at node `w` that the marks tell: on the way into a loop, or by the heights
-abbrev pub mark_choice : List ℕ → (ℕ → ℕ) → Bool → ℕ → Choice
-mark_choice nodes mark looping w = cond looping (path_choice nodes mark w) (height_choice nodes mark w)
 
 -- `n` choices by a rule, after `j` of them from the root
 unfoldable pub choices_from : List ℕ → (ℕ → Choice) → ℕ → ℕ → List Choice
 choices_from nodes rule j zero = []
 choices_from nodes rule j (suc n) = rule (word_after nodes rule j) ∷ choices_from nodes rule (suc j) n
 
--- the bytes of the first `n` choices that the marks tell
-abbrev pub told_bytes : List ℕ → (ℕ → ℕ) → Bool → ℕ → List ℕ
-told_bytes nodes mark looping n = bytes_of (choices_from nodes (mark_choice nodes mark looping) 0 n)
+-- the bytes of the first `n` choices by a rule
+abbrev pub told_bytes : List ℕ → (ℕ → Choice) → ℕ → List ℕ
+told_bytes nodes rule n = bytes_of (choices_from nodes rule 0 n)
 
 -- `n` choices by the rule can be made, and read off the marks
 pub record Printable (nodes : List ℕ) (count : ℕ) (words : List ℕ) (rule : ℕ → Choice) (n : ℕ) : Type 0 where

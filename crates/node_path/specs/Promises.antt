@@ -1,8 +1,8 @@
 -- What is promised of the two lists, in the words of W-211, and of the function that prints them. The proofs of the first are
 -- proofs/Loops.antt and proofs/Routes.antt. Assumes nothing.
-use Rattle.std.specs.Prelude.{ℕ, ◌<◌, true, false, List, [], ◌∷◌, map, ◌≡◌, length as size}
+use Rattle.std.specs.Prelude.{ℕ, ◌<◌, true, false, List, [], ◌∷◌, map, ◌≡◌, Ok, Err, length as size}
 use Rattle.node.specs.declared.Choice.{Choice}
-use Rattle.node_route.specs.declared.Graph.{Graph}
+use Rattle.node_route.specs.declared.GraphError.{GraphError}
 use Rattle.node.specs.Nodes.{nodes_of, child_of, root}
 use Rattle.node_route.specs.Routes.{Leads, Route}
 use Rattle.node_route.specs.Heights.{member, repeats, graph_verdict}
@@ -36,7 +36,7 @@ pub record LoopTold (nodes : List ℕ) (cs : List Choice) : Type 0 where
 
 -- on every graph with a loop
 abbrev pub LoopWayHolds : List ℕ → Type 0
-LoopWayHolds nodes = NodesInRange nodes → graph_verdict nodes ≡ Graph.HasLoop → LoopTold nodes (loop_way nodes)
+LoopWayHolds nodes = NodesInRange nodes → graph_verdict nodes ≡ Err GraphError.HasLoop → LoopTold nodes (loop_way nodes)
 
 -- the list is a route of exactly `depth` choices, right wherever right is as deep
 pub record RouteTold (nodes : List ℕ) (depth : ℕ) (cs : List Choice) : Type 0 where
@@ -46,7 +46,7 @@ pub record RouteTold (nodes : List ℕ) (depth : ℕ) (cs : List Choice) : Type 
 
 -- on every accepted graph
 abbrev pub RouteHolds : List ℕ → Type 0
-RouteHolds nodes = (depth : ℕ) → graph_verdict nodes ≡ Graph.HasDepth depth → RouteTold nodes depth (route_of nodes)
+RouteHolds nodes = (depth : ℕ) → graph_verdict nodes ≡ Ok depth → RouteTold nodes depth (route_of nodes)
 
 -- the verdict, how many bytes its list has, and the output afterwards
 pub record WayPrinted (nodes before after : List ℕ) (answer : Told) : Type 0 where

@@ -1,8 +1,8 @@
 -- The lists of choices that tell a member why (W-211): into a loop, and as deep as an accepted graph goes. Assumes nothing.
-use Rattle.std.specs.Prelude.{ℕ, zero, suc, cond, List, [], ◌∷◌, ◌++◌, map, leb, length, drop}
+use Rattle.std.specs.Prelude.{ℕ, zero, suc, cond, List, [], ◌∷◌, ◌++◌, map, leb, length, drop, Result, Ok, Err}
 use Rattle.node.specs.declared.Choice.{Choice}
 use Rattle.node.specs.declared.Choice.TheVariants.{Right, Left}
-use Rattle.node_route.specs.declared.Graph.{Graph}
+use Rattle.node_route.specs.declared.GraphError.{GraphError}
 use Rattle.node.specs.Nodes.{nodes_of, is_node, child_of, root}
 use Rattle.node_route.specs.Heights.{member}
 use Rattle.node_graph.specs.Ways.{loop_choice, deep_choice}
@@ -29,10 +29,10 @@ abbrev pub route_of : List ℕ → List Choice
 route_of nodes = route_from nodes (nodes_of nodes) (root (nodes_of nodes))
 
 -- the list that is printed with a verdict: none with a shared child
-abbrev pub way_of : List ℕ → Graph → List Choice
-way_of nodes Graph.HasLoop = loop_way nodes
-way_of nodes Graph.HasShared = []
-way_of nodes (Graph.HasDepth depth) = route_of nodes
+abbrev pub way_of : List ℕ → Result ℕ GraphError → List Choice
+way_of nodes (Err GraphError.HasLoop) = loop_way nodes
+way_of nodes (Err GraphError.HasShared) = []
+way_of nodes (Ok depth) = route_of nodes
 
 -- `R` and `L`
 abbrev pub choice_byte : Choice → ℕ

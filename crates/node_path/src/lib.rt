@@ -2,24 +2,25 @@
 // judges the graph leaves both in its marks; they are printed before the words are cleared.
 #![tactic(auto)]
 
-ghost use Rattle.std.specs.Prelude.{◌≡◌, cond, ◌++◌, ◌+◌, ◌*◌, ◌<◌, ◌≤◌, length, drop};
+ghost use Rattle.std.specs.Prelude.{ℕ, List, ◌≡◌, cond, ◌++◌, ◌+◌, ◌*◌, ◌<◌, ◌≤◌, length, drop};
+ghost use Rattle.node.specs.declared.Choice.{Choice};
 ghost use Rattle.node.specs.declared.Choice.TheVariants.{Right, Left};
 ghost use Rattle.node.specs.Nodes.{subsector_bit};
 ghost use Rattle.node_graph.specs.Judging.{Judgeable, cleared};
-ghost use Rattle.node_graph.specs.Looks.{mark_of, on_path_ok, height_by, LooksInside};
-ghost use Rattle.node_graph.specs.Searching.{Searchable, LoopMet, Explored};
+ghost use Rattle.node_graph.specs.Looks.{mark_of, on_path_ok, height_by, path_choice, height_choice, LooksInside};
+ghost use Rattle.node_graph.specs.Searching.{LoopMet, Explored};
 ghost use Rattle.node_path.specs.Ways.{choice_byte, printed};
 ghost use Rattle.node_path.specs.Promises.{WayPrinted};
-ghost use Rattle.node_path.specs.Inner.{mark_choice, told_bytes, Printable};
+ghost use Rattle.node_path.specs.Inner.{told_bytes, Printable};
 
 use node::Choice;
-use node_graph::Search;
-use node_route::Graph;
+use node_graph::NodeGraph;
+use node_route::GraphError;
 
 // The graph's verdict, and how many bytes there are to print with it.
 #[derive(Clone, Copy)]
 pub struct Told {
-    pub verdict: Graph,
+    pub verdict: Result<usize, GraphError>,
     pub length: usize,
 }
 
@@ -32,104 +33,126 @@ pub fn judge(nodes: &[u8], count: usize, words: &mut [u16], out: &mut [u8]) -> T
 {
     if count == 0 {
         return Told {
-            verdict: Graph::HasDepth(0),
+            verdict: Ok(0),
             length: 0,
         };
     }
     let used = 4 * count;
-    let told = tell(nodes, count, &mut words[..used], out);
+    let graph = NodeGraph { nodes, count };
+    let told = tell(&graph, &mut words[..used], out);
     node_graph::clear(words, used);
     told
 }
 
-// At least one node.
-fn tell(nodes: &[u8], count: usize, words: &mut [u16], out: &mut [u8]) -> Told
-    requires { Searchable nodes.now count words.old }
-    ensures { WayPrinted nodes.now out.old out.new result }
+fn tell(graph: &NodeGraph, words: &mut [u16], out: &mut [u8]) -> Told
+    requires { 2 * graph.now.count ≤ length words.old }
+    ensures { WayPrinted graph.now.nodes.now out.old out.new result }
 {
-    match node_graph::explore(nodes, count, words) {
-        Search::Looping(n) => tell_loop(nodes, count, words, n, out),
-        Search::Done(depth) => tell_depth(nodes, count, words, depth, out),
+    match graph.explore(words) {
+        Err(met) => tell_loop(graph, words, met.choices, out),
+        Ok(depth) => tell_depth(graph, words, depth, out),
     }
 }
 
-fn tell_loop(nodes: &[u8], count: usize, words: &[u16], n: usize, out: &mut [u8]) -> Told
-    requires { Searchable nodes.now count words.now × LoopMet nodes.now (mark_of words.now) n }
-    ensures { WayPrinted nodes.now out.old out.new result }
+fn tell_loop(graph: &NodeGraph, words: &[u16], n: usize, out: &mut [u8]) -> Told
+    requires { (2 * graph.now.count ≤ length words.now) × LoopMet graph.now.nodes.now (mark_of words.now) n }
+    ensures { WayPrinted graph.now.nodes.now out.old out.new result }
 {
-    print_if(nodes, count, words, true, n, out);
+    print_if::<PathRule>(graph, words, n, out);
     Told {
-        verdict: Graph::HasLoop,
+        verdict: Err(GraphError::HasLoop),
         length: n,
     }
 }
 
-fn tell_depth(nodes: &[u8], count: usize, words: &[u16], depth: usize, out: &mut [u8]) -> Told
-    requires { Searchable nodes.now count words.now × Explored nodes.now (mark_of words.now) depth }
-    ensures { WayPrinted nodes.now out.old out.new result }
+fn tell_depth(graph: &NodeGraph, words: &[u16], depth: usize, out: &mut [u8]) -> Told
+    requires { (2 * graph.now.count ≤ length words.now) × Explored graph.now.nodes.now (mark_of words.now) depth }
+    ensures { WayPrinted graph.now.nodes.now out.old out.new result }
 {
-    if node_sharing::shares(nodes, count, words) {
+    if node_sharing::shares(graph.nodes, graph.count, words) {
         return Told {
-            verdict: Graph::HasShared,
+            verdict: Err(GraphError::HasShared),
             length: 0,
         };
     }
-    print_if(nodes, count, words, false, depth, out);
+    print_if::<HeightRule>(graph, words, depth, out);
     Told {
-        verdict: Graph::HasDepth(depth),
+        verdict: Ok(depth),
         length: depth,
     }
 }
 
-// The first n choices that the marks tell, where there is room.
-fn print_if(nodes: &[u8], count: usize, words: &[u16], looping: bool, n: usize, out: &mut [u8])
-    requires { Printable nodes.now count words.now (mark_choice nodes.now (mark_of words.now) looping) n }
+// The first n choices that the marks tell by a rule, where there is room.
+fn print_if<R: MarkRule>(graph: &NodeGraph, words: &[u16], n: usize, out: &mut [u8])
+    requires { Printable graph.now.nodes.now graph.now.count words.now (R.choice graph.now.nodes.now (mark_of words.now)) n }
     ensures { out.new ≡ printed out.old
-        (told_bytes nodes.now (mark_of words.now) looping n) }
+        (told_bytes graph.now.nodes.now (R.choice graph.now.nodes.now (mark_of words.now)) n) }
 {
-    if out.len() < n {
-        return;
+    if n <= out.len() {
+        print::<R>(graph, words, n, out);
     }
-    print(nodes, count, words, looping, n, out);
 }
 
-fn print(nodes: &[u8], count: usize, words: &[u16], looping: bool, n: usize, out: &mut [u8])
-    requires printable { Printable nodes.now count words.now (mark_choice nodes.now (mark_of words.now) looping) n }
+fn print<R: MarkRule>(graph: &NodeGraph, words: &[u16], n: usize, out: &mut [u8])
+    requires printable { Printable graph.now.nodes.now graph.now.count words.now (R.choice graph.now.nodes.now (mark_of words.now)) n }
     requires n_in_bounds { n ≤ length out.old }
-    ensures { out.new ≡ told_bytes nodes.now (mark_of words.now) looping n
+    ensures { out.new ≡ told_bytes graph.now.nodes.now (R.choice graph.now.nodes.now (mark_of words.now)) n
         ++ drop n out.old }
 {
-    let mut node = count - 1;
+    let mut node = graph.count - 1;
     for j in 0..n {
-        let right = goes_right(nodes, words, looping, node);
-        out[j] = byte_if(right);
-        node = node::child_of(nodes, node, choice_if(right));
+        let choice = R::choose(graph.nodes, words, node);
+        out[j] = byte_of(choice);
+        node = node::child_of(graph.nodes, node, choice);
     }
 }
 
-fn byte_if(right: bool) -> u8
-    ensures { result ≡ choice_byte (cond right Right Left) }
+fn byte_of(choice: Choice) -> u8
+    ensures { result ≡ choice_byte choice }
 {
-    if right { b'R' } else { b'L' }
-}
-
-fn choice_if(right: bool) -> Choice
-    ensures { result ≡ cond right Right Left }
-{
-    if right { Choice::Right } else { Choice::Left }
-}
-
-// Whether the marks tell the right child.
-fn goes_right(nodes: &[u8], words: &[u16], looping: bool, node: usize) -> bool
-    requires { LooksInside nodes.now words.now node }
-    ensures { cond result Right Left ≡ mark_choice nodes.now (mark_of words.now) looping node }
-{
-    let right = node::child_of(nodes, node, Choice::Right);
-    if looping {
-        return on_path(words, right);
+    match choice {
+        Choice::Right => b'R',
+        Choice::Left => b'L',
     }
-    let left = node::child_of(nodes, node, Choice::Left);
-    height_at(words, left) <= height_at(words, right)
+}
+
+// How the marks tell the choice at a node.
+trait MarkRule {
+    ghost choice: { List ℕ → (ℕ → ℕ) → ℕ → Choice };
+
+    fn choose(nodes: &[u8], words: &[u16], node: usize) -> Choice
+        requires { LooksInside nodes.now words.now node }
+        ensures { result ≡ choice nodes.now (mark_of words.now) node };
+}
+
+// On the way into a loop: right where the right child is on the path.
+struct PathRule;
+
+impl MarkRule for PathRule {
+    ghost choice = { path_choice };
+
+    fn choose(nodes: &[u8], words: &[u16], node: usize) -> Choice {
+        right_if(on_path(words, node::child_of(nodes, node, Choice::Right)))
+    }
+}
+
+// By the heights: right where the right child is as high.
+struct HeightRule;
+
+impl MarkRule for HeightRule {
+    ghost choice = { height_choice };
+
+    fn choose(nodes: &[u8], words: &[u16], node: usize) -> Choice {
+        let right = height_at(words, node::child_of(nodes, node, Choice::Right));
+        let left = height_at(words, node::child_of(nodes, node, Choice::Left));
+        right_if(left <= right)
+    }
+}
+
+fn right_if(test: bool) -> Choice
+    ensures { result ≡ cond test Right Left }
+{
+    if test { Choice::Right } else { Choice::Left }
 }
 
 fn on_path(words: &[u16], child: usize) -> bool

@@ -4,7 +4,8 @@ use mathlib.Core.Bool.{Bool, true, false}
 use mathlib.Core.List.{List}
 use mathlib.Core.Path.{◌≡◌, refl, sym, ap, ◌∙◌}
 use native.Mathlib.Omega.{arith}
-use Rattle.node_route.specs.declared.Graph.{Graph}
+use Rattle.std.specs.Prelude.{Result, Ok, Err}
+use Rattle.node_route.specs.declared.GraphError.{GraphError}
 use Rattle.node.specs.Nodes.{nodes_of, subsector_bit, root}
 use Rattle.node_route.specs.Routes.{Loop, Shared, Depth}
 use Rattle.node_route.specs.Heights.{stands, height, words_from, repeats, graph_by, graph_verdict}
@@ -27,38 +28,38 @@ module _ (nodes : List ℕ) where
   unfolding graph_verdict
   verdict-is = refl
 
-  pub verdict-loop : looping nodes ≡ true → graph_verdict nodes ≡ Graph.HasLoop
+  pub verdict-loop : looping nodes ≡ true → graph_verdict nodes ≡ Err GraphError.HasLoop
   verdict-loop e = verdict-is ∙ ap (λ (b : Bool). graph_by b (sharing nodes) (root_height nodes)) e
 
   verdict_off : looping nodes ≡ false → graph_verdict nodes ≡ graph_by false (sharing nodes) (root_height nodes)
   verdict_off e = verdict-is ∙ ap (λ (b : Bool). graph_by b (sharing nodes) (root_height nodes)) e
 
-  pub verdict-shared : looping nodes ≡ false → Shared nodes → graph_verdict nodes ≡ Graph.HasShared
+  pub verdict-shared : looping nodes ≡ false → Shared nodes → graph_verdict nodes ≡ Err GraphError.HasShared
   verdict-shared e s = verdict_off e ∙ ap (λ (b : Bool). graph_by false b (root_height nodes)) (shared-repeats nodes (nodes_of nodes) e s)
 
   depth_by : (b : Bool) → sharing nodes ≡ b → (Shared nodes → ⊥) → b ≡ false
   depth_by true e none = absurd (none (repeats-shared nodes (nodes_of nodes) e))
   depth_by false e none = refl
 
-  pub verdict_depth : looping nodes ≡ false → (Shared nodes → ⊥) → graph_verdict nodes ≡ Graph.HasDepth (root_height nodes)
+  pub verdict_depth : looping nodes ≡ false → (Shared nodes → ⊥) → graph_verdict nodes ≡ Ok (root_height nodes)
   verdict_depth e none =
       verdict_off e ∙ ap (λ (b : Bool). graph_by false b (root_height nodes)) (depth_by (sharing nodes) refl none)
 
   -- without nodes the depth is 0
-  pub verdict-none : nodes_of nodes ≡ 0 → graph_verdict nodes ≡ Graph.HasDepth 0
+  pub verdict-none : nodes_of nodes ≡ 0 → graph_verdict nodes ≡ Ok 0
   verdict-none e =
       let off : looping nodes ≡ false = rw e (stands-none nodes subsector_bit) in
       let is : root_height nodes ≡ 0 = rw e (height-none nodes subsector_bit) in
       let end : subsector_bit ≤ subsector_bit = omega arith in
       let alone : sharing nodes ≡ false = rw (e, words-end nodes 0 end) in
-      verdict_off off ∙ ap (λ (b : Bool). graph_by false b (root_height nodes)) alone ∙ ap Graph.HasDepth is
+      verdict_off off ∙ ap (λ (b : Bool). graph_by false b (root_height nodes)) alone ∙ ap Ok is
 
   -- ---- the verdict's three cases
 
-  record Cases (g : Graph) : Type 0 where
-    loop : g ≡ Graph.HasLoop → looping nodes ≡ true
-    shared : g ≡ Graph.HasShared → (looping nodes ≡ false) × (sharing nodes ≡ true)
-    depth : {d : ℕ} → g ≡ Graph.HasDepth d → (looping nodes ≡ false) × (sharing nodes ≡ false) × (root_height nodes ≡ d)
+  record Cases (g : Result ℕ GraphError) : Type 0 where
+    loop : g ≡ Err GraphError.HasLoop → looping nodes ≡ true
+    shared : g ≡ Err GraphError.HasShared → (looping nodes ≡ false) × (sharing nodes ≡ true)
+    depth : {d : ℕ} → g ≡ Ok d → (looping nodes ≡ false) × (sharing nodes ≡ false) × (root_height nodes ≡ d)
 
   cases_by : (a b : Bool) → looping nodes ≡ a → sharing nodes ≡ b → Cases (graph_by a b (root_height nodes))
   cases_by true b l s =
@@ -83,13 +84,13 @@ module _ (nodes : List ℕ) where
   cases : Cases (graph_by (looping nodes) (sharing nodes) (root_height nodes))
   cases = cases_by (looping nodes) (sharing nodes) refl refl
 
-  pub depth_verdict : {d : ℕ} → graph_verdict nodes ≡ Graph.HasDepth d
+  pub depth_verdict : {d : ℕ} → graph_verdict nodes ≡ Ok d
       → (looping nodes ≡ false) × (sharing nodes ≡ false) × (root_height nodes ≡ d)
   depth_verdict e = cases.depth (sym verdict-is ∙ e)
 
   -- ---- and what they say of lists of choices
 
-  loops : graph_verdict nodes ≡ Graph.HasLoop → Loop nodes
+  loops : graph_verdict nodes ≡ Err GraphError.HasLoop → Loop nodes
   loops e =
       let on = cases.loop (sym verdict-is ∙ e) in
       let (m, node) = stands_made nodes (nodes_of nodes) (root (nodes_of nodes)) on in
@@ -107,10 +108,10 @@ module _ (nodes : List ℕ) where
   off : (Loop nodes → ⊥) → looping nodes ≡ false
   off none = off_by (looping nodes) refl none
 
-  shares : (Loop nodes → ⊥) → graph_verdict nodes ≡ Graph.HasShared → Shared nodes
+  shares : (Loop nodes → ⊥) → graph_verdict nodes ≡ Err GraphError.HasShared → Shared nodes
   shares none e = repeats-shared nodes (nodes_of nodes) (cases.shared (sym verdict-is ∙ e)).1
 
-  deep : (d : ℕ) → graph_verdict nodes ≡ Graph.HasDepth d → Depth nodes d
+  deep : (d : ℕ) → graph_verdict nodes ≡ Ok d → Depth nodes d
   deep d e =
       let (off, alone, is) = depth_verdict e in
       let (m, end) = height_made nodes (nodes_of nodes) (root (nodes_of nodes)) off in

@@ -1,8 +1,8 @@
 -- Loop, shared child and depth as tests that compute, and the graph's verdict by them. proofs/Heights.antt and
 -- proofs/Shared.antt have that they are those of specs/Routes.antt. Assumes nothing.
-use Rattle.std.specs.Prelude.{ℕ, zero, suc, max, Bool, true, false, ◌&&◌, ◌||◌, cond, List, [], ◌∷◌, ◌++◌, eqb}
+use Rattle.std.specs.Prelude.{ℕ, zero, suc, max, Bool, true, false, ◌&&◌, ◌||◌, cond, List, [], ◌∷◌, ◌++◌, eqb, Result, Ok, Err}
 use Rattle.node.specs.declared.Choice.TheVariants.{Right, Left}
-use Rattle.node_route.specs.declared.Graph.{Graph}
+use Rattle.node_route.specs.declared.GraphError.{GraphError}
 use Rattle.node.specs.Nodes.{nodes_of, is_node, child_of, root}
 
 -- some list of `k` choices from the word `w` is still on a node
@@ -33,13 +33,13 @@ repeats [] = false
 repeats (x ∷ xs) = member x xs || repeats xs
 
 -- by whether there is a loop, whether there is a shared child, and the depth
-abbrev pub graph_by : Bool → Bool → ℕ → Graph
-graph_by true shared depth = Graph.HasLoop
-graph_by false true depth = Graph.HasShared
-graph_by false false depth = Graph.HasDepth depth
+abbrev pub graph_by : Bool → Bool → ℕ → Result ℕ GraphError
+graph_by true shared depth = Err GraphError.HasLoop
+graph_by false true depth = Err GraphError.HasShared
+graph_by false false depth = Ok depth
 
 -- a loop; where there is none a shared child; where there is neither the depth
-unfoldable pub graph_verdict : List ℕ → Graph
+unfoldable pub graph_verdict : List ℕ → Result ℕ GraphError
 graph_verdict nodes =
     let count = nodes_of nodes in
     graph_by (stands nodes count (root count)) (repeats (words_from nodes count (root count))) (height nodes count (root count))

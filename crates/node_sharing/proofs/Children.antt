@@ -1,5 +1,5 @@
 -- Laws of the children of marked nodes: one node more, and what is noted of them. Assumes nothing.
-use Prim.Native.Nat.{ℕ, zero, suc, ◌+◌, ◌/◌, ◌%◌, ◌≤◌, ◌<◌}
+use Prim.Native.Nat.{ℕ, zero, suc, ◌+◌, ◌%◌, ◌≤◌, ◌<◌}
 use mathlib.Core.Bool.{Bool, true, false, ◌||◌}
 use mathlib.Core.List.{List, [], ◌∷◌}
 use mathlib.Core.Logic.{⊎_elim}
@@ -9,21 +9,22 @@ use native.Mathlib.Numerals.{add-one}
 use native.Mathlib.Omega.{arith}
 use borrow.Author.Tests.{eqb-true, eqb-false, ne_eqb}
 use lib.Dec.{eqb}
-use lib.ListN.{length, get_or, replicate, length-replicate, get_or-replicate}
+use lib.ListN.{length, get_or, replicate, length-replicate}
 use Rattle.node.specs.declared.Choice.TheVariants.{Right, Left}
 use Rattle.node.specs.Nodes.{child_of}
 use Rattle.node_route.specs.Heights.{member, repeats}
 use Rattle.node_route.proofs.Repeats.{repeats_head, repeats_tail}
 use Rattle.node_sharing.specs.Children.{child_words}
-use Rattle.node_sharing.specs.Inner.{is_noted, with_note, Seen}
-use Rattle.node_sharing.proofs.Bits.{note-more, length-note, bit-zero}
+use Rattle.bits.specs.Bits.{is_noted, with_note}
+use Rattle.bits.proofs.Bits.{note-more, length-note, note-none}
+use Rattle.node_sharing.specs.Inner.{Seen, Met}
 
 -- `seen` says which words are in the list
 abbrev Noted : List ℕ → List ℕ → Type 0
-Noted seen xs = (w : ℕ) → w < 65536 → is_noted seen w ≡ member w xs
+Noted seen xs = (w : ℕ) → w < 65536 → is_noted 8192 seen w ≡ member w xs
 
-noted_more : (seen xs : List ℕ) (v : ℕ) → v % 8192 < length seen → Noted seen xs → Noted (with_note seen v) (v ∷ xs)
-noted_more seen xs v h noted w l = note-more seen v w h ∙ ap (λ (b : Bool). eqb w v || b) (noted w l)
+noted_more : (seen xs : List ℕ) (v : ℕ) → v % 8192 < length seen → Noted seen xs → Noted (with_note 8192 seen v) (v ∷ xs)
+noted_more seen xs v h noted w l = note-more 8192 seen v w h ∙ ap (λ (b : Bool). eqb w v || b) (noted w l)
 
 module _ (nodes marks : List ℕ) where
   pub children_none : child_words nodes marks 0 ≡ []
@@ -61,7 +62,7 @@ module _ (nodes marks : List ℕ) where
   seen_none =
       record {
         places = length-replicate {A = ℕ} 8192 0;
-        noted = λ w h. rw (children_none, get_or-replicate {A = ℕ} 8192 (w % 8192) 0 0 (omega arith)) (bit-zero (w / 8192));
+        noted = λ w h. rw children_none (note-none 8192 w (omega arith));
         once = rw children_none;
       }
 
@@ -71,7 +72,7 @@ module _ (nodes marks : List ℕ) where
 
     module _ (some : get_or marks n 0 ≡ 0 → ⊥) (right left : ℕ) (r : right ≡ child_of nodes n Right) (l : left ≡ child_of nodes n Left)
         (lowRight : right < 65536) where
-      pub met_right : is_noted seen right ≡ true → repeats (child_words nodes marks (n + 1)) ≡ true
+      pub met_right : is_noted 8192 seen right ≡ true → repeats (child_words nodes marks (n + 1)) ≡ true
       met_right e =
           let m : member right (child_words nodes marks n) ≡ true = sym (s.noted right lowRight) ∙ e in
           rw (children_more n some, ← r)
@@ -80,24 +81,30 @@ module _ (nodes marks : List ℕ) where
       two : child_words nodes marks (n + 1) ≡ left ∷ right ∷ child_words nodes marks n
       two = children_more n some ∙ (λ i. sym l i ∷ sym r i ∷ child_words nodes marks n)
 
-      noted_right : Noted (with_note seen right) (right ∷ child_words nodes marks n)
+      noted_right : Noted (with_note 8192 seen right) (right ∷ child_words nodes marks n)
       noted_right = noted_more seen (child_words nodes marks n) right (rw s.places (omega arith)) s.noted
 
       module _ (lowLeft : left < 65536) where
-        pub met-left : is_noted (with_note seen right) left ≡ true → repeats (child_words nodes marks (n + 1)) ≡ true
+        met-left : is_noted 8192 (with_note 8192 seen right) left ≡ true → repeats (child_words nodes marks (n + 1)) ≡ true
         met-left e =
             let m : member left (right ∷ child_words nodes marks n) ≡ true = sym (noted_right left lowLeft) ∙ e in
             rw two (repeats_head left (right ∷ child_words nodes marks n) m)
 
-        pub seen_both : is_noted seen right ≡ false → is_noted (with_note seen right) left ≡ false
-            → Seen nodes marks (n + 1) (with_note (with_note seen right) left)
+        seen_both : is_noted 8192 seen right ≡ false → is_noted 8192 (with_note 8192 seen right) left ≡ false
+            → Seen nodes marks (n + 1) (with_note 8192 (with_note 8192 seen right) left)
         seen_both a b =
-            let long : length (with_note seen right) ≡ 8192 = length-note seen right ∙ s.places in
-            let all = noted_more (with_note seen right) (right ∷ child_words nodes marks n) left (rw long (omega arith)) noted_right in
+            let long : length (with_note 8192 seen right) ≡ 8192 = length-note 8192 seen right ∙ s.places in
+            let all = noted_more (with_note 8192 seen right) (right ∷ child_words nodes marks n) left (rw long (omega arith)) noted_right in
             let m : member right (child_words nodes marks n) ≡ false = sym (s.noted right lowRight) ∙ a in
             let k : member left (right ∷ child_words nodes marks n) ≡ false = sym (noted_right left lowLeft) ∙ b in
             record {
-              places = length-note (with_note seen right) left ∙ long;
+              places = length-note 8192 (with_note 8192 seen right) left ∙ long;
               noted = rw two all;
               once = rw (two, k, m, s.once);
             }
+
+        -- what the left child tells, where the right one is new
+        pub met_left : is_noted 8192 seen right ≡ false → (b : Bool) → is_noted 8192 (with_note 8192 seen right) left ≡ b
+            → Met nodes marks (n + 1) (with_note 8192 (with_note 8192 seen right) left) b
+        met_left a true e = met-left e
+        met_left a false e = seen_both a e

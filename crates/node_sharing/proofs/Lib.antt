@@ -1,5 +1,4 @@
 -- The laws of the words that were seen. Assumes nothing.
 
-pub mod Bits
 pub mod Children
 pub mod Places

@@ -1,10 +1,8 @@
 -- What is answered of a lump and of a map of the pair (W-207): each from the file that has the entry, and from no other.
 -- Assumes nothing.
-use Rattle.std.specs.Prelude.{ℕ, List, ◌≡◌}
+use Rattle.std.specs.Prelude.{ℕ, List, ◌≡◌, Result, Ok, Err}
 use Rattle.wad.specs.declared.lumps.Entry.{Entry}
-use Rattle.wad.specs.declared.lumps.Entry.TheVariants.{At, Refused as NotThere}
-use Rattle.wad.specs.declared.map.Marker.{Marker}
-use Rattle.wad.specs.declared.map.Marker.TheVariants.{Entry as Found, Refused as NoMarker}
+use Rattle.refusal.specs.declared.Refusal.{Refusal}
 use Rattle.wad.specs.Entries.{directory_of}
 use Rattle.wad.specs.Lump.{entry_offset, entry_size, part_of}
 use Rattle.map_check.specs.Verdict.{verdict_by, words_after_by}
@@ -14,9 +12,9 @@ use Rattle.pair.specs.declared.PairVerdict.{PairVerdict}
 use Rattle.pair.specs.Search.{file_of, lump_search, map_search}
 
 -- where a found entry's part of its file lies, or the refusal
-abbrev pub entry_by : List ℕ → Marker → Entry
-entry_by wad (Found i) = At (entry_offset (directory_of wad) i) (entry_size (directory_of wad) i)
-entry_by wad (NoMarker r) = NotThere r
+abbrev pub entry_by : List ℕ → Result ℕ Refusal → Result Entry Refusal
+entry_by wad (Ok i) = Ok (record { offset = entry_offset (directory_of wad) i; size = entry_size (directory_of wad) i })
+entry_by wad (Err r) = Err r
 
 -- what a search leads to, in the file that it notes
 abbrev pub entry_of : List ℕ → List ℕ → PairSearch → PairEntry

@@ -8,32 +8,34 @@ ghost use Rattle.std.specs.Prelude.{◌≡◌};
 ghost use Rattle.pair.specs.Search.{file_of};
 ghost use Rattle.pair.specs.Answers.{pair_entry, pair_lump, PairAnswered};
 
-use map_check::Verdict;
+use map_check::Accepted;
+use refusal::Refusal;
+pub use search::File;
 use search::{search_lump, search_map};
-use wad::{Entry, Marker};
+use wad::Entry;
 
 // What is answered of a lump.
 #[derive(Clone, Copy)]
 pub struct PairEntry {
-    pub file: u32,
-    pub entry: Entry,
+    pub file: Option<File>,
+    pub entry: Result<Entry, Refusal>,
 }
 
 // What is answered of a map.
 #[derive(Clone, Copy)]
 pub struct PairVerdict {
-    pub file: u32,
-    pub verdict: Verdict,
+    pub file: Option<File>,
+    pub verdict: Result<Accepted, Refusal>,
 }
 
-// The file of a number: the patch, else the base.
-fn file_of<'a>(base: &'a [u8], patch: &'a [u8], file: u32) -> &'a [u8]
+// The patch if it is noted, else the base.
+fn file_of<'a>(base: &'a [u8], patch: &'a [u8], file: Option<File>) -> &'a [u8]
     ensures { result.now ≡ file_of base.now patch.now file }
 {
-    if file == search::PATCH {
-        return patch;
+    match file {
+        Some(File::Patch) => patch,
+        Some(File::Base) | None => base,
     }
-    base
 }
 
 // Where the lump of a name of eight bytes lies: 1 to 6 of the patch, of the base, and 11.
@@ -42,21 +44,20 @@ pub fn find<'a>(base: &'a [u8], patch: &'a [u8], name: &[u8]) -> PairEntry
 {
     let search = search_lump(base, patch, name);
     let file = search.file;
-    let marker = search.marker;
-    match marker {
-        Marker::Entry(i) => {
+    match search.marker {
+        Ok(i) => {
             let dir = wad::directory_of(file_of(base, patch, file));
             PairEntry {
                 file,
-                entry: Entry::At {
+                entry: Ok(Entry {
                     offset: wad::entry_offset(dir, i),
                     size: wad::entry_size(dir, i),
-                },
+                }),
             }
         }
-        Marker::Refused(r) => PairEntry {
+        Err(r) => PairEntry {
             file,
-            entry: Entry::Refused(r),
+            entry: Err(r),
         },
     }
 }
@@ -66,11 +67,9 @@ pub fn pick<'a>(base: &'a [u8], patch: &'a [u8], name: &[u8]) -> &'a [u8]
     ensures { result.now ≡ pair_lump base.now patch.now name.now }
 {
     let found = find(base, patch, name);
-    let file = found.file;
-    let entry = found.entry;
-    match entry {
-        Entry::At { offset, size } => wad::part_if(file_of(base, patch, file), offset, size),
-        Entry::Refused(_) => &base[0..0],
+    match found.entry {
+        Ok(entry) => wad::part_if(file_of(base, patch, found.file), entry.offset, entry.size),
+        Err(_) => &base[0..0],
     }
 }
 
@@ -82,15 +81,14 @@ pub fn judge_map<'a>(base: &'a [u8], patch: &'a [u8], name: &[u8], words: &mut [
 {
     let search = search_map(base, patch, name);
     let file = search.file;
-    let marker = search.marker;
-    match marker {
-        Marker::Entry(i) => PairVerdict {
+    match search.marker {
+        Ok(i) => PairVerdict {
             file,
             verdict: map_check::judge_at(file_of(base, patch, file), i, words),
         },
-        Marker::Refused(r) => PairVerdict {
+        Err(r) => PairVerdict {
             file,
-            verdict: Verdict::Refused(r),
+            verdict: Err(r),
         },
     }
 }

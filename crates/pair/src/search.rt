@@ -1,80 +1,78 @@
 // Which of the two files of a pair has a name (W-207): refusals 1 to 6 of the patch, then of the base, 10 and 11.
-ghost use Rattle.std.specs.Prelude.{◌≡◌};
-ghost use Rattle.refusal.specs.declared.Check.TheVariants.{Pass};
-ghost use Rattle.wad.specs.declared.map.Marker.TheVariants.{Refused as NoMarker};
+ghost use Rattle.std.specs.Prelude.{◌≡◌, Ok, Err};
 ghost use Rattle.wad.specs.Entries.{file_check};
 ghost use Rattle.pair.specs.Search.{last_named, either_named, search_pair, lump_search, map_search};
 
-use refusal::{Check, Refusal};
-use wad::Marker;
+use refusal::Refusal;
 
-// The numbers by which the files are noted.
-pub const NO_FILE: u32 = 0;
+// One file of a pair.
+#[derive(Clone, Copy, Debug, PartialEq, Eq)]
+pub enum File {
+    Base,
+    Patch,
+}
 
-pub const BASE: u32 = 1;
-
-pub const PATCH: u32 = 2;
-
-// What a search of both files answers: the file that has the entry, or is refused, and the entry or the refusal.
+// What a search of both files answers: the file that has the entry, or is refused, and the entry or the refusal. No file is noted
+// where the name is refused, or neither file has it.
 #[derive(Clone, Copy)]
 pub struct PairSearch {
-    pub file: u32,
-    pub marker: Marker,
+    pub file: Option<File>,
+    pub marker: Result<usize, Refusal>,
 }
 
 // The last entry of a name. A name of another length than eight bytes is no fault: no entry has it.
-fn last_named(wad: &[u8], name: &[u8]) -> Marker
-    requires { file_check wad.now ≡ Pass }
+fn last_named(wad: &[u8], name: &[u8]) -> Result<usize, Refusal>
+    requires { file_check wad.now ≡ Ok tt }
     ensures { result ≡ last_named wad.now name.now }
 {
     if name.len() == 8 {
         let search = wad::last_named(wad::directory_of(wad), wad::entry_count(wad), name);
         return search.marker;
     }
-    Marker::Refused(Refusal::EntryMissing)
+    Err(Refusal::EntryMissing)
 }
 
-fn not_searched(file: u32, r: Refusal) -> PairSearch
-    ensures { result ≡ record { file = file; marker = NoMarker r } }
+fn not_searched(file: Option<File>, r: Refusal) -> PairSearch
+    ensures { result ≡ record { file = file; marker = Err r } }
 {
     PairSearch {
         file,
-        marker: Marker::Refused(r),
+        marker: Err(r),
     }
 }
 
 // The patch's entry, otherwise the base's, otherwise 11.
 fn either_named(base: &[u8], patch: &[u8], name: &[u8]) -> PairSearch
-    requires { (file_check base.now ≡ Pass) × (file_check patch.now ≡ Pass) }
+    requires { (file_check base.now ≡ Ok tt) × (file_check patch.now ≡ Ok tt) }
     ensures { result ≡ either_named base.now patch.now name.now }
 {
-    if let Marker::Entry(i) = last_named(patch, name) {
+    if let Ok(i) = last_named(patch, name) {
         return PairSearch {
-            file: PATCH,
-            marker: Marker::Entry(i),
+            file: Some(File::Patch),
+            marker: Ok(i),
         };
     }
-    if let Marker::Entry(i) = last_named(base, name) {
+    if let Ok(i) = last_named(base, name) {
         return PairSearch {
-            file: BASE,
-            marker: Marker::Entry(i),
+            file: Some(File::Base),
+            marker: Ok(i),
         };
     }
-    not_searched(NO_FILE, Refusal::EntryMissing)
+    not_searched(None, Refusal::EntryMissing)
 }
 
 // Both files are judged before the name is.
-fn search_pair(base: &[u8], patch: &[u8], name: &[u8], asked: Check) -> PairSearch
+fn search_pair(base: &[u8], patch: &[u8], name: &[u8], asked: Result<(), Refusal>) -> PairSearch
     ensures { result ≡ search_pair base.now patch.now name.now asked }
 {
-    if let Check::Refused(r) = wad::judge_file(patch) {
-        return not_searched(PATCH, r);
+    if let Err(r) = wad::judge_file(patch) {
+        return not_searched(Some(File::Patch), r);
     }
-    if let Check::Refused(r) = wad::judge_file(base) {
-        return not_searched(BASE, r);
+    if let Err(r) = wad::judge_file(base) {
+        return not_searched(Some(File::Base), r);
     }
-    if let Check::Refused(r) = asked {
-        return not_searched(NO_FILE, r);
+    if let Err(r) = asked {
+        return not_searched(None, r);
     }
     either_named(base, patch, name)
 }
@@ -83,7 +81,7 @@ fn search_pair(base: &[u8], patch: &[u8], name: &[u8], asked: Check) -> PairSear
 pub fn search_lump(base: &[u8], patch: &[u8], name: &[u8]) -> PairSearch
     ensures { result ≡ lump_search base.now patch.now name.now }
 {
-    search_pair(base, patch, name, Check::Pass)
+    search_pair(base, patch, name, Ok(()))
 }
 
 // 10 comes after both files' refusals.

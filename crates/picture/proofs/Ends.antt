@@ -9,8 +9,8 @@ use borrow.Author.Tests.{eqb-true, eqb-false, le-leb, leb-true}
 use lib.Dec.{leb}
 use lib.ListN.{length}
 use Rattle.refusal.specs.declared.Refusal.TheVariants.{PostBounds, PostRows}
-use Rattle.refusal.specs.declared.Check.{Check}
-use Rattle.refusal.specs.declared.Check.TheVariants.{Pass}
+use Rattle.refusal.specs.Checks.{Check}
+use Rattle.std.specs.Prelude.{Ok}
 use Rattle.refusal.specs.Checks.{unless}
 use Rattle.refusal.proofs.Checks.{both, unless_pass, and_then_pass}
 use Rattle.picture_header.specs.Layout.{start_at, end_at, end_row, post_end}
@@ -28,19 +28,19 @@ module _ (lump : List ℕ) (height : ℕ) where
       post at high n inside (simp (le-leb high (start_at lump at) h, (both (leb row (start_at lump at)) _ rows).1)) rest
 
   module _ (column : ℕ) where
-    ends_pass : (at row : ℕ) {answer : Check} → Ends lump height at row → Rest lump height column at row answer → Pass ≡ answer
+    ends_pass : (at row : ℕ) {answer : Check} → Ends lump height at row → Rest lump height column at row answer → Ok tt ≡ answer
     ends_pass at row (ended _ _ e) r = rest_ended _ _ _ r e
     ends_pass at row (post _ _ n inside rows rest) r =
         ends_pass (post_end lump at) (end_row lump at) rest (rest_more _ _ _ r n inside rows)
 
-    ends_of : (most at row : ℕ) → posts_check most lump height column at row ≡ Pass → Ends lump height at row
+    ends_of : (most at row : ℕ) → posts_check most lump height column at row ≡ Ok tt → Ends lump height at row
     unfolding posts_check
     ends_of zero at row e = let z : ◌≡◌ {A = ℕ} 0 1 = cc in absurd (omega arith)
     ends_of (suc most) at row e =
         by_end (ends_of most (post_end lump at) (end_row lump at)) (end_at lump at) refl e
       where
-        by_end : (posts_check most lump height column (post_end lump at) (end_row lump at) ≡ Pass → Ends lump height (post_end lump at) (end_row lump at))
-            → (b : Bool) → end_at lump at ≡ b → posts_check (suc most) lump height column at row ≡ Pass → Ends lump height at row
+        by_end : (posts_check most lump height column (post_end lump at) (end_row lump at) ≡ Ok tt → Ends lump height (post_end lump at) (end_row lump at))
+            → (b : Bool) → end_at lump at ≡ b → posts_check (suc most) lump height column at row ≡ Ok tt → Ends lump height at row
         by_end below true t e = ended at row (eqb-true _ _ t)
         by_end below false t e =
             let rest = posts_check most lump height column (post_end lump at) (end_row lump at) in
@@ -52,7 +52,7 @@ module _ (lump : List ℕ) (height : ℕ) where
 
     -- what is known of a noted place `q` while a column, which will be answered with `answer`, has come to `at`
     pub record Known (answer : Check) (at q : ℕ) : Type 0 where
-      pub once : answer ≡ Pass → Good lump height q
+      pub once : answer ≡ Ok tt → Good lump height q
       pub ahead : at ≤ q → Good lump height q
 
     -- a column on its way: the posts that are left decide the answer, and the notes are good once it passes
@@ -72,7 +72,7 @@ module _ (lump : List ℕ) (height : ℕ) where
         above = leb-true _ _ (both (leb row (start_at lump at)) _ rows).0
 
         -- a column that comes to a noted place is done
-        pub judging_met : is_noted notes at ≡ true → Pass ≡ answer
+        pub judging_met : is_noted notes at ≡ true → Ok tt ≡ answer
         judging_met e =
             let k = notes-here (Known answer at) notes at j.known e in
             ends_pass at row (ends-row at (start_at lump at) row above (k.ahead (omega arith))) j.rest

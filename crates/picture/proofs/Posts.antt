@@ -9,8 +9,8 @@ use borrow.Author.Tests.{eq-eqb, ne_eqb, le-leb, lt-leb, ltb-true, ltb-false}
 use lib.Dec.{ltb}
 use lib.ListN.{length, get_or-eq_default}
 use Rattle.refusal.specs.declared.Refusal.TheVariants.{PostBounds, PostRows}
-use Rattle.refusal.specs.declared.Check.{Check}
-use Rattle.refusal.specs.declared.Check.TheVariants.{Pass, Refused}
+use Rattle.refusal.specs.Checks.{Check}
+use Rattle.std.specs.Prelude.{Ok, Err}
 use Rattle.picture_header.specs.Layout.{start_at, end_row, post_end}
 use Rattle.picture.specs.Judging.{posts_check, rows_ok}
 use Rattle.picture.specs.Stepping.{past_empty}
@@ -29,17 +29,17 @@ module _ (lump : List ℕ) (height column : ℕ) where
       record { most = length lump - 1; enough = omega arith; same = ap (λ (n : ℕ). posts_check n lump height column at 0) e }
 
   module _ {at row : ℕ} {answer : Check} (r : Rest at row answer) where
-    pub rest_ended : start_at lump at ≡ 255 → Pass ≡ answer
+    pub rest_ended : start_at lump at ≡ 255 → Ok tt ≡ answer
     unfolding posts_check
     rest_ended e = simp (eq-eqb _ _ e) at r.same
 
     module _ (post : start_at lump at ≡ 255 → ⊥) where
-      pub rest-cut : length lump < post_end lump at → Refused (PostBounds column) ≡ answer
+      pub rest-cut : length lump < post_end lump at → Err (PostBounds column) ≡ answer
       unfolding posts_check
       rest-cut h = simp (ne_eqb _ _ post, lt-leb _ _ h) at r.same
 
       module _ (inside : post_end lump at ≤ length lump) where
-        pub rest-rows : rows_ok lump height at row ≡ false → Refused (PostRows column) ≡ answer
+        pub rest-rows : rows_ok lump height at row ≡ false → Err (PostRows column) ≡ answer
         unfolding posts_check
         rest-rows e = simp (ne_eqb _ _ post, le-leb _ _ inside, e) at r.same
 
@@ -53,12 +53,12 @@ module _ (lump : List ℕ) (height column : ℕ) where
         rest_more = more r.most r.enough r.same
 
     -- off the end there is no end byte
-    pub rest_off : length lump ≤ at → Refused (PostBounds column) ≡ answer
+    pub rest_off : length lump ≤ at → Err (PostBounds column) ≡ answer
     rest_off h = rest-cut (λ e. let z = sym (get_or-eq_default lump 0 h) ∙ e in omega arith) (omega arith)
 
   -- ---- posts that pass
 
-  pub pass_inside : (most at row : ℕ) → posts_check most lump height column at row ≡ Pass → at < length lump
+  pub pass_inside : (most at row : ℕ) → posts_check most lump height column at row ≡ Ok tt → at < length lump
   unfolding posts_check
   pass_inside zero at row e = let z : ◌≡◌ {A = ℕ} 0 1 = cc in absurd (omega arith)
   pass_inside (suc most) at row e = inside (ltb at (length lump)) refl

@@ -1,12 +1,10 @@
 -- Which pictures are refused, and with what (01, "Pictures" and the numbers 50 to 54 of "Refusal numbers", in their
 -- order). Assumes nothing.
-use Rattle.std.specs.Prelude.{ℕ, zero, suc, Bool, ◌&&◌, cond, List, leb, length}
+use Rattle.std.specs.Prelude.{ℕ, zero, suc, Bool, ◌&&◌, cond, List, leb, length, Result, Ok, Err}
+use Rattle.refusal.specs.declared.Refusal.{Refusal}
 use Rattle.refusal.specs.declared.Refusal.TheVariants.{PostBounds, PostRows}
-use Rattle.refusal.specs.declared.Check.{Check}
-use Rattle.refusal.specs.declared.Check.TheVariants.{Pass, Refused}
-use Rattle.refusal.specs.Checks.{unless, ◌and_then◌, each}
-use Rattle.picture.specs.declared.PictureVerdict.{PictureVerdict}
-use Rattle.picture.specs.declared.PictureVerdict.TheVariants.{Accepted, Refused as NotAccepted}
+use Rattle.refusal.specs.Checks.{Check, unless, ◌and_then◌, each}
+use Rattle.picture_header.specs.declared.Picture.{Picture}
 use Rattle.picture_header.specs.Layout.{width_of, height_of, picture_of, table_end, column_offset, start_at, end_at, end_row, post_end}
 use Rattle.picture_header.specs.Headers.{picture_header_check}
 
@@ -23,9 +21,9 @@ post_check lump height column at row =
 -- 53 and 54 over the posts from `at` on, downward: the end byte, or a post and then those below it. A post takes bytes,
 -- so that as many posts as bytes are enough to look at.
 unfoldable pub posts_check : ℕ → List ℕ → ℕ → ℕ → ℕ → ℕ → Check
-posts_check zero lump height column at row = Refused (PostBounds column)
+posts_check zero lump height column at row = Err (PostBounds column)
 posts_check (suc most) lump height column at row =
-    cond (end_at lump at) Pass
+    cond (end_at lump at) (Ok tt)
     (post_check lump height column at row and_then posts_check most lump height column (post_end lump at) (end_row lump at))
 
 -- 53 and 54 of one column: its offset, then its posts
@@ -43,6 +41,6 @@ abbrev pub picture_check : List ℕ → Check
 picture_check lump = picture_header_check lump and_then columns_check lump
 
 -- the answer: the header of a picture that passed, or the refusal
-abbrev pub picture_answer : Check → List ℕ → PictureVerdict
-picture_answer Pass lump = Accepted (picture_of lump)
-picture_answer (Refused r) lump = NotAccepted r
+abbrev pub picture_answer : Check → List ℕ → Result Picture Refusal
+picture_answer (Ok _) lump = Ok (picture_of lump)
+picture_answer (Err r) lump = Err r

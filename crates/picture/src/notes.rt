@@ -1,6 +1,7 @@
 // Notes on places of the lump that many columns can come to: one byte for each of the first four places of every 1,024. A row
-// of posts of length 0 stands on one of these places, whatever its offset, and they take a small array.
-ghost use Rattle.std.specs.Prelude.{◌≡◌, ◌+◌, ◌*◌, ◌≤◌, length};
+// of posts of length 0 stands on one of these places, whatever its offset, and they take a small array. A note is a byte and no
+// bool, since `skip_posts`, which other crates call, is lent bytes.
+ghost use Rattle.std.specs.Prelude.{◌≡◌};
 ghost use Rattle.picture.specs.Stepping.{is_noted, noted};
 
 // Whether `at` is noted.
@@ -29,21 +30,4 @@ pub fn note(notes: &mut [u8], at: usize)
         return;
     }
     notes[slot] = 1;
-}
-
-// How many posts of four bytes fit between `from` and the next place that has a slot, or the lump's end.
-pub fn posts_ahead(from: usize, length: usize) -> usize
-    requires { from ≤ length }
-    ensures { from + 4 * result ≤ length }
-{
-    posts_inside(from, length, (1027 - from % 1024) / 4 % 256)
-}
-
-// How many posts of four bytes fit from `from` on, at most `most`.
-pub fn posts_inside(from: usize, length: usize, most: usize) -> usize
-    requires { from ≤ length }
-    ensures { from + 4 * result ≤ length }
-{
-    let inside = (length - from) / 4;
-    if most <= inside { most } else { inside }
 }

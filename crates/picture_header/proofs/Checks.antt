@@ -8,7 +8,7 @@ use borrow.Author.Tests.{leb-true}
 use lib.Dec.{leb}
 use lib.ListN.{length}
 use Rattle.refusal.specs.declared.Refusal.TheVariants.{PictureLength, PictureSize, PictureOffsets}
-use Rattle.refusal.specs.declared.Check.TheVariants.{Pass}
+use Rattle.std.specs.Prelude.{Ok}
 use Rattle.refusal.specs.Checks.{unless, ◌and_then◌}
 use Rattle.refusal.proofs.Checks.{both, unless_pass, and_then_pass}
 use Rattle.picture_header.specs.Layout.{width_of, height_of, area_of, table_end}
@@ -22,7 +22,7 @@ pub record Header (lump : List ℕ) : Type 0 where
   pub height : height_of lump ≤ 200
   pub table : table_end (width_of lump) ≤ length lump
 
-pub header_of : (lump : List ℕ) → picture_header_check lump ≡ Pass → Header lump
+pub header_of : (lump : List ℕ) → picture_header_check lump ≡ Ok tt → Header lump
 header_of lump e =
     let length_part = unless (leb 8 (length lump)) PictureLength in
     let size-part = unless (size_ok (width_of lump) (height_of lump)) PictureSize in

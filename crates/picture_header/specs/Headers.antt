@@ -2,8 +2,7 @@
 -- numbers"). Assumes nothing.
 use Rattle.std.specs.Prelude.{ℕ, Bool, ◌&&◌, List, leb, length}
 use Rattle.refusal.specs.declared.Refusal.TheVariants.{PictureLength, PictureSize, PictureOffsets}
-use Rattle.refusal.specs.declared.Check.{Check}
-use Rattle.refusal.specs.Checks.{unless, ◌and_then◌}
+use Rattle.refusal.specs.Checks.{Check, unless, ◌and_then◌}
 use Rattle.picture_header.specs.Layout.{width_of, height_of, table_end}
 
 -- width 1 to 320, height 1 to 200

@@ -5,11 +5,11 @@ ghost use Rattle.std.specs.Prelude.{◌≡◌, ◌≤◌, ◌<◌, length};
 ghost use Rattle.picture_header.specs.Layout.{width_of, height_of, picture_of};
 ghost use Rattle.picture_header.specs.Headers.{size_ok, picture_header_check};
 
-use refusal::{Check, Refusal};
+use refusal::Refusal;
 
 // A picture's header: its size in pixels, and the offsets of its origin.
 #[repr(C)]
-#[derive(Clone, Copy)]
+#[derive(Clone, Copy, Default)]
 pub struct Picture {
     pub width: usize,
     pub height: usize,
@@ -17,6 +17,7 @@ pub struct Picture {
     pub top: i16,
 }
 
+// Each field has a function of its own, which asks for the header's bytes: a type that holds them would ask more of callers.
 pub fn width_of(lump: &[u8]) -> usize
     requires { 8 ≤ length lump.now }
     ensures { (result ≡ width_of lump.now) × (result < 65536) }
@@ -46,18 +47,18 @@ pub fn picture_of(lump: &[u8]) -> Picture
 pub fn size_ok(width: usize, height: usize) -> bool
     ensures { result ≡ size_ok width height }
 {
-    ((1 <= width) & (width <= 320)) & ((1 <= height) & (height <= 200))
+    (1..=320).contains(&width) && (1..=200).contains(&height)
 }
 
-pub fn judge_header(lump: &[u8]) -> Check
+pub fn judge_header(lump: &[u8]) -> Result<(), Refusal>
     ensures { result ≡ picture_header_check lump.now }
 {
     if lump.len() < 8 {
-        return Check::Refused(Refusal::PictureLength);
+        return Err(Refusal::PictureLength);
     }
     let width = width_of(lump);
     if !size_ok(width, height_of(lump)) {
-        return Check::Refused(Refusal::PictureSize);
+        return Err(Refusal::PictureSize);
     }
     refusal::pass_if(8 + 4 * width <= lump.len(), Refusal::PictureOffsets)
 }

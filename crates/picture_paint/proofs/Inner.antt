@@ -4,7 +4,7 @@ use mathlib.Core.Bool.{Bool, true, false, ◌&&◌, cond}
 use mathlib.Core.List.{List}
 use mathlib.Core.Logic.{◌⊎◌, inl, inr}
 use mathlib.Core.Path.{◌≡◌, refl, sym, ap, ◌∙◌}
-use native.Mathlib.Nat.{le_of_suc-le-suc, eq-or-lt_of_le}
+use native.Mathlib.Nat.{not-suc-le-zero, le_of_suc-le-suc, eq-or-lt_of_le}
 use native.Mathlib.Numerals.{add-one}
 use native.Mathlib.Omega.{arith}
 use borrow.Author.Tests.{eqb-true, eqb-false, leb-true, ltb-true, ltb-false, le-leb, lt-ltb, le-ltb}
@@ -125,6 +125,10 @@ module _ (by : ℕ → ℕ) (lump : List ℕ) (at : ℕ) where
 -- ---- columns
 
 module _ {area width : ℕ} {f : ℕ → ℕ → ℕ → ℕ} where
+  pub strokes_none : (plane : List ℕ) → Strokes area width 0 f plane plane
+  strokes_none plane =
+      record { same = refl; beyond = refl; done = λ column row h. absurd (not-suc-le-zero h); left = λ column row h k. refl }
+
   -- one column more
   pub strokes_more : (count : ℕ) {a b c : List ℕ} → count < width → Strokes area width count f a b
       → Stroke area width count (f count) b c → Strokes area width (count + 1) f a c

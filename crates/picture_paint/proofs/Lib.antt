@@ -5,3 +5,4 @@ pub mod Posts
 pub mod Inner
 pub mod Painting
 pub mod Planes
+pub mod Canvases

@@ -6,7 +6,7 @@ use mathlib.Core.Path.{◌≡◌, sym, ◌∙◌, subst}
 use native.Mathlib.Omega.{arith}
 use lib.Dec.{leb}
 use lib.ListN.{length}
-use Rattle.refusal.specs.declared.Check.TheVariants.{Pass}
+use Rattle.std.specs.Prelude.{Ok}
 use Rattle.refusal.specs.declared.Refusal.TheVariants.{PostBounds}
 use Rattle.refusal.specs.Checks.{unless, each}
 use Rattle.refusal.proofs.Checks.{and_then_pass, each_pass}
@@ -32,7 +32,7 @@ module _ (lump : List ℕ) (from width column : ℕ) where
   pub record Painting (colour₀ cover₀ colour cover : List ℕ) (at : ℕ) : Type 0 where
     pub most : ℕ
     pub row : ℕ
-    pub passes : posts_check most lump (height_of lump) column at row ≡ Pass
+    pub passes : posts_check most lump (height_of lump) column at row ≡ Ok tt
     pub planes : Both (λ by old new. Plane by old new most at) colour₀ cover₀ colour cover
 
   plane_more : (by : ℕ → ℕ) (most at : ℕ) {old new newer : List ℕ} → Plane by old new most at
@@ -87,8 +87,8 @@ module _ (lump : List ℕ) (from width column : ℕ) where
 -- ---- columns
 
 -- a column of a picture that passed has posts that pass
-pub column_pass : (lump : List ℕ) (width height column at : ℕ) → each (column_check lump width height) width ≡ Pass
-    → column < width → at ≡ column_offset lump column → posts_check (length lump) lump height column at 0 ≡ Pass
+pub column_pass : (lump : List ℕ) (width height column at : ℕ) → each (column_check lump width height) width ≡ Ok tt
+    → column < width → at ≡ column_offset lump column → posts_check (length lump) lump height column at 0 ≡ Ok tt
 column_pass lump width height column at e h q =
     let one = each_pass (column_check lump width height) width e column h in
     let offset-part = unless (leb (table_end width) (column_offset lump column)) (PostBounds column) in

@@ -7,7 +7,7 @@ use borrow.Author.Tests.{eq-eqb, ne_eqb, leb-true}
 use lib.Dec.{leb}
 use lib.ListN.{length}
 use Rattle.refusal.specs.declared.Refusal.TheVariants.{PostBounds, PostRows}
-use Rattle.refusal.specs.declared.Check.TheVariants.{Pass}
+use Rattle.std.specs.Prelude.{Ok}
 use Rattle.refusal.specs.Checks.{unless}
 use Rattle.refusal.proofs.Checks.{both, unless_pass, and_then_pass}
 use Rattle.picture_header.specs.Layout.{start_at, end_row, post_end}
@@ -26,11 +26,11 @@ module _ (lump : List ℕ) (height column : ℕ) where
     pub left : ℕ
     pub inside : post_end lump at ≤ length lump
     pub rows : end_row lump at ≤ height
-    pub rest : posts_check left lump height column (post_end lump at) (end_row lump at) ≡ Pass
+    pub rest : posts_check left lump height column (post_end lump at) (end_row lump at) ≡ Ok tt
     pub shows : (by : ℕ → ℕ) (row v : ℕ)
         → over_posts by left lump (post_end lump at) row (over_post by lump at row v) ≡ over_posts by most lump at row v
 
-  pub next_of : (most at row : ℕ) → posts_check most lump height column at row ≡ Pass → (start_at lump at ≡ 255 → ⊥) → Next most at
+  pub next_of : (most at row : ℕ) → posts_check most lump height column at row ≡ Ok tt → (start_at lump at ≡ 255 → ⊥) → Next most at
   unfolding posts_check over_posts
   next_of zero at row e post = let z : ◌≡◌ {A = ℕ} 0 1 = cc in absurd (omega arith)
   next_of (suc most) at row e post =

@@ -1,8 +1,7 @@
 -- The lent buffers: 55, and its place between the checks of a picture (01, "Pictures" and "Refusal numbers"). Assumes nothing.
 use Rattle.std.specs.Prelude.{ℕ, ◌&&◌, List, leb}
 use Rattle.refusal.specs.declared.Refusal.TheVariants.{PixelBuffer}
-use Rattle.refusal.specs.declared.Check.{Check}
-use Rattle.refusal.specs.Checks.{unless, ◌and_then◌}
+use Rattle.refusal.specs.Checks.{Check, unless, ◌and_then◌}
 use Rattle.picture_header.specs.Layout.{area_of}
 use Rattle.picture_header.specs.Headers.{picture_header_check}
 use Rattle.picture.specs.Judging.{columns_check}

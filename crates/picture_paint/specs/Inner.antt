@@ -2,12 +2,7 @@
 -- `area` pixels in rows of `width`, said of each pixel. Pixel (column, row) stands at row × width + column. Assumes nothing.
 use Rattle.std.specs.Prelude.{ℕ, ◌+◌, ◌*◌, ◌≤◌, ◌<◌, List, ◌≡◌, length, get_or, drop}
 use Rattle.picture_header.specs.Layout.{height_of}
-use Rattle.picture_paint.specs.Pixels.{by_colour, by_cover, over_column}
-
--- two planes that a picture with rows of `width` fits into
-pub record Room (lump : List ℕ) (width : ℕ) (colour cover : List ℕ) : Type 0 where
-  pub colours : height_of lump * width ≤ length colour
-  pub covers : height_of lump * width ≤ length cover
+use Rattle.picture_paint.specs.Pixels.{by_colour, by_cover, over_post, over_posts, over_column}
 
 -- `old` has become `new` in one column alone, where row `row` shows `f row` of what it showed
 pub record Stroke (area width column : ℕ) (f : ℕ → ℕ → ℕ) (old new : List ℕ) : Type 0 where
@@ -31,6 +26,18 @@ pub record Both (P : (ℕ → ℕ) → List ℕ → List ℕ → Type 0) (colour
   pub on_colour : P by_colour colour colour'
   pub on_cover : P by_cover cover cover'
 
--- both planes with all columns of the picture painted
+-- both planes with the post at `at` painted in `column`
+abbrev pub PaintsPost : List ℕ → ℕ → ℕ → ℕ → List ℕ → List ℕ → List ℕ → List ℕ → Type 0
+PaintsPost lump width column at = Both (λ by. Stroke (height_of lump * width) width column (over_post by lump at))
+
+-- with the posts from `from` on
+abbrev pub PaintsPosts : List ℕ → ℕ → ℕ → ℕ → List ℕ → List ℕ → List ℕ → List ℕ → Type 0
+PaintsPosts lump width column from = Both (λ by. Stroke (height_of lump * width) width column (over_posts by (length lump) lump from))
+
+-- with the columns before `count`
+abbrev pub PaintsFirst : List ℕ → ℕ → ℕ → List ℕ → List ℕ → List ℕ → List ℕ → Type 0
+PaintsFirst lump width count = Both (λ by. Strokes (height_of lump * width) width count (over_column by lump))
+
+-- with all columns
 abbrev pub AllColumns : List ℕ → ℕ → List ℕ → List ℕ → List ℕ → List ℕ → Type 0
-AllColumns lump width = Both (λ by. Strokes (height_of lump * width) width width (over_column by lump))
+AllColumns lump width = PaintsFirst lump width width

@@ -3,3 +3,4 @@
 pub mod Buffers
 pub mod Pixels
 pub mod Inner
+pub mod Canvases

@@ -1,7 +1,8 @@
 -- The pixels of a picture, and the two planes that they are painted into (01, "Pictures", "Painted"). Assumes nothing.
-use Rattle.std.specs.Prelude.{ℕ, zero, suc, ◌+◌, ◌-◌, ◌/◌, ◌%◌, Bool, ◌&&◌, cond, List, [], ◌∷◌, ◌≡◌, leb, ltb, length, get_or}
+use Rattle.std.specs.Prelude.{ℕ, zero, suc, ◌+◌, ◌-◌, ◌/◌, ◌%◌, Bool, ◌&&◌, cond, List, [], ◌∷◌, ◌≡◌, leb, ltb, length, get_or, Result}
 use Rattle.layout.specs.Buffers.{buffer_after}
-use Rattle.picture.specs.declared.PictureVerdict.{PictureVerdict}
+use Rattle.refusal.specs.declared.Refusal.{Refusal}
+use Rattle.picture_header.specs.declared.Picture.{Picture}
 use Rattle.picture_header.specs.Layout.{width_of, area_of, column_offset, start_at, end_at, end_row, post_end}
 use Rattle.picture.specs.Judging.{picture_answer}
 use Rattle.picture_paint.specs.Buffers.{paint_check}
@@ -50,7 +51,7 @@ plane_of by lump =
     list_of (λ i. shown by lump (i % width_of lump) (i / width_of lump)) 0 (area_of lump)
 
 -- what painting into `colour` and `cover` answers, and what both hold afterwards
-pub record Painted (lump colour cover : List ℕ) (answer : PictureVerdict) (colour' cover' : List ℕ) : Type 0 where
+pub record Painted (lump colour cover : List ℕ) (answer : Result Picture Refusal) (colour' cover' : List ℕ) : Type 0 where
   -- the header, or the first refusal of 50, 51, 52, 55, 53 and 54
   pub answered : answer ≡ picture_answer (paint_check lump (length colour) (length cover)) lump
   -- each pixel's byte, or the buffer as it was

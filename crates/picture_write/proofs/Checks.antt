@@ -9,14 +9,14 @@ use borrow.Author.Tests.{leb-true, le-leb, lt-leb}
 use lib.Dec.{leb}
 use lib.ListN.{length, drop, length-append}
 use lib.Seq.{sets, sets-eq}
+use Rattle.refusal.specs.declared.Refusal.{Refusal}
 use Rattle.refusal.specs.declared.Refusal.TheVariants.{EncodeRoom}
-use Rattle.refusal.specs.declared.Check.{Check}
-use Rattle.refusal.specs.declared.Check.TheVariants.{Pass, Refused}
+use Rattle.refusal.specs.Checks.{Check}
+use Rattle.std.specs.Prelude.{Result, Ok, Err}
 use Rattle.refusal.specs.Checks.{unless}
 use Rattle.refusal.proofs.Checks.{both, pass_then}
 use Rattle.picture_header.specs.declared.Picture.{Picture}
 use Rattle.layout.specs.Buffers.{buffer_after}
-use Rattle.picture_write.specs.declared.Encoding.{Encoding}
 use Rattle.picture_write.specs.Lump.{header_bytes, written_of, written_length}
 use Rattle.picture_write.specs.Encoding.{given_check, encode_check, encoding_of, Encoded}
 use Rattle.picture_write.proofs.Fits.{Fit}
@@ -33,12 +33,12 @@ module _ (picture : Picture) (colour cover : List ℕ) where
 
   -- ---- the check's outcomes
 
-  pub room-refused : (room : ℕ) → given_check picture colour cover ≡ Pass → room < written_length picture cover
-      → encode_check picture colour cover room ≡ Refused EncodeRoom
+  pub room-refused : (room : ℕ) → given_check picture colour cover ≡ Ok tt → room < written_length picture cover
+      → encode_check picture colour cover room ≡ Err EncodeRoom
   room-refused room e h = sym (pass_then e (sym (ap (λ (b : Bool). unless b EncodeRoom) (lt-leb (written_length picture cover) room h))))
 
-  pub room_passed : (room : ℕ) → given_check picture colour cover ≡ Pass → written_length picture cover ≤ room
-      → encode_check picture colour cover room ≡ Pass
+  pub room_passed : (room : ℕ) → given_check picture colour cover ≡ Ok tt → written_length picture cover ≤ room
+      → encode_check picture colour cover room ≡ Ok tt
   room_passed room e h = sym (pass_then e (sym (ap (λ (b : Bool). unless b EncodeRoom) (le-leb (written_length picture cover) room h))))
 
   -- ---- the columns, then the header, are the lump
@@ -66,7 +66,7 @@ module _ (picture : Picture) (colour cover : List ℕ) where
 
   -- ---- what encoding promises, from the check's outcome
 
-  pub encoded_by : (out : List ℕ) (k : Check) {answer : Encoding} {out' : List ℕ} → encode_check picture colour cover (length out) ≡ k
+  pub encoded_by : (out : List ℕ) (k : Check) {answer : (Result ℕ Refusal)} {out' : List ℕ} → encode_check picture colour cover (length out) ≡ k
       → answer ≡ encoding_of k (written_length picture cover) → out' ≡ buffer_after k (written_of picture colour cover) out
       → Encoded picture colour cover out answer out'
   encoded_by out k e a b =

@@ -9,7 +9,7 @@ use borrow.Author.Tests.{leb-true}
 use lib.Dec.{leb}
 use lib.ListN.{length, get_or}
 use Rattle.refusal.specs.declared.Refusal.TheVariants.{PixelBuffer, EncodeSize, EncodeCover}
-use Rattle.refusal.specs.declared.Check.TheVariants.{Pass}
+use Rattle.std.specs.Prelude.{Ok}
 use Rattle.refusal.specs.Checks.{unless, ◌and_then◌}
 use Rattle.refusal.proofs.Checks.{both, unless_pass, and_then_pass}
 use Rattle.picture_header.specs.declared.Picture.{Picture}
@@ -26,7 +26,7 @@ pub record Fit (picture : Picture) (colour cover : List ℕ) : Type 0 where
   pub covers : pixels_of picture ≤ length cover
   pub binary : cover_ok cover (pixels_of picture) ≡ true
 
-pub fit_of : (picture : Picture) (colour cover : List ℕ) → given_check picture colour cover ≡ Pass → Fit picture colour cover
+pub fit_of : (picture : Picture) (colour cover : List ℕ) → given_check picture colour cover ≡ Ok tt → Fit picture colour cover
 fit_of picture colour cover e =
     let room-ok = leb (pixels_of picture) (length colour) && leb (pixels_of picture) (length cover) in
     let room-part = unless room-ok PixelBuffer in

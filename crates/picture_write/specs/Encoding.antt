@@ -1,14 +1,11 @@
 -- Which pixels are refused, and with what (02, W-201: 55, 56, 57 and 58, in that order), and what a lent output holds
 -- afterwards. Assumes nothing.
-use Rattle.std.specs.Prelude.{ℕ, List, ◌≡◌, leb, length}
+use Rattle.std.specs.Prelude.{ℕ, List, ◌≡◌, leb, length, Result, Ok, Err}
+use Rattle.refusal.specs.declared.Refusal.{Refusal}
 use Rattle.refusal.specs.declared.Refusal.TheVariants.{EncodeRoom}
-use Rattle.refusal.specs.declared.Check.{Check}
-use Rattle.refusal.specs.declared.Check.TheVariants.{Pass, Refused}
-use Rattle.refusal.specs.Checks.{unless, ◌and_then◌}
+use Rattle.refusal.specs.Checks.{Check, unless, ◌and_then◌}
 use Rattle.picture_header.specs.declared.Picture.{Picture}
 use Rattle.layout.specs.Buffers.{buffer_after}
-use Rattle.picture_write.specs.declared.Encoding.{Encoding}
-use Rattle.picture_write.specs.declared.Encoding.TheVariants.{Written, Refused as NotWritten}
 use Rattle.picture_write.specs.Lump.{pixels_of, written_length, written_of}
 use Rattle.picture_write.specs.Given.{buffers_check, sides_check, cover_check}
 
@@ -28,12 +25,12 @@ abbrev pub encode_check : Picture → List ℕ → List ℕ → ℕ → Check
 encode_check picture colour cover room = given_check picture colour cover and_then output_check (written_length picture cover) room
 
 -- the answer: how many bytes are written, or the refusal
-abbrev pub encoding_of : Check → ℕ → Encoding
-encoding_of Pass count = Written count
-encoding_of (Refused r) count = NotWritten r
+abbrev pub encoding_of : Check → ℕ → Result ℕ Refusal
+encoding_of (Ok _) count = Ok count
+encoding_of (Err r) count = Err r
 
 -- what encoding answers, and what the output holds afterwards
-pub record Encoded (picture : Picture) (colour cover out : List ℕ) (answer : Encoding) (out' : List ℕ) : Type 0 where
+pub record Encoded (picture : Picture) (colour cover out : List ℕ) (answer : Result ℕ Refusal) (out' : List ℕ) : Type 0 where
   -- the layout's sum, or the first refusal of 55 to 58
   pub answered : answer ≡ encoding_of (encode_check picture colour cover (length out)) (written_length picture cover)
   -- the lump, then as it was; with a refusal all as it was

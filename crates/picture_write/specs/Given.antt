@@ -1,8 +1,7 @@
 -- Which pixels are refused before the room for them is asked for (02, W-201: 55, 56 and 57, in that order). Assumes nothing.
 use Rattle.std.specs.Prelude.{ℕ, zero, suc, ◌*◌, Bool, true, ◌&&◌, List, leb, get_or}
 use Rattle.refusal.specs.declared.Refusal.TheVariants.{PixelBuffer, EncodeSize, EncodeCover}
-use Rattle.refusal.specs.declared.Check.{Check}
-use Rattle.refusal.specs.Checks.{unless}
+use Rattle.refusal.specs.Checks.{Check, unless}
 use Rattle.picture_header.specs.Headers.{size_ok}
 
 -- the first `count` cover bytes are 0 or 1

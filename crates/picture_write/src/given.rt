@@ -3,18 +3,18 @@ ghost use Rattle.std.specs.Prelude.{◌≡◌, ◌*◌, ◌≤◌, leb, length};
 ghost use Rattle.refusal.specs.Checks.{◌and_then◌};
 ghost use Rattle.picture_write.specs.Given.{cover_ok, buffers_check, sides_check, cover_check};
 
-use refusal::{Check, Refusal};
+use refusal::Refusal;
 
 // The buffers' lengths, then the size, then the cover.
-pub fn judge_given(width: usize, height: usize, colours: usize, cover: &[u8]) -> Check
+pub fn judge_given(width: usize, height: usize, colours: usize, cover: &[u8]) -> Result<(), Refusal>
     ensures { result ≡ (buffers_check width height colours (length cover.now) and_then sides_check width
         height and_then cover_check cover.now (height * width)) }
 {
     if !(fits(width, height, colours) & fits(width, height, cover.len())) {
-        return Check::Refused(Refusal::PixelBuffer);
+        return Err(Refusal::PixelBuffer);
     }
     if !picture_header::size_ok(width, height) {
-        return Check::Refused(Refusal::EncodeSize);
+        return Err(Refusal::EncodeSize);
     }
     refusal::pass_if(cover_ok(cover, height * width), Refusal::EncodeCover)
 }
@@ -23,10 +23,10 @@ pub fn judge_given(width: usize, height: usize, colours: usize, cover: &[u8]) ->
 fn fits(width: usize, height: usize, room: usize) -> bool
     ensures { result ≡ leb (height * width) room }
 {
-    if width == 0 {
-        return true;
+    match height.checked_mul(width) {
+        Some(area) => area <= room,
+        None => false,
     }
-    height <= room / width
 }
 
 // Whether the first `count` bytes are 0 or 1. All are looked at: a loop without an early end takes many at a time.
@@ -35,8 +35,8 @@ fn cover_ok(cover: &[u8], count: usize) -> bool
     ensures { result ≡ cover_ok cover.now count }
 {
     let mut ok = true;
-    for i in 0..count {
-        ok = ok & (cover[i] <= 1);
+    for byte in &cover[..count] {
+        ok &= *byte <= 1;
     }
     ok
 }

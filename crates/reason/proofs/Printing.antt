@@ -2,27 +2,25 @@
 use Prim.Native.Nat.{ℕ, ◌≤◌, ◌<◌}
 use mathlib.Core.Bool.{Bool, true, false, ◌&&◌, cond}
 use mathlib.Core.List.{List}
-use mathlib.Core.Path.{◌≡◌, sym, ap, ◌∙◌, subst⁻¹}
+use mathlib.Core.Path.{◌≡◌, refl, sym, ap, ◌∙◌, subst⁻¹}
 use native.Mathlib.Omega.{arith}
 use borrow.Author.Tests.{leb-true, le-leb, lt-leb}
 use lib.Dec.{leb}
 use lib.ListN.{length}
 use Rattle.refusal.specs.declared.Refusal.{Refusal}
 use Rattle.refusal.specs.declared.Refusal.TheVariants.{ReasonRoom}
-use Rattle.refusal.specs.declared.Check.TheVariants.{Pass, Refused}
+use Rattle.std.specs.Prelude.{Ok, Err, Option, Some, None, if◌then◌else◌}
+use Rattle.reason_range.specs.declared.Field.{Field}
 use Rattle.refusal.specs.Table.{number_of, record_of}
 use Rattle.refusal.proofs.Checks.{both}
 use Rattle.reason_range.specs.Fields.{put_field}
-use Rattle.wad.specs.declared.map.Marker.TheVariants.{Entry, Refused as NoMarker}
 use Rattle.wad.specs.Header.{head_of, entry_count}
 use Rattle.wad.specs.Entries.{directory_of}
 use Rattle.wad.specs.Map.{marker_answer}
 use Rattle.node_route.specs.Heights.{graph_verdict}
 use Rattle.map_lumps.specs.Lumps.{map_lumps}
 use Rattle.map_lumps.specs.Games.{game_at}
-use Rattle.map_check.specs.declared.Verdict.{Verdict}
-use Rattle.map_check.specs.declared.Verdict.TheVariants.{Refused as NotAccepted}
-use Rattle.map_check.specs.Verdict.{judged, words_by, check_at, nodes_at, verdict_by, words_after_by}
+use Rattle.map_check.specs.Verdict.{Verdict, judged, words_by, check_at, nodes_at, verdict_by, words_after_by}
 use Rattle.map_check.proofs.Passing.{run_long}
 use Rattle.theorem_map.proofs.Refusing.{past_run, past-counts, refused-by}
 use Rattle.reason.specs.declared.Reason.{Reason}
@@ -35,33 +33,42 @@ use Rattle.reason_field.proofs.Counting.{blockmap-within}
 pub answer_fits : (v : Verdict) (l room : ℕ) → l ≤ room → record { verdict = v; length = l } ≡ answer_by v l room
 answer_fits v l room h = rw (le-leb l room h)
 
-pub answer_short : (v : Verdict) (l room : ℕ) → room < l → record { verdict = NotAccepted ReasonRoom; length = 0 } ≡ answer_by v l room
+pub answer_short : (v : Verdict) (l room : ℕ) → room < l → record { verdict = Err ReasonRoom; length = 0 } ≡ answer_by v l room
 answer_short v l room h = rw (lt-leb l room h)
 
 -- 23 to 28
 pub field_numbers : (n : ℕ) → field_ok n ≡ true → (23 ≤ n) × (n ≤ 28)
 field_numbers n e = let p = both (leb 23 n) (leb n 28) e in (leb-true 23 n p.0, leb-true n 28 p.1)
 
+-- whether a field is named
+pub bare-none : (b : Bool) (f : Field) → ◌≡◌ {A = Option Field} None (if b then Some f else None) → b ≡ false
+bare-none true f e = cc
+bare-none false f e = refl
+
+pub named-some : (b : Bool) (f g : Field) → ◌≡◌ {A = Option Field} (Some g) (if b then Some f else None) → (b ≡ true) × (g ≡ f)
+named-some true f g e = (refl, cc)
+named-some false f g e = cc
+
 module _ (hexen : Bool) (lumps : List (List ℕ)) (r : Refusal) (out : List ℕ) {a : Reason} where
-  pub told_none : field_ok (number_of r) ≡ false → a ≡ answer_by (NotAccepted r) 0 (length out) → RefusalTold hexen lumps r out a out
+  pub told_none : field_ok (number_of r) ≡ false → a ≡ answer_by (Err r) 0 (length out) → RefusalTold hexen lumps r out a out
   told_none e q =
       record {
-        answers = q ∙ ap (λ (b : Bool). answer_by (NotAccepted r) (cond b 16 0) (length out)) (sym e);
+        answers = q ∙ ap (λ (b : Bool). answer_by (Err r) (cond b 16 0) (length out)) (sym e);
         prints = ap (λ (b : Bool). cond (b && leb 16 (length out)) (put_field out (named_field hexen lumps (number_of r) (record_of r))) out) (sym e);
       }
 
-  pub told-short : field_ok (number_of r) ≡ true → length out < 16 → a ≡ answer_by (NotAccepted r) 16 (length out) → RefusalTold hexen lumps r out a out
+  pub told-short : field_ok (number_of r) ≡ true → length out < 16 → a ≡ answer_by (Err r) 16 (length out) → RefusalTold hexen lumps r out a out
   told-short e h q =
       record {
-        answers = q ∙ ap (λ (b : Bool). answer_by (NotAccepted r) (cond b 16 0) (length out)) (sym e);
+        answers = q ∙ ap (λ (b : Bool). answer_by (Err r) (cond b 16 0) (length out)) (sym e);
         prints = (λ j. cond (sym e j && sym (lt-leb 16 (length out) h) j) (put_field out (named_field hexen lumps (number_of r) (record_of r))) out);
       }
 
-  pub told-field : {after : List ℕ} → field_ok (number_of r) ≡ true → 16 ≤ length out → a ≡ record { verdict = NotAccepted r; length = 16 }
+  pub told-field : {after : List ℕ} → field_ok (number_of r) ≡ true → 16 ≤ length out → a ≡ record { verdict = Err r; length = 16 }
       → after ≡ put_field out (named_field hexen lumps (number_of r) (record_of r)) → RefusalTold hexen lumps r out a after
   told-field e h q w =
       record {
-        answers = q ∙ answer_fits (NotAccepted r) 16 (length out) h ∙ ap (λ (b : Bool). answer_by (NotAccepted r) (cond b 16 0) (length out)) (sym e);
+        answers = q ∙ answer_fits (Err r) 16 (length out) h ∙ ap (λ (b : Bool). answer_by (Err r) (cond b 16 0) (length out)) (sym e);
         prints = w ∙ (λ j. cond (sym e j && sym (le-leb 16 (length out) h) j) (put_field out (named_field hexen lumps (number_of r) (record_of r))) out);
       }
 
@@ -95,7 +102,7 @@ module _ {wad dir : List ℕ} {count marker : ℕ} {r : Refusal} (b : RefusedBel
 -- ---- from a marker on
 
 module _ (wad : List ℕ) (marker : ℕ) (words out : List ℕ) where
-  pub told-refused : {r : Refusal} {a : Reason} {after : List ℕ} → check_at wad marker (length words) ≡ Refused r
+  pub told-refused : {r : Refusal} {a : Reason} {after : List ℕ} → check_at wad marker (length words) ≡ Err r
       → RefusalTold (game_at (directory_of wad) (entry_count (head_of wad)) marker) (map_lumps wad (directory_of wad) marker) r out a after
       → ReasonToldAt wad marker words out a words after
   told-refused e t =
@@ -105,7 +112,7 @@ module _ (wad : List ℕ) (marker : ℕ) (words out : List ℕ) where
         prints = t.prints ∙ (λ j. out_by (sym e j) (game_at (directory_of wad) (entry_count (head_of wad)) marker) (map_lumps wad (directory_of wad) marker) (nodes_at wad marker) out);
       }
 
-  pub told_graph : {a : Reason} {wordsThen outThen : List ℕ} → check_at wad marker (length words) ≡ Pass
+  pub told_graph : {a : Reason} {wordsThen outThen : List ℕ} → check_at wad marker (length words) ≡ Ok tt
       → GraphTold (nodes_at wad marker) marker words out a wordsThen outThen → ReasonToldAt wad marker words out a wordsThen outThen
   told_graph e t =
       record {
@@ -115,16 +122,16 @@ module _ (wad : List ℕ) (marker : ℕ) (words out : List ℕ) where
       }
 
 module _ (wad name words out : List ℕ) where
-  pub told_nowhere : {r : Refusal} → marker_answer wad name ≡ NoMarker r
-      → ReasonTold wad name words out (record { verdict = NotAccepted r; length = 0 }) words out
+  pub told_nowhere : {r : Refusal} → marker_answer wad name ≡ Err r
+      → ReasonTold wad name words out (record { verdict = Err r; length = 0 }) words out
   told_nowhere {r} e =
       record {
-        answers = answer_fits (NotAccepted r) 0 (length out) (omega arith) ∙ (λ j. answer_by (verdict_by wad words (sym e j)) (printed_length wad words (sym e j)) (length out));
+        answers = answer_fits (Err r) 0 (length out) (omega arith) ∙ (λ j. answer_by (verdict_by wad words (sym e j)) (printed_length wad words (sym e j)) (length out));
         leaves = λ j. words_after_by wad words (sym e j);
         prints = λ j. printed_out wad words out (sym e j);
       }
 
-  pub told_at : {m : ℕ} {a : Reason} {wordsThen outThen : List ℕ} → marker_answer wad name ≡ Entry m
+  pub told_at : {m : ℕ} {a : Reason} {wordsThen outThen : List ℕ} → marker_answer wad name ≡ Ok m
       → ReasonToldAt wad m words out a wordsThen outThen → ReasonTold wad name words out a wordsThen outThen
   told_at e t =
       record {

@@ -2,22 +2,19 @@
 // definitions are in specs/.
 #![tactic(auto)]
 
-ghost use Rattle.std.specs.Prelude.{◌≡◌, ◌*◌, ◌+◌, ◌<◌, ◌≤◌, length};
-ghost use Rattle.refusal.specs.declared.Check.TheVariants.{Pass};
+ghost use Rattle.std.specs.Prelude.{◌≡◌, ◌*◌, ◌+◌, ◌<◌, ◌≤◌, length, Ok};
 ghost use Rattle.wad.specs.Header.{head_of, entry_count};
 ghost use Rattle.wad.specs.Entries.{file_check};
 ghost use Rattle.node.specs.Nodes.{nodes_of};
 ghost use Rattle.node_graph.specs.Judging.{Judgeable};
 ghost use Rattle.map_lumps.specs.Lumps.{map_lumps};
 ghost use Rattle.map_lumps.specs.Games.{game_at};
-ghost use Rattle.reason_field.specs.Named.{field_ok};
 ghost use Rattle.reason.specs.Printing.{answer_by, ReasonTold, ReasonToldAt};
 ghost use Rattle.reason.specs.Inner.{RefusedBelow, RefusalTold, GraphTold};
 
-use map_check::Verdict;
+use map_check::Accepted;
 use record::Node;
-use refusal::{Check, Refusal};
-use wad::Marker;
+use refusal::Refusal;
 
 // The bytes of a printed field.
 const FIELD_SIZE: usize = 16;
@@ -25,7 +22,7 @@ const FIELD_SIZE: usize = 16;
 // The verdict, and how many bytes were printed with it. 85 stands alone.
 #[derive(Clone, Copy)]
 pub struct Reason {
-    pub verdict: Verdict,
+    pub verdict: Result<Accepted, Refusal>,
     pub length: usize,
 }
 
@@ -36,23 +33,23 @@ pub fn judge_map(wad: &[u8], name: &[u8], words: &mut [u16], out: &mut [u8]) -> 
         words.new out.new }
 {
     match wad::find_map(wad, name) {
-        Marker::Refused(r) => Reason {
-            verdict: Verdict::Refused(r),
+        Err(r) => Reason {
+            verdict: Err(r),
             length: 0,
         },
-        Marker::Entry(marker) => judge_at(wad, marker, words, out),
+        Ok(marker) => judge_at(wad, marker, words, out),
     }
 }
 
 // From a marker on that was found.
 fn judge_at(wad: &[u8], marker: usize, words: &mut [u16], out: &mut [u8]) -> Reason
-    requires { (file_check wad.now ≡ Pass) × (marker < entry_count (head_of wad.now)) }
+    requires { (file_check wad.now ≡ Ok tt) × (marker < entry_count (head_of wad.now)) }
     ensures { ReasonToldAt wad.now marker words.old out.old result
         words.new out.new }
 {
     let dir = wad::directory_of(wad);
     let count = wad::entry_count(wad);
-    if let Check::Refused(r) = map_check::judge_below(wad, dir, count, marker, words.len()) {
+    if let Err(r) = map_check::judge_below(wad, dir, count, marker, words.len()) {
         return tell_refusal(wad, dir, count, marker, r, out);
     }
     tell_graph(
@@ -76,32 +73,18 @@ fn tell_refusal(
     ensures { RefusalTold (game_at dir.now count marker)
         (map_lumps wad.now dir.now marker) r out.old result out.new }
 {
-    let number = refusal::number_of(r);
-    if !field_ok(number) {
-        return answer(Verdict::Refused(r), 0, out.len());
-    }
+    let hexen = map_lumps::game_at(dir, count, marker);
+    let Some(field) = reason_field::named_field(hexen, wad, dir, marker, r) else {
+        return answer(Err(r), 0, out.len());
+    };
     if out.len() < FIELD_SIZE {
-        return answer(Verdict::Refused(r), FIELD_SIZE, out.len());
+        return answer(Err(r), FIELD_SIZE, out.len());
     }
-    reason_field::print_field(
-        map_lumps::game_at(dir, count, marker),
-        wad,
-        dir,
-        marker,
-        number,
-        refusal::record_of(r),
-        out,
-    );
+    reason_range::put_field(out, field);
     Reason {
-        verdict: Verdict::Refused(r),
+        verdict: Err(r),
         length: FIELD_SIZE,
     }
-}
-
-fn field_ok(number: u32) -> bool
-    ensures { result ≡ field_ok number }
-{
-    (23 <= number) & (number <= 28)
 }
 
 // 31, 32, or accepted.
@@ -112,19 +95,22 @@ fn tell_graph(nodes: &[u8], marker: usize, words: &mut [u16], out: &mut [u8]) ->
 {
     let room = out.len();
     let told = node_path::judge(nodes, nodes.len() / Node::SIZE, words, out);
-    let graph = told.verdict;
-    answer(map_check::verdict_of(graph, marker), told.length, room)
+    answer(
+        map_check::verdict_of(told.verdict, marker),
+        told.length,
+        room,
+    )
 }
 
 // 85 where there is no room.
-fn answer(verdict: Verdict, length: usize, room: usize) -> Reason
+fn answer(verdict: Result<Accepted, Refusal>, length: usize, room: usize) -> Reason
     ensures { result ≡ answer_by verdict length room }
 {
     if length <= room {
         Reason { verdict, length }
     } else {
         Reason {
-            verdict: Verdict::Refused(Refusal::ReasonRoom),
+            verdict: Err(Refusal::ReasonRoom),
             length: 0,
         }
     }

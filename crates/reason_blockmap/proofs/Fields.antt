@@ -1,11 +1,11 @@
 -- Laws of BLOCKMAP's fields: one word more of a list, and that all are in range exactly where 28's tests hold.
 -- Assumes nothing.
 use Prim.Native.Nat.{ℕ, zero, suc, ◌+◌, ◌-◌, ◌*◌, ◌/◌, ◌%◌, ◌≤◌, ◌<◌}
-use mathlib.Core.Bool.{Bool, true, false, ◌&&◌, not, cond, and-eq-true_iff}
+use mathlib.Core.Bool.{Bool, true, false, ◌&&◌, cond}
 use mathlib.Core.List.{List, [], ◌∷◌}
 use mathlib.Core.Path.{◌≡◌, refl, sym, ap, ◌∙◌}
 use native.Mathlib.Omega.{arith}
-use borrow.Author.Tests.{not-true, not-false, le-leb, lt-leb, lt-ltb, leb-true, ltb-true, eqb-true, eq-eqb, ne_eqb}
+use borrow.Author.Tests.{le-leb, lt-leb, lt-ltb, leb-true, ltb-true, eqb-true, eq-eqb, ne_eqb}
 use lib.Dec.{leb, ltb, eqb}
 use lib.ListN.{length}
 use Rattle.refusal.proofs.Checks.{same_test}
@@ -13,26 +13,12 @@ use Rattle.map_blockmap.specs.Blockmap.{word_count, word_at, cells_of, side_ok, 
 use Rattle.map_blockmap.specs.Notes.{ends_well}
 use Rattle.map_blockmap.proofs.Lists.{ends_well-list}
 use Rattle.reason_range.specs.declared.Field.{Field}
-use Rattle.reason_range.specs.Fields.{in_range, all_in, first_out, no_field, first_of}
-use Rattle.reason_range.proofs.Fields.{first_of_in, first_of-out, all_in-none, all_in-more, first_out-none, first_out-more}
+use Rattle.std.specs.Prelude.{⊤, Result, Ok, Err}
+use Rattle.std.specs.Result.{result_and}
+use Rattle.reason_range.specs.Fields.{in_range, all_in, field_check, fields_check}
+use Rattle.reason_range.proofs.Fields.{all_in-none, all_in-more}
 use Rattle.wad.specs.Header.{most_bytes}
 use Rattle.reason_blockmap.specs.Fields.{size_field, word_field, header_fields, number_fields, list_fields, cell_fields}
-
--- ---- one field after the other, of which `b` says whether it is in its range
-
-module _ {f g : Field} (fs : List Field) {b : Bool} (is : f ≡ g) (says : b ≡ in_range f) where
-  pub first_stops : not b ≡ true → f ≡ first_out (g ∷ fs)
-  first_stops e =
-      is ∙ first_of-out g (first_out fs) (sym (ap in_range is) ∙ sym says ∙ not-true b e) ∙ sym (first_out-more g fs)
-
-  pub first_goes : {r : Field} → not b ≡ false → r ≡ first_out fs → r ≡ first_out (g ∷ fs)
-  first_goes e q =
-      q ∙ first_of_in g (first_out fs) (sym (ap in_range is) ∙ sym says ∙ not-false b e) ∙ sym (first_out-more g fs)
-
-  pub bounds : not b ≡ false → (g.least ≤ g.number) × (g.number ≤ g.most)
-  bounds e =
-      let both = (and-eq-true_iff (leb g.least g.number) (leb g.number g.most)).0 (sym (ap in_range is) ∙ sym says ∙ not-false b e) in
-      (leb-true g.least g.number both.0, leb-true g.number g.most both.1)
 
 -- ---- one word more
 
@@ -61,9 +47,9 @@ module _ (lump : List ℕ) (linedefs : ℕ) where
   pub numbers_none : (n : ℕ) → word_count lump ≤ n → number_fields lump linedefs (word_count lump - n) ≡ size_field lump (length lump + 2) ∷ []
   numbers_none n h = let z : word_count lump - n ≡ 0 = omega arith in ap (number_fields lump linedefs) z ∙ nothing
 
--- ---- the first out of range, by the word at `at`
+-- ---- the check of the words, by the word at `at`
 
-module _ (lump : List ℕ) (linedefs at : ℕ) {w last : ℕ} (inside : at < word_count lump) (is : w ≡ word_at lump at) (up : last ≡ linedefs - 1) where
+module _ (lump : List ℕ) (linedefs at : ℕ) {w : ℕ} (inside : at < word_count lump) (is : w ≡ word_at lump at) where
   abbrev from : ℕ → List Field
   from n = number_fields lump linedefs (word_count lump - n)
 
@@ -71,33 +57,29 @@ module _ (lump : List ℕ) (linedefs at : ℕ) {w last : ℕ} (inside : at < wor
   here = word_field lump at 0 (linedefs - 1)
 
   -- by whether it is the mark
-  by_mark : (b : Bool) → eqb (word_at lump at) list_end ≡ b → first_out (from at) ≡ first_out (cond b [] (here ∷ from (suc at)))
-  by_mark b e = ap first_out (numbers_more lump linedefs at inside ∙ ap (λ (b : Bool). cond b [] (here ∷ from (suc at))) e)
+  by_mark : (b : Bool) → eqb (word_at lump at) list_end ≡ b → fields_check (from at) ≡ fields_check (cond b [] (here ∷ from (suc at)))
+  by_mark b e = ap fields_check (numbers_more lump linedefs at inside ∙ ap (λ (b : Bool). cond b [] (here ∷ from (suc at))) e)
 
-  pub first-end : w ≡ list_end → no_field ≡ first_out (from at)
-  first-end e = sym (by_mark true (eq-eqb (word_at lump at) list_end (sym is ∙ e)) ∙ first_out-none)
+  pub check-end : w ≡ list_end → ◌≡◌ {A = Result ⊤ Field} (Ok tt) (fields_check (from at))
+  check-end e = sym (by_mark true (eq-eqb (word_at lump at) list_end (sym is ∙ e)))
 
-  number : (w ≡ list_end → ⊥) → first_out (from at) ≡ first_of here (first_out (from (suc at)))
-  number other =
-      by_mark false (ne_eqb (word_at lump at) list_end (λ (q : word_at lump at ≡ list_end). other (is ∙ q))) ∙ first_out-more here (from (suc at))
+  number : (w ≡ list_end → ⊥) → fields_check (from at) ≡ result_and (field_check here) (fields_check (from (suc at)))
+  number other = by_mark false (ne_eqb (word_at lump at) list_end (λ (q : word_at lump at ≡ list_end). other (is ∙ q)))
 
-  here_test : in_range here ≡ leb w last
-  here_test = rw (le-leb 0 (word_at lump at) (omega arith), is, up)
+  pub check-here : (w ≡ list_end → ⊥) → {r : Field} → ◌≡◌ {A = Result ⊤ Field} (Err r) (field_check here)
+      → ◌≡◌ {A = Result ⊤ Field} (Err r) (fields_check (from at))
+  check-here other e = ap (λ (x : Result ⊤ Field). result_and x (fields_check (from (suc at)))) e ∙ sym (number other)
 
-  pub first-here : {r : Field} → (w ≡ list_end → ⊥) → last < w → r ≡ word_field lump at 0 last → r ≡ first_out (from at)
-  first-here other h q =
-      q ∙ ap (word_field lump at 0) up
-      ∙ first_of-out here (first_out (from (suc at))) (here_test ∙ lt-leb w last h) ∙ sym (number other)
-
-  pub first-later : (w ≡ list_end → ⊥) → w ≤ last → first_out (from (suc at)) ≡ first_out (from at)
-  first-later other h = first_of_in here (first_out (from (suc at))) (here_test ∙ le-leb w last h) ∙ sym (number other)
+  pub check-later : (w ≡ list_end → ⊥) → ◌≡◌ {A = Result ⊤ Field} (Ok tt) (field_check here)
+      → fields_check (from (suc at)) ≡ fields_check (from at)
+  check-later other e = ap (λ (x : Result ⊤ Field). result_and x (fields_check (from (suc at)))) e ∙ sym (number other)
 
 -- past the last word the size is at fault
-pub first-none : (lump : List ℕ) (linedefs n : ℕ) → word_count lump ≤ n
-    → size_field lump (length lump + 2) ≡ first_out (number_fields lump linedefs (word_count lump - n))
-first-none lump linedefs n h =
+pub check-none : (lump : List ℕ) (linedefs n : ℕ) → word_count lump ≤ n
+    → field_check (size_field lump (length lump + 2)) ≡ fields_check (number_fields lump linedefs (word_count lump - n))
+check-none lump linedefs n h =
     let short : length lump < length lump + 2 = omega arith in
-    rw (numbers_none lump linedefs n h, first_out-more (size_field lump (length lump + 2)) [], lt-leb (length lump + 2) (length lump) short)
+    rw (numbers_none lump linedefs n h, lt-leb (length lump + 2) (length lump) short)
 
 -- ---- two tests that hold together
 

@@ -11,14 +11,14 @@ use borrow.Author.Tests.{leb-true, ltb-true, lt-ltb}
 use lib.Dec.{leb, ltb, eqb}
 use lib.ListN.{length}
 use Rattle.endian.specs.Unsigned.{Bytes}
-use Rattle.refusal.specs.declared.Check.{Check}
-use Rattle.refusal.specs.declared.Check.TheVariants.{Pass, Refused}
+use Rattle.refusal.specs.Checks.{Check}
+use Rattle.std.specs.Prelude.{⊤, Result, Ok, Err}
 use Rattle.refusal.specs.declared.Refusal.TheVariants.{Blockmap}
 use Rattle.refusal.specs.Checks.{unless, ◌and_then◌, each}
 use Rattle.refusal.specs.Table.{record_of}
 use Rattle.reason_range.specs.declared.Field.{Field}
-use Rattle.reason_range.specs.Fields.{in_range, all_in, first_out, no_field, FieldFits}
-use Rattle.reason_range.proofs.Fields.{first_out-none, first_out-more, all_in-none, all_in-more, first_out_lem}
+use Rattle.reason_range.specs.Fields.{in_range, all_in, first_out, no_field, fields_check, named_by, FieldFits}
+use Rattle.reason_range.proofs.Fields.{first_out-none, first_out-more, all_in-none, all_in-more, named-check, first_out_lem}
 use Rattle.map_blockmap.specs.Blockmap.{word_count, word_at, cells_of, header_ok, list_end, list_ok, cell_check}
 use Rattle.map_blockmap.proofs.Lists.{header-long}
 use Rattle.wad.specs.Header.{most_bytes}
@@ -30,25 +30,25 @@ use Rattle.reason_blockmap.proofs.Fields.{header-fields, cell-fields}
 
 -- the cell that a refusal names
 abbrev number_in : Check → ℕ
-number_in Pass = 0
-number_in (Refused r) = record_of r
+number_in (Ok _) = 0
+number_in (Err r) = record_of r
 
 module _ (test : ℕ → Bool) where
   abbrev check_of : ℕ → Check
   check_of i = unless (test i) (Blockmap i)
 
-  named_by : (n i : ℕ) (b : Bool) → test n ≡ b → unless b (Blockmap n) ≡ Refused (Blockmap i) → (i < suc n) × (test i ≡ false)
-  named_by n i true t e = let z : ◌≡◌ {A = ℕ} 0 1 = cc in absurd (omega arith)
-  named_by n i false t e =
+  named_here : (n i : ℕ) (b : Bool) → test n ≡ b → unless b (Blockmap n) ≡ Err (Blockmap i) → (i < suc n) × (test i ≡ false)
+  named_here n i true t e = let z : ◌≡◌ {A = ℕ} 0 1 = cc in absurd (omega arith)
+  named_here n i false t e =
       let same : n ≡ i = ap number_in e in
       (omega arith, subst (λ (k : ℕ). test k ≡ false) same t)
 
-  named-first : (n i : ℕ) (a : Check) → (a ≡ Refused (Blockmap i) → (i < n) × (test i ≡ false))
-      → a and_then check_of n ≡ Refused (Blockmap i) → (i < suc n) × (test i ≡ false)
-  named-first n i Pass before e = named_by n i (test n) refl e
-  named-first n i (Refused r) before e = let h = before e in (omega (arith, h.0), h.1)
+  named-first : (n i : ℕ) (a : Check) → (a ≡ Err (Blockmap i) → (i < n) × (test i ≡ false))
+      → a and_then check_of n ≡ Err (Blockmap i) → (i < suc n) × (test i ≡ false)
+  named-first n i (Ok _) before e = named_here n i (test n) refl e
+  named-first n i (Err r) before e = let h = before e in (omega (arith, h.0), h.1)
 
-  each-named : (n i : ℕ) → each check_of n ≡ Refused (Blockmap i) → (i < n) × (test i ≡ false)
+  each-named : (n i : ℕ) → each check_of n ≡ Err (Blockmap i) → (i < n) × (test i ≡ false)
   unfolding each
   each-named zero i e = let z : ◌≡◌ {A = ℕ} 0 1 = cc in absurd (omega arith)
   each-named (suc n) i e = named-first n i (each check_of n) (each-named n i) e
@@ -70,7 +70,7 @@ module _ (lump : List ℕ) (linedefs i : ℕ) (small : length lump ≤ most_byte
   cell-long e = let h = header-long lump e in omega arith
 
   not-all : (b : Bool) → header_ok lump ≡ b
-      → unless b (Blockmap 0) and_then each (cell_check lump linedefs) (cells_of lump) ≡ Refused (Blockmap i)
+      → unless b (Blockmap 0) and_then each (cell_check lump linedefs) (cells_of lump) ≡ Err (Blockmap i)
       → all_in (blockmap_fields lump linedefs i) ≡ false
   not-all false h e =
       all_in_append (header_fields lump) (fields_if_cell lump linedefs i)
@@ -180,12 +180,18 @@ word_fits lump k least most bytes small h l m =
     let b = bytes (2 * k + 1) in
     record { offset = omega arith; number = omega arith; least = l; most = m }
 
-pub fields_fit : (lump : List ℕ) (linedefs i : ℕ) → Bytes lump → FitsIf lump linedefs (first_out (blockmap_fields lump linedefs i))
+fields_fit : (lump : List ℕ) (linedefs i : ℕ) → Bytes lump → FitsIf lump linedefs (first_out (blockmap_fields lump linedefs i))
 fields_fit lump linedefs i bytes small few =
     of_blockmap FieldFits (record { offset = omega arith; number = omega arith; least = omega arith; most = omega arith }) lump linedefs small
     (λ least h. record { offset = omega arith; number = omega arith; least = omega arith; most = omega arith })
     (λ k least most h l m. word_fits lump k least most bytes small h (omega arith) (omega arith))
     (λ k h. word_fits lump k 0 (linedefs - 1) bytes small h (omega arith) (omega arith)) i
+
+pub named_fits : (lump : List ℕ) (linedefs i : ℕ) → Bytes lump → (r : Result ⊤ Field) → r ≡ fields_check (blockmap_fields lump linedefs i)
+    → FitsIf lump linedefs (named_by r)
+named_fits lump linedefs i bytes r e =
+    let named = named-check (blockmap_fields lump linedefs i) in
+    subst (FitsIf lump linedefs) (sym (ap named_by e ∙ named)) (fields_fit lump linedefs i bytes)
 
 pub blockmap_reasoned : BlockmapReasoned
 blockmap_reasoned =

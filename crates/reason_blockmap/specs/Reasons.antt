@@ -1,9 +1,8 @@
 -- What holds of BLOCKMAP's fields and of the first that is out of its range (02, W-211: "Prove that each printed reason
 -- holds of the map's bytes"). It uses that a lump is no longer than a file, and that the map has a linedef (21). Assumes
 -- nothing.
-use Rattle.std.specs.Prelude.{ℕ, ◌+◌, ◌≤◌, true, List, ◌⊎◌, ◌≡◌, length}
+use Rattle.std.specs.Prelude.{ℕ, ◌+◌, ◌≤◌, true, List, ◌⊎◌, ◌≡◌, length, Err}
 use Rattle.endian.specs.Unsigned.{u16_at}
-use Rattle.refusal.specs.declared.Check.TheVariants.{Refused}
 use Rattle.refusal.specs.declared.Refusal.TheVariants.{Blockmap}
 use Rattle.reason_range.specs.declared.Field.{Field}
 use Rattle.reason_range.specs.Fields.{all_in, first_out, FirstOut}
@@ -36,4 +35,4 @@ pub record BlockmapReasoned : Type 0 where
       → list_ok lump linedefs (word_at lump (4 + i)) ≡ all_in (cell_fields lump linedefs i)
   -- where 28 is answered there is a reason
   pub refused : (lump : List ℕ) (linedefs i : ℕ) → length lump ≤ most_bytes → 1 ≤ linedefs
-      → blockmap_check lump linedefs ≡ Refused (Blockmap i) → LumpReasoned lump linedefs i (first_out (blockmap_fields lump linedefs i))
+      → blockmap_check lump linedefs ≡ Err (Blockmap i) → LumpReasoned lump linedefs i (first_out (blockmap_fields lump linedefs i))

@@ -4,94 +4,71 @@
 
 ghost use Rattle.std.specs.Prelude.{◌++◌, ◌≡◌, ◌+◌, ◌-◌, ◌<◌, ◌≤◌, length};
 ghost use Rattle.map_blockmap.specs.Blockmap.{word_count, word_at, cells_of};
-ghost use Rattle.reason_range.specs.Fields.{first_out};
+ghost use Rattle.reason_range.specs.Fields.{fields_check, named_by};
 ghost use Rattle.wad.specs.Header.{most_bytes};
 ghost use Rattle.reason_blockmap.specs.Fields.{size_field, word_field, length_fields, number_fields, cell_fields, fields_if_cell, blockmap_fields, FitsIf};
 
+use map_blockmap::word_at;
 use reason_range::Field;
 use wad::MOST_BYTES;
 
 // The mark that ends a list.
 const LIST_END: usize = 65535;
 
-// The first field out of its range, of the header and of the cell with that number.
-pub fn offending(lump: &[u8], linedefs: usize, cell: usize) -> Field
-    ensures { (result ≡ first_out (blockmap_fields lump.now linedefs cell)) × FitsIf lump.now linedefs result }
+// Refused with the first field out of its range, of the header and of the cell with that number.
+pub fn offending(lump: &[u8], linedefs: usize, cell: usize) -> Result<(), Field>
+    ensures first { result ≡ fields_check (blockmap_fields lump.now linedefs cell) }
+    ensures fits { FitsIf lump.now linedefs (named_by result) }
 {
-    let size = size_field(lump, 8);
-    if !reason_range::in_range(size) {
-        return size;
-    }
+    size_field(lump, 8).check()?;
     let columns = word_field(lump, 2, 1, 512);
-    if !reason_range::in_range(columns) {
-        return columns;
-    }
+    columns.check()?;
     let rows = word_field(lump, 3, 1, 512);
-    if !reason_range::in_range(rows) {
-        return rows;
-    }
+    rows.check()?;
     after_rows(lump, columns.number * rows.number, linedefs, cell)
 }
 
 // What comes after the rows.
-fn after_rows(lump: &[u8], cells: usize, linedefs: usize, cell: usize) -> Field
+fn after_rows(lump: &[u8], cells: usize, linedefs: usize, cell: usize) -> Result<(), Field>
     requires cells_value { (cells ≡ cells_of lump.now) × (cells ≤ 262144) }
     requires in_bounds { (8 ≤ length lump.now) × (length lump.now ≤ most_bytes) }
-    ensures { result ≡ first_out (length_fields lump.now ++ fields_if_cell lump.now linedefs cell) }
+    ensures { result ≡ fields_check (length_fields lump.now ++ fields_if_cell lump.now linedefs cell) }
 {
     let offsets = size_field(lump, 8 + 2 * cells);
-    if !reason_range::in_range(offsets) {
-        return offsets;
-    }
-    let even = size_field(lump, lump.len() + lump.len() % 2);
-    if !reason_range::in_range(even) {
-        return even;
-    }
+    offsets.check()?;
+    size_field(lump, lump.len() + lump.len() % 2).check()?;
     if cell < cells {
         return of_cell(lump, cells, linedefs, cell);
     }
-    reason_range::no_field()
+    Ok(())
 }
 
 // The fields of a cell, where the header is good.
-fn of_cell(lump: &[u8], cells: usize, linedefs: usize, cell: usize) -> Field
+fn of_cell(lump: &[u8], cells: usize, linedefs: usize, cell: usize) -> Result<(), Field>
     requires cells_value { (cells ≡ cells_of lump.now) × (cell < cells) }
     requires cells_bound { (4 + cells ≤ word_count lump.now) × (length lump.now ≤ most_bytes) }
-    ensures { result ≡ first_out (cell_fields lump.now linedefs cell) }
+    ensures { result ≡ fields_check (cell_fields lump.now linedefs cell) }
 {
     let offset = word_field(lump, 4 + cell, 4 + cells, lump.len() / 2 - 1);
-    if !reason_range::in_range(offset) {
-        return offset;
-    }
+    offset.check()?;
     let leading = word_field(lump, offset.number, 0, 0);
-    if !reason_range::in_range(leading) {
-        return leading;
-    }
+    leading.check()?;
     of_numbers(lump, linedefs, offset.number + 1)
 }
 
 // The words from `first` on, up to the mark.
-fn of_numbers(lump: &[u8], linedefs: usize, first: usize) -> Field
+fn of_numbers(lump: &[u8], linedefs: usize, first: usize) -> Result<(), Field>
     requires { (first ≤ word_count lump.now) × (length lump.now ≤ most_bytes) }
-    ensures { result ≡ first_out (number_fields lump.now linedefs (word_count lump.now - first)) }
+    ensures { result ≡ fields_check (number_fields lump.now linedefs (word_count lump.now - first)) }
 {
-    let last = less_one(linedefs);
+    let last = linedefs.saturating_sub(1);
     for at in first..lump.len() / 2 {
-        let word = word_at(lump, at);
-        if word == LIST_END {
-            return reason_range::no_field();
+        if word_at(lump, at) == LIST_END {
+            return Ok(());
         }
-        if last < word {
-            return word_field(lump, at, 0, last);
-        }
+        word_field(lump, at, 0, last).check()?;
     }
-    size_field(lump, lump.len() + 2)
-}
-
-fn less_one(n: usize) -> usize
-    ensures { result ≡ n - 1 }
-{
-    if n == 0 { 0 } else { n - 1 }
+    size_field(lump, lump.len() + 2).check()
 }
 
 fn size_field(lump: &[u8], least: usize) -> Field
@@ -115,11 +92,4 @@ fn word_field(lump: &[u8], i: usize, least: usize, most: usize) -> Field
         least,
         most,
     }
-}
-
-fn word_at(lump: &[u8], i: usize) -> usize
-    requires { i < word_count lump.now }
-    ensures { result ≡ word_at lump.now i }
-{
-    endian::u16_at(lump, 2 * i) as usize
 }

@@ -2,12 +2,15 @@
 use Prim.Native.Nat.{ℕ, ◌+◌, ◌≤◌}
 use mathlib.Core.Bool.{Bool, true, false, cond}
 use mathlib.Core.List.{List, []}
-use mathlib.Core.Path.{◌≡◌, refl}
+use mathlib.Core.Path.{◌≡◌, refl, ap, subst⁻¹, ◌∙◌}
 use native.Mathlib.Omega.{arith}
 use borrow.Author.Tests.{leb-true}
 use lib.Dec.{leb}
 use lib.ListN.{length}
-use Rattle.refusal.specs.declared.Check.TheVariants.{Pass}
+use Rattle.std.specs.Prelude.{⊤, Result, Ok}
+use Rattle.reason_range.specs.declared.Field.{Field}
+use Rattle.reason_range.specs.Fields.{FieldFits, first_out, fields_check, named_by}
+use Rattle.reason_range.proofs.Fields.{named-check}
 use Rattle.wad.specs.Lump.{entry_size, entry_offset}
 use Rattle.wad.specs.Slices.{part}
 use Rattle.wad.proofs.Slices.{length_part}
@@ -41,7 +44,7 @@ segs_size : (hexen : Bool) → record_size hexen SEGS ≡ seg_size
 segs_size true = refl
 segs_size false = refl
 
-module _ (hexen : Bool) (lumps : List (List ℕ)) (e : each_place (size_check hexen lumps) 8 ≡ Pass) where
+module _ (hexen : Bool) (lumps : List (List ℕ)) (e : each_place (size_check hexen lumps) 8 ≡ Ok tt) where
   counted : (place : ℕ) → 1 ≤ place → place ≤ 8 → {size : ℕ} → record_size hexen place ≡ size → 1 ≤ least_count place → most_count place ≤ 65535
       → Counted (record_count lumps place size)
   counted place low high same least most =
@@ -80,3 +83,9 @@ pub blockmap-within : (wad dir : List ℕ) (marker : ℕ) → length (map_lump (
 blockmap-within wad dir marker =
     let i = marker + BLOCKMAP in
     part-within wad (entry_offset dir i) (entry_size dir i) (leb (entry_offset dir i + entry_size dir i) (length wad)) refl
+
+-- ---- what a check names
+
+pub told : {f : Field} {check : Result ⊤ Field} (fields : List Field) → f ≡ named_by check → check ≡ fields_check fields → FieldFits (named_by check)
+    → (f ≡ first_out fields) × FieldFits f
+told fields e c h = (e ∙ ap named_by c ∙ named-check fields, subst⁻¹ FieldFits e h)

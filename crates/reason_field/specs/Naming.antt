@@ -1,6 +1,5 @@
 -- Not for the reader of promises: what only contracts of inner functions cite. Assumes nothing.
-use Rattle.std.specs.Prelude.{ℕ, ◌+◌, ◌*◌, ◌<◌, ◌≤◌, Bool, List, ◌≡◌, length}
-use Rattle.refusal.specs.declared.Check.TheVariants.{Pass}
+use Rattle.std.specs.Prelude.{ℕ, ◌+◌, ◌*◌, ◌<◌, ◌≤◌, Bool, List, ◌≡◌, length, Ok}
 use Rattle.wad.specs.Header.{most_bytes}
 use Rattle.record_linedef.specs.Linedefs.{linedef_size}
 use Rattle.record.specs.Sidedefs.{sidedef_size}
@@ -22,7 +21,7 @@ named_count hexen lumps number =
 -- the ten lumps are there, with counts that have passed 21
 pub record Counts (hexen : Bool) (wad dir : List ℕ) (marker : ℕ) : Type 0 where
   pub long : 16 * (marker + 11) ≤ length dir
-  pub counts : each_place (size_check hexen (map_lumps wad dir marker)) 8 ≡ Pass
+  pub counts : each_place (size_check hexen (map_lumps wad dir marker)) 8 ≡ Ok tt
 
 -- and record `i` is there, of a file of at most 16,777,216 bytes
 pub record Nameable (hexen : Bool) (wad dir : List ℕ) (marker number i : ℕ) : Type 0 where

@@ -1,9 +1,10 @@
-// The field that a refusal 23 to 28 names (W-211), read in place in the map's lumps, and printed.
+// The field that a refusal 23 to 28 names (W-211), read in place in the map's lumps.
 #![tactic(auto)]
 
-ghost use Rattle.std.specs.Prelude.{◌≡◌, ◌<◌, ◌≤◌, length};
+ghost use Rattle.std.specs.Prelude.{◌≡◌, ◌<◌, ◌≤◌, true, if◌then◌else◌, IfSome, length};
+ghost use Rattle.refusal.specs.Table.{number_of, record_of};
 ghost use Rattle.wad.specs.Header.{most_bytes};
-ghost use Rattle.reason_range.specs.Fields.{FieldFits, put_field, first_out};
+ghost use Rattle.reason_range.specs.Fields.{FieldFits, named_by};
 ghost use Rattle.record_field.specs.Records.{record_bytes};
 ghost use Rattle.record_linedef.specs.Linedefs.{linedef_size};
 ghost use Rattle.record.specs.Sidedefs.{sidedef_size};
@@ -14,67 +15,55 @@ ghost use Rattle.record.specs.Subsectors.{subsector_size};
 ghost use Rattle.record.specs.Nodes.{node_size};
 ghost use Rattle.record_table.specs.Lumps.{LINEDEFS, SIDEDEFS, SEGS, SSECTORS, NODES, BLOCKMAP};
 ghost use Rattle.map_lumps.specs.Lumps.{map_lumps, map_lump, record_count};
-ghost use Rattle.reason_field.specs.Named.{named_fields, named_field};
+ghost use Rattle.reason_field.specs.Named.{field_ok, named_field};
 ghost use Rattle.reason_field.specs.Naming.{Counts, Nameable};
 
 use map_lumps::{map_lump, record_count};
 use reason_range::Field;
 use record::{Node, Sector, Seg, Sidedef, Subsector, Vertex};
+use record_field::GameRecord;
 use record_linedef::Linedef;
 use record_table::BLOCKMAP;
+use refusal::Refusal;
 
-pub fn print_field(
-    hexen: bool,
-    wad: &[u8],
-    dir: &[u8],
-    marker: usize,
-    number: u32,
-    i: usize,
-    out: &mut [u8],
-)
-    requires { Nameable hexen wad.now dir.now marker number i × (16 ≤ length out.old) }
-    ensures { out.new ≡ put_field out.old
-        (named_field hexen (map_lumps wad.now dir.now marker) number i) }
+// The field that a refusal 23 to 28 names: the first that is out of its range. The other refusals name none.
+pub fn named_field(hexen: bool, wad: &[u8], dir: &[u8], marker: usize, r: Refusal) -> Option<Field>
+    requires { field_ok (number_of r) ≡ true → Nameable hexen wad.now dir.now marker (number_of r) (record_of r) }
+    ensures value { result
+        ≡ (if field_ok (number_of r) then Some (named_field hexen (map_lumps wad.now dir.now marker) (number_of r) (record_of r)) else None) }
+    ensures fits { IfSome result (λ f. FieldFits f) }
 {
-    let field = field_of(hexen, wad, dir, marker, number, i);
-    reason_range::put_field(out, field);
+    match r {
+        Refusal::LinedefReference(i) => Some(of_linedef(hexen, wad, dir, marker, i)),
+        Refusal::SidedefReference(i) => Some(of_sidedef(hexen, wad, dir, marker, i)),
+        Refusal::SegReference(i) => Some(of_seg(hexen, wad, dir, marker, i)),
+        Refusal::SubsectorReference(i) => Some(of_subsector(hexen, wad, dir, marker, i)),
+        Refusal::NodeReference(i) => Some(of_node(hexen, wad, dir, marker, i)),
+        Refusal::Blockmap(cell) => Some(of_blockmap(hexen, wad, dir, marker, cell)),
+        _ => None,
+    }
 }
 
-// By the refusal's number.
-fn field_of(hexen: bool, wad: &[u8], dir: &[u8], marker: usize, number: u32, i: usize) -> Field
-    requires { Nameable hexen wad.now dir.now marker number i }
-    ensures { (result ≡ named_field hexen (map_lumps wad.now dir.now marker) number i) × FieldFits result }
+// The field that a check names; all 0 where it passes, as no record that is refused does.
+fn named(check: Result<(), Field>) -> Field
+    ensures { result ≡ named_by check }
 {
-    if number == 23 {
-        return of_linedef(hexen, wad, dir, marker, i);
-    }
-    if number == 24 {
-        return of_sidedef(hexen, wad, dir, marker, i);
-    }
-    if number == 25 {
-        return of_seg(hexen, wad, dir, marker, i);
-    }
-    if number == 26 {
-        return of_subsector(hexen, wad, dir, marker, i);
-    }
-    if number == 27 {
-        return of_node(hexen, wad, dir, marker, i);
-    }
-    of_blockmap(hexen, wad, dir, marker, i)
+    check.err().unwrap_or_default()
 }
 
+// Each kind of record has a check of its own over other lumps, so one function for all would be no plainer.
 fn of_linedef(hexen: bool, wad: &[u8], dir: &[u8], marker: usize, i: usize) -> Field
     requires counts { Counts hexen wad.now dir.now marker }
     requires i_bound { i < record_count (map_lumps wad.now dir.now marker) LINEDEFS (linedef_size hexen) }
     ensures { (result ≡ named_field hexen (map_lumps wad.now dir.now marker) 23 i) × FieldFits result }
 {
-    reason_record::linedef_field(
+    named(reason_record::check_linedef(
         hexen,
         map_lump(wad, dir, marker, Linedef::PLACE),
         record_count(wad, dir, marker, Vertex::PLACE, Vertex::SIZE),
         record_count(wad, dir, marker, Sidedef::PLACE, Sidedef::SIZE),
         i,
-    )
+    ))
 }
 
 fn of_sidedef(hexen: bool, wad: &[u8], dir: &[u8], marker: usize, i: usize) -> Field
@@ -82,11 +71,11 @@ fn of_sidedef(hexen: bool, wad: &[u8], dir: &[u8], marker: usize, i: usize) -> F
     requires i_bound { i < record_count (map_lumps wad.now dir.now marker) SIDEDEFS sidedef_size }
     ensures { (result ≡ named_field hexen (map_lumps wad.now dir.now marker) 24 i) × FieldFits result }
 {
-    reason_record::sidedef_field(
+    named(reason_record::check_sidedef(
         map_lump(wad, dir, marker, Sidedef::PLACE),
         record_count(wad, dir, marker, Sector::PLACE, Sector::SIZE),
         i,
-    )
+    ))
 }
 
 fn of_seg(hexen: bool, wad: &[u8], dir: &[u8], marker: usize, i: usize) -> Field
@@ -94,13 +83,13 @@ fn of_seg(hexen: bool, wad: &[u8], dir: &[u8], marker: usize, i: usize) -> Field
     requires i_bound { i < record_count (map_lumps wad.now dir.now marker) SEGS seg_size }
     ensures { (result ≡ named_field hexen (map_lumps wad.now dir.now marker) 25 i) × FieldFits result }
 {
-    reason_record::seg_field(
+    named(reason_record::check_seg(
         hexen,
         map_lump(wad, dir, marker, Seg::PLACE),
         map_lump(wad, dir, marker, Linedef::PLACE),
         record_count(wad, dir, marker, Vertex::PLACE, Vertex::SIZE),
         i,
-    )
+    ))
 }
 
 fn of_subsector(hexen: bool, wad: &[u8], dir: &[u8], marker: usize, i: usize) -> Field
@@ -108,11 +97,11 @@ fn of_subsector(hexen: bool, wad: &[u8], dir: &[u8], marker: usize, i: usize) ->
     requires i_bound { i < record_count (map_lumps wad.now dir.now marker) SSECTORS subsector_size }
     ensures { (result ≡ named_field hexen (map_lumps wad.now dir.now marker) 26 i) × FieldFits result }
 {
-    reason_record::subsector_field(
+    named(reason_record::check_subsector(
         map_lump(wad, dir, marker, Subsector::PLACE),
         record_count(wad, dir, marker, Seg::PLACE, Seg::SIZE),
         i,
-    )
+    ))
 }
 
 fn of_node(hexen: bool, wad: &[u8], dir: &[u8], marker: usize, i: usize) -> Field
@@ -120,11 +109,11 @@ fn of_node(hexen: bool, wad: &[u8], dir: &[u8], marker: usize, i: usize) -> Fiel
     requires i_bound { i < record_count (map_lumps wad.now dir.now marker) NODES node_size }
     ensures { (result ≡ named_field hexen (map_lumps wad.now dir.now marker) 27 i) × FieldFits result }
 {
-    reason_record::node_field(
+    named(reason_record::check_node(
         map_lump(wad, dir, marker, Node::PLACE),
         record_count(wad, dir, marker, Subsector::PLACE, Subsector::SIZE),
         i,
-    )
+    ))
 }
 
 fn of_blockmap(hexen: bool, wad: &[u8], dir: &[u8], marker: usize, i: usize) -> Field
@@ -132,9 +121,9 @@ fn of_blockmap(hexen: bool, wad: &[u8], dir: &[u8], marker: usize, i: usize) -> 
     requires marker_len_bound { length (map_lump (map_lumps wad.now dir.now marker) BLOCKMAP) ≤ most_bytes }
     ensures { (result ≡ named_field hexen (map_lumps wad.now dir.now marker) 28 i) × FieldFits result }
 {
-    reason_blockmap::offending(
+    named(reason_blockmap::offending(
         map_lump(wad, dir, marker, BLOCKMAP),
         record_count(wad, dir, marker, Linedef::PLACE, Linedef::size(hexen)),
         i,
-    )
+    ))
 }

@@ -1,12 +1,12 @@
 -- Laws of the first field out of its range: what a function that looks at one field after the other has to show, and that there is one where
 -- not all are in range. Assumes nothing.
-use Prim.Native.Nat.{ℕ}
 use mathlib.Core.Bool.{Bool, true, false, ◌&&◌, cond, true≢false}
 use mathlib.Core.List.{List, [], ◌∷◌, ◌++◌}
 use mathlib.Core.Path.{◌≡◌, refl, sym, ap, subst, ◌∙◌}
-use Rattle.endian.specs.Unsigned.{put_u32}
 use Rattle.reason_range.specs.declared.Field.{Field}
-use Rattle.reason_range.specs.Fields.{in_range, all_in, no_field, first_of, first_out, FirstOut}
+use Rattle.std.specs.Prelude.{Ok, Err}
+use Rattle.std.specs.Result.{result_and}
+use Rattle.reason_range.specs.Fields.{in_range, all_in, no_field, first_of, first_out, fields_check, named_by, FirstOut}
 
 pub first_of_in : (f g : Field) → in_range f ≡ true → g ≡ first_of f g
 first_of_in f g e = sym (ap (λ (b : Bool). cond b g f) e)
@@ -30,12 +30,15 @@ pub first_out-more : (f : Field) (fs : List Field) → first_out (f ∷ fs) ≡ 
 unfolding first_out
 first_out-more f fs = refl
 
--- one field after the other, the last one first
-pub first_then : {r x f g : Field} (fs : List Field) → r ≡ first_of x g → x ≡ f → g ≡ first_out fs → r ≡ first_out (f ∷ fs)
-first_then {r} {x} {f} {g} fs e p q = e ∙ (λ i. first_of (p i) (q i)) ∙ sym (first_out-more f fs)
-
-pub first-last : {g : Field} → g ≡ no_field → g ≡ first_out []
-first-last e = e ∙ sym first_out-none
+-- the field that the check of a row names
+pub named-check : (fs : List Field) → named_by (fields_check fs) ≡ first_out fs
+named-check [] = sym first_out-none
+named-check (f ∷ fs) = by_test (in_range f) (named-check fs) ∙ sym (first_out-more f fs)
+  where
+    by_test : (b : Bool) → named_by (fields_check fs) ≡ first_out fs
+        → named_by (result_and (cond b (Ok (tt {0})) (Err f)) (fields_check fs)) ≡ cond b (first_out fs) f
+    by_test true e = e
+    by_test false e = refl
 
 -- ---- where not all are in range, there is a first that is not
 
@@ -73,15 +76,3 @@ each_at P (g ∷ before) after f h = each_at P before after f h.1
 
 pub first_holds : (P : Field → Type 0) (fs : List Field) (f : Field) → Each P fs → FirstOut fs f → P f
 first_holds P fs f h o = each_at P o.before o.after f (subst (Each P) o.stands h)
-
-pub first_of-holds : (P : Field → Type 0) (f g : Field) → P f → P g → P (first_of f g)
-first_of-holds P f g p q = by_test (in_range f)
-  where
-    by_test : (b : Bool) → P (cond b g f)
-    by_test true = q
-    by_test false = p
-
--- ---- a field written
-
-pub then_u32 : (at n : ℕ) {x y z : List ℕ} → y ≡ put_u32 x at n → x ≡ z → y ≡ put_u32 z at n
-then_u32 at n e q = e ∙ ap (λ (l : List ℕ). put_u32 l at n) q

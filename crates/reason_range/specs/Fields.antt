@@ -1,6 +1,7 @@
 -- A field of a record or of a lump, with the range that 01 allows there, and the first of a row of fields that is out
 -- of its range (W-211). A range whose least is above its most is empty. Assumes nothing.
-use Rattle.std.specs.Prelude.{ℕ, ◌≤◌, ◌<◌, Bool, true, false, ◌&&◌, cond, List, [], ◌∷◌, ◌++◌, ◌≡◌, leb, length, drop}
+use Rattle.std.specs.Prelude.{ℕ, ◌≤◌, ◌<◌, Bool, true, false, ◌&&◌, cond, List, [], ◌∷◌, ◌++◌, ◌≡◌, leb, length, drop, ⊤, Result, Ok, Err}
+use Rattle.std.specs.Result.{result_and}
 use Rattle.endian.specs.Unsigned.{u16_at, u32_at, put_u32}
 use Rattle.reason_range.specs.declared.Field.{Field}
 
@@ -28,6 +29,20 @@ first_of f g = cond (in_range f) g f
 unfoldable pub first_out : List Field → Field
 first_out [] = no_field
 first_out (f ∷ fs) = first_of f (first_out fs)
+
+-- refused with the field itself, unless it is in its range
+abbrev pub field_check : Field → Result ⊤ Field
+field_check f = cond (in_range f) (Ok tt) (Err f)
+
+-- the fields of a row in turn
+abbrev pub fields_check : List Field → Result ⊤ Field
+fields_check [] = Ok tt
+fields_check (f ∷ fs) = result_and (field_check f) (fields_check fs)
+
+-- the field that a check names
+abbrev pub named_by : Result ⊤ Field → Field
+named_by (Ok _) = no_field
+named_by (Err f) = f
 
 -- `f` stands in the row `fs`, out of its range, and every field before it is in its range
 pub record FirstOut (fs : List Field) (f : Field) : Type 0 where

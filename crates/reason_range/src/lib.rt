@@ -1,12 +1,11 @@
-// A field with the range that is allowed there: whether it is in it, which of two is named, and how it is written. The
-// definitions are in specs/.
+// A field with the range that is allowed there: whether it is in it, and how it is written. The definitions are in specs/.
 #![tactic(auto)]
 
 ghost use Rattle.std.specs.Prelude.{◌≡◌, ◌≤◌, length};
-ghost use Rattle.reason_range.specs.Fields.{in_range, first_of, no_field, put_field, FieldFits};
+ghost use Rattle.reason_range.specs.Fields.{in_range, field_check, put_field, FieldFits};
 
 // A field of a record, or of BLOCKMAP.
-#[derive(Clone, Copy)]
+#[derive(Clone, Copy, Default)]
 pub struct Field {
     // where it stands, in bytes from the record's start, or the lump's
     pub offset: usize,
@@ -17,29 +16,19 @@ pub struct Field {
     pub most: usize,
 }
 
-pub fn in_range(f: Field) -> bool
-    ensures { result ≡ in_range f }
-{
-    (f.least <= f.number) & (f.number <= f.most)
-}
-
-// What is named where every field is in its range.
-pub fn no_field() -> Field
-    ensures { result ≡ no_field }
-{
-    Field {
-        offset: 0,
-        number: 0,
-        least: 0,
-        most: 0,
+impl Field {
+    pub fn in_range(self) -> bool
+        ensures { result ≡ in_range self }
+    {
+        (self.least <= self.number) & (self.number <= self.most)
     }
-}
 
-// The field f where it is out of its range, else g, the first of those behind it.
-pub fn first_of(f: Field, g: Field) -> Field
-    ensures { result ≡ first_of f g }
-{
-    if in_range(f) { g } else { f }
+    // A field that is out of its range is itself the refusal.
+    pub fn check(self) -> Result<(), Field>
+        ensures { result ≡ field_check self }
+    {
+        if self.in_range() { Ok(()) } else { Err(self) }
+    }
 }
 
 // The four numbers of a field into the first 16 bytes of an output.

@@ -4,7 +4,7 @@ use mathlib.Core.Bool.{Bool, true, false, not, ◌&&◌, ◌||◌, cond, and-tru
 use mathlib.Core.List.{List, [], ◌∷◌}
 use mathlib.Core.Path.{◌≡◌, refl, sym, ap, subst, ◌∙◌}
 use native.Mathlib.Omega.{arith}
-use borrow.Author.Tests.{ltb-true, ltb-false, leb-true, leb-false, eqb-true, ne_eqb, lt-ltb, le-ltb, le-leb, lt-leb}
+use borrow.Author.Tests.{ltb-true, ltb-false, leb-true, leb-false, eqb-true, ne_eqb, le-ltb, le-leb, lt-leb}
 use lib.Dec.{leb, ltb, eqb}
 use lib.ListN.{length}
 use Rattle.endian.specs.Unsigned.{u16_at}
@@ -127,28 +127,6 @@ child_same bytes at nodes subsectors h = by_kind (u16_at bytes at) (is_node (u16
         ≡ (leb (cond b 0 subsector_bit) w && leb w (cond b (nodes - 1) (subsector_bit + subsectors - 1)))
     by_kind w true e = below w nodes h
     by_kind w false e = by_range w (ltb-false w subsector_bit e) (ltb (w - subsector_bit) subsectors) refl
-
-pub child_node : (bytes : List ℕ) (at nodes subsectors : ℕ) → u16_at bytes at < subsector_bit
-    → number_at bytes at nodes ≡ child_at bytes at nodes subsectors
-child_node bytes at nodes subsectors h =
-    sym (ap (λ (b : Bool). field_at bytes at (cond b 0 subsector_bit) (cond b (nodes - 1) (subsector_bit + subsectors - 1)))
-    (lt-ltb (u16_at bytes at) subsector_bit h))
-
-pub child_subsector : (bytes : List ℕ) (at nodes subsectors : ℕ) → subsector_bit ≤ u16_at bytes at
-    → field_at bytes at subsector_bit (subsector_bit + subsectors - 1) ≡ child_at bytes at nodes subsectors
-child_subsector bytes at nodes subsectors h =
-    sym (ap (λ (b : Bool). field_at bytes at (cond b 0 subsector_bit) (cond b (nodes - 1) (subsector_bit + subsectors - 1)))
-    (le-ltb (u16_at bytes at) subsector_bit h))
-
--- the left sidedef is one of the fields, or not
-module _ (hexen : Bool) (bytes : List ℕ) (sidedefs : ℕ) where
-  pub by_left : (b : Bool) → (eqb (u16_at bytes (left_offset hexen)) no_sidedef && not (two_sided (u16_at bytes 4))) ≡ b
-      → cond b [] (number_at bytes (left_offset hexen) sidedefs ∷ []) ≡ left_fields hexen bytes sidedefs
-  by_left b e = sym (ap (λ (b : Bool). cond b [] (number_at bytes (left_offset hexen) sidedefs ∷ [])) e)
-
-pub linedef-small : (hexen : Bool) → linedef_size hexen ≤ 30
-linedef-small true = omega arith
-linedef-small false = omega arith
 
 -- ---- each kind
 

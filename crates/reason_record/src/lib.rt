@@ -2,9 +2,8 @@
 // place. The definitions are in specs/. Callers show that the counts are those that 21 lets pass.
 #![tactic(auto)]
 
-ghost use Rattle.std.specs.Prelude.{◌≡◌, ◌+◌, ◌-◌, ◌/◌, ◌<◌, ◌≤◌, cond, length};
-ghost use Rattle.endian.specs.Unsigned.{u16_at};
-ghost use Rattle.reason_range.specs.Fields.{FieldFits, field_at, no_field, first_of, first_out};
+ghost use Rattle.std.specs.Prelude.{◌≡◌, ◌+◌, ◌/◌, ◌<◌, ◌≤◌, length};
+ghost use Rattle.reason_range.specs.Fields.{FieldFits, field_at, fields_check, named_by};
 ghost use Rattle.record_field.specs.Records.{record_bytes};
 ghost use Rattle.record_linedef.specs.Linedefs.{linedef_size};
 ghost use Rattle.record.specs.Sidedefs.{sidedef_size};
@@ -14,8 +13,11 @@ ghost use Rattle.record.specs.Nodes.{node_size};
 ghost use Rattle.node.specs.Nodes.{nodes_of};
 ghost use Rattle.reason_record.specs.RecordFields.{Counted, number_at, left_fields, linedef_fields, sidedef_fields, seg_fields, subsector_fields, child_at, node_fields};
 
+use map_reference::{DIRECTION, END, FIRST, FLAGS, LINEDEF, NUMBER, SECTOR, START};
+use node::SUBSECTOR_BIT;
 use reason_range::Field;
 use record::{Node, Seg, Sidedef, Subsector};
+use record_field::GameRecord;
 use record_linedef::{Linedef, NO_SIDEDEF};
 
 // Where a node's children stand.
@@ -23,175 +25,130 @@ const RIGHT: usize = 24;
 
 const LEFT: usize = 26;
 
-pub fn linedef_field(
+// Refused with the first field of a linedef that is out of its range.
+pub fn check_linedef(
     hexen: bool,
     linedefs: &[u8],
     vertices: usize,
     sidedefs: usize,
     i: usize,
-) -> Field
+) -> Result<(), Field>
     requires { (i < length linedefs.now / linedef_size hexen) × Counted vertices × Counted sidedefs }
-    ensures { (result ≡ first_out (linedef_fields hexen (record_bytes linedefs.now (linedef_size hexen) i)
-        vertices sidedefs)) × FieldFits result }
+    ensures first { result
+        ≡ fields_check (linedef_fields hexen (record_bytes linedefs.now (linedef_size hexen) i) vertices sidedefs) }
+    ensures fits { FieldFits (named_by result) }
 {
-    let size = Linedef::size(hexen);
-    let start = number_at(linedefs, size, i, map_reference::START, vertices);
-    let end = number_at(linedefs, size, i, map_reference::END, vertices);
-    let right = number_at(linedefs, size, i, Linedef::right_offset(hexen), sidedefs);
-    let left = left_field(hexen, linedefs, sidedefs, i);
-    first_of(start, first_of(end, first_of(right, left)))
+    let record = bytes_of(linedefs, Linedef::size(hexen), i);
+    number_at(record, START, vertices).check()?;
+    number_at(record, END, vertices).check()?;
+    number_at(record, Linedef::right_offset(hexen), sidedefs).check()?;
+    check_left(hexen, record, sidedefs)
 }
 
 // The left sidedef, unless it is absent and optional.
-fn left_field(hexen: bool, linedefs: &[u8], sidedefs: usize, i: usize) -> Field
-    requires { (i < length linedefs.now / linedef_size hexen) × Counted sidedefs }
-    ensures { (result ≡ first_out (left_fields hexen (record_bytes linedefs.now (linedef_size hexen) i)
-        sidedefs)) × FieldFits result }
+fn check_left(hexen: bool, record: &[u8], sidedefs: usize) -> Result<(), Field>
+    requires { (length record.now ≡ linedef_size hexen) × Counted sidedefs }
+    ensures first { result ≡ fields_check (left_fields hexen record.now sidedefs) }
+    ensures fits { FieldFits (named_by result) }
 {
-    let size = Linedef::size(hexen);
-    let left = number_at(linedefs, size, i, Linedef::left_offset(hexen), sidedefs);
-    let two_sided = map_reference::two_sided(map_reference::field(
-        linedefs,
-        size,
-        i,
-        map_reference::FLAGS,
-    ));
+    let left = number_at(record, Linedef::left_offset(hexen), sidedefs);
+    let two_sided = map_reference::two_sided(endian::u16_at(record, FLAGS) as usize);
     if (left.number == NO_SIDEDEF) & !two_sided {
-        return none();
+        return Ok(());
     }
-    first_of(left, none())
+    left.check()
 }
 
-pub fn sidedef_field(sidedefs: &[u8], sectors: usize, i: usize) -> Field
+// Of a sidedef.
+pub fn check_sidedef(sidedefs: &[u8], sectors: usize, i: usize) -> Result<(), Field>
     requires { (i < length sidedefs.now / sidedef_size) × Counted sectors }
-    ensures { (result ≡ first_out (sidedef_fields (record_bytes sidedefs.now sidedef_size i) sectors)) × FieldFits result }
+    ensures first { result ≡ fields_check (sidedef_fields (record_bytes sidedefs.now sidedef_size i) sectors) }
+    ensures fits { FieldFits (named_by result) }
 {
-    first_of(
-        number_at(sidedefs, Sidedef::SIZE, i, map_reference::SECTOR, sectors),
-        none(),
-    )
+    number_at(bytes_of(sidedefs, Sidedef::SIZE, i), SECTOR, sectors).check()
 }
 
-pub fn seg_field(hexen: bool, segs: &[u8], linedefs: &[u8], vertices: usize, i: usize) -> Field
+// Of a seg.
+pub fn check_seg(
+    hexen: bool,
+    segs: &[u8],
+    linedefs: &[u8],
+    vertices: usize,
+    i: usize,
+) -> Result<(), Field>
     requires { (i < length segs.now / seg_size) × Counted vertices × Counted (length linedefs.now / linedef_size hexen) }
-    ensures { (result ≡ first_out (seg_fields hexen linedefs.now
-        (record_bytes segs.now seg_size i) vertices)) × FieldFits result }
+    ensures first { result ≡ fields_check (seg_fields hexen linedefs.now (record_bytes segs.now seg_size i) vertices) }
+    ensures fits { FieldFits (named_by result) }
 {
-    let start = number_at(segs, Seg::SIZE, i, map_reference::START, vertices);
-    let end = number_at(segs, Seg::SIZE, i, map_reference::END, vertices);
-    let linedef = number_at(
-        segs,
-        Seg::SIZE,
-        i,
-        map_reference::LINEDEF,
-        linedefs.len() / Linedef::size(hexen),
-    );
-    let most = one_if(map_reference::left_ok(hexen, linedefs, linedef.number));
-    let direction = field_at(segs, Seg::SIZE, i, map_reference::DIRECTION, 0, most);
-    first_of(
-        start,
-        first_of(end, first_of(linedef, first_of(direction, none()))),
-    )
+    let record = bytes_of(segs, Seg::SIZE, i);
+    number_at(record, START, vertices).check()?;
+    number_at(record, END, vertices).check()?;
+    let linedef = number_at(record, LINEDEF, linedefs.len() / Linedef::size(hexen));
+    linedef.check()?;
+    let most = usize::from(map_reference::left_ok(hexen, linedefs, linedef.number));
+    field_at(record, DIRECTION, 0, most).check()
 }
 
-pub fn subsector_field(subsectors: &[u8], segs: usize, i: usize) -> Field
+// Of a subsector. Where the number alone exceeds the segs it is named before the first.
+pub fn check_subsector(subsectors: &[u8], segs: usize, i: usize) -> Result<(), Field>
     requires { (i < length subsectors.now / subsector_size) × Counted segs }
-    ensures { (result ≡ first_out (subsector_fields (record_bytes subsectors.now subsector_size i) segs))
-        × FieldFits result }
+    ensures first { result ≡ fields_check (subsector_fields (record_bytes subsectors.now subsector_size i) segs) }
+    ensures fits { FieldFits (named_by result) }
 {
-    let number = field_at(
-        subsectors,
-        Subsector::SIZE,
-        i,
-        map_reference::NUMBER,
-        1,
-        segs,
-    );
-    let first = field_at(
-        subsectors,
-        Subsector::SIZE,
-        i,
-        map_reference::FIRST,
-        0,
-        left_over(segs, number.number),
-    );
-    first_of(number, first_of(first, none()))
+    let record = bytes_of(subsectors, Subsector::SIZE, i);
+    let number = field_at(record, NUMBER, 1, segs);
+    number.check()?;
+    field_at(record, FIRST, 0, segs.saturating_sub(number.number)).check()
 }
 
-pub fn node_field(nodes: &[u8], subsectors: usize, i: usize) -> Field
+// Of a node.
+pub fn check_node(nodes: &[u8], subsectors: usize, i: usize) -> Result<(), Field>
     requires { (i < nodes_of nodes.now) × (nodes_of nodes.now ≤ 65535) × Counted subsectors }
-    ensures { (result ≡ first_out (node_fields (record_bytes nodes.now node_size i)
-        (nodes_of nodes.now) subsectors)) × FieldFits result }
+    ensures first { result ≡ fields_check (node_fields (record_bytes nodes.now node_size i) (nodes_of nodes.now) subsectors) }
+    ensures fits { FieldFits (named_by result) }
 {
-    let right = child_at(nodes, subsectors, i, RIGHT);
-    let left = child_at(nodes, subsectors, i, LEFT);
-    first_of(right, first_of(left, none()))
+    let record = bytes_of(nodes, Node::SIZE, i);
+    let count = nodes.len() / Node::SIZE;
+    child_at(record, RIGHT, count, subsectors).check()?;
+    child_at(record, LEFT, count, subsectors).check()
 }
 
 // A child's range is its kind's.
-fn child_at(nodes: &[u8], subsectors: usize, i: usize, at: usize) -> Field
-    requires { (i < nodes_of nodes.now) × (nodes_of nodes.now ≤ 65535) × Counted subsectors × (at + 1 < node_size) }
-    ensures { (result ≡ child_at (record_bytes nodes.now node_size i) at (nodes_of nodes.now)
-        subsectors) × FieldFits result }
+fn child_at(record: &[u8], at: usize, nodes: usize, subsectors: usize) -> Field
+    requires { (at + 1 < length record.now) × (length record.now ≤ 30) × Counted nodes × Counted subsectors }
+    ensures { (result ≡ child_at record.now at nodes subsectors) × FieldFits result }
 {
-    if map_reference::field(nodes, Node::SIZE, i, at) < node::SUBSECTOR_BIT {
-        return number_at(nodes, Node::SIZE, i, at, nodes.len() / Node::SIZE);
+    if (endian::u16_at(record, at) as usize) < SUBSECTOR_BIT {
+        return number_at(record, at, nodes);
     }
-    field_at(
-        nodes,
-        Node::SIZE,
-        i,
-        at,
-        node::SUBSECTOR_BIT,
-        node::SUBSECTOR_BIT + subsectors - 1,
-    )
+    field_at(record, at, SUBSECTOR_BIT, SUBSECTOR_BIT + subsectors - 1)
 }
 
-// The field at `at` of record i, which numbers one of `count` others.
-fn number_at(lump: &[u8], size: usize, i: usize, at: usize, count: usize) -> Field
-    requires { (i < length lump.now / size) × (at + 1 < size) × (size ≤ 30) × Counted count }
-    ensures { (result ≡ number_at (record_bytes lump.now size i) at count) × FieldFits result }
+// The field at `at` of a record, which numbers one of `count` others.
+fn number_at(record: &[u8], at: usize, count: usize) -> Field
+    requires { (at + 1 < length record.now) × (length record.now ≤ 30) × Counted count }
+    ensures { (result ≡ number_at record.now at count) × FieldFits result }
 {
-    field_at(lump, size, i, at, 0, count - 1)
+    field_at(record, at, 0, count - 1)
 }
 
-// The field at `at` of record i, where `least` to `most` is allowed.
-fn field_at(lump: &[u8], size: usize, i: usize, at: usize, least: usize, most: usize) -> Field
-    requires { (i < length lump.now / size) × (at + 1 < size) × (size ≤ 30) × (least ≤ 65535) × (most ≤ 131071) }
-    ensures { (result ≡ field_at (record_bytes lump.now size i) at least most) × FieldFits result }
+// The field at `at` of a record, where `least` to `most` is allowed.
+fn field_at(record: &[u8], at: usize, least: usize, most: usize) -> Field
+    requires { (at + 1 < length record.now) × (length record.now ≤ 30) × (least ≤ 65535) × (most ≤ 131071) }
+    ensures { (result ≡ field_at record.now at least most) × FieldFits result }
 {
     Field {
         offset: at,
-        number: map_reference::field(lump, size, i, at),
+        number: endian::u16_at(record, at) as usize,
         least,
         most,
     }
 }
 
-// The field f where it is out of its range, else g. Both fit 32 bits, and so does the answer.
-fn first_of(f: Field, g: Field) -> Field
-    requires { FieldFits f × FieldFits g }
-    ensures { (result ≡ first_of f g) × FieldFits result }
+// The bytes of record i.
+fn bytes_of(lump: &[u8], size: usize, i: usize) -> &[u8]
+    requires { i < length lump.now / size }
+    ensures { (result.now ≡ record_bytes lump.now size i) × (length result.now ≡ size) }
 {
-    reason_range::first_of(f, g)
-}
-
-fn none() -> Field
-    ensures { (result ≡ no_field) × FieldFits result }
-{
-    reason_range::no_field()
-}
-
-// The most that a seg's direction may be.
-fn one_if(left: bool) -> usize
-    ensures { (result ≡ cond left 1 0) × (result ≤ 1) }
-{
-    if left { 1 } else { 0 }
-}
-
-// The most that a subsector's first may be; 0 where the number alone exceeds the segs, and is named before it.
-fn left_over(segs: usize, number: usize) -> usize
-    ensures { (result ≡ segs - number) × (result ≤ segs) }
-{
-    if number <= segs { segs - number } else { 0 }
+    &lump[size * i..size * i + size]
 }

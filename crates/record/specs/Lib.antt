@@ -7,3 +7,5 @@ pub mod Sectors
 pub mod Segs
 pub mod Subsectors
 pub mod Nodes
+pub mod Codecs
+pub mod BuiltCodecs

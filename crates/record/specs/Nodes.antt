@@ -1,12 +1,12 @@
 -- A record of NODES: fields by document 004's table (01, "One map"). The two bounding boxes are four numbers each. Assumes
 -- nothing.
-use Rattle.std.specs.Prelude.{ℕ, List, ◌++◌}
+use Rattle.std.specs.Prelude.{ℕ, List, ◌++◌, Result}
+use Rattle.refusal.specs.declared.Refusal.{Refusal}
 use Rattle.endian.specs.Unsigned.{u16_at, u16_bytes}
 use Rattle.endian.specs.Signed.{i16_at}
 use Rattle.record_field.specs.Fields.{i16_bytes, four_at, four_bytes, Int16, FourFits}
-use Rattle.record_field.specs.Records.{inside_check, bytes_or_zeros}
+use Rattle.record_field.specs.Records.{record_at}
 use Rattle.record.specs.declared.node.Node.{Node}
-use Rattle.record.specs.declared.node.NodeRead.{NodeRead}
 
 -- a record's bytes, and the place of its lump
 abbrev pub node_size : ℕ
@@ -45,6 +45,6 @@ node_bytes n =
 abbrev pub NodeFits : Node → Type 0
 NodeFits n = Int16 n.x × Int16 n.y × Int16 n.dx × Int16 n.dy × FourFits n.right_box × FourFits n.left_box
 
--- record `index` of a lump, all 0 where refused
-abbrev pub node_at : List ℕ → ℕ → NodeRead
-node_at lump index = record { check = inside_check lump node_size index; node = node_of (bytes_or_zeros lump node_size index) }
+-- record `index` of a lump, or the refusal
+abbrev pub node_at : List ℕ → ℕ → Result Node Refusal
+node_at lump index = record_at node_size node_of lump index

@@ -1,11 +1,11 @@
 -- A record of SECTORS: fields by document 004's table (01, "One map"). A flat's name is eight raw bytes. Assumes nothing.
-use Rattle.std.specs.Prelude.{ℕ, List, ◌++◌}
+use Rattle.std.specs.Prelude.{ℕ, List, ◌++◌, Result}
+use Rattle.refusal.specs.declared.Refusal.{Refusal}
 use Rattle.endian.specs.Unsigned.{u16_at, u16_bytes}
 use Rattle.endian.specs.Signed.{i16_at}
 use Rattle.record_field.specs.Fields.{i16_bytes, Int16, name_at, Name}
-use Rattle.record_field.specs.Records.{inside_check, bytes_or_zeros}
+use Rattle.record_field.specs.Records.{record_at}
 use Rattle.record.specs.declared.sector.Sector.{Sector}
-use Rattle.record.specs.declared.sector.SectorRead.{SectorRead}
 
 -- a record's bytes, and the place of its lump
 abbrev pub sector_size : ℕ
@@ -42,6 +42,6 @@ sector_bytes s =
 abbrev pub SectorFits : Sector → Type 0
 SectorFits s = Int16 s.floor × Int16 s.ceiling × Name s.floor_flat × Name s.ceiling_flat
 
--- record `index` of a lump, all 0 where refused
-abbrev pub sector_at : List ℕ → ℕ → SectorRead
-sector_at lump index = record { check = inside_check lump sector_size index; sector = sector_of (bytes_or_zeros lump sector_size index) }
+-- record `index` of a lump, or the refusal
+abbrev pub sector_at : List ℕ → ℕ → Result Sector Refusal
+sector_at lump index = record_at sector_size sector_of lump index

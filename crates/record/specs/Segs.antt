@@ -1,11 +1,11 @@
 -- A record of SEGS: fields by document 004's table (01, "One map"). Assumes nothing.
-use Rattle.std.specs.Prelude.{ℕ, List, ◌++◌}
+use Rattle.std.specs.Prelude.{ℕ, List, ◌++◌, Result}
+use Rattle.refusal.specs.declared.Refusal.{Refusal}
 use Rattle.endian.specs.Unsigned.{u16_at, u16_bytes}
 use Rattle.endian.specs.Signed.{i16_at}
 use Rattle.record_field.specs.Fields.{i16_bytes, Int16}
-use Rattle.record_field.specs.Records.{inside_check, bytes_or_zeros}
+use Rattle.record_field.specs.Records.{record_at}
 use Rattle.record.specs.declared.seg.Seg.{Seg}
-use Rattle.record.specs.declared.seg.SegRead.{SegRead}
 
 -- a record's bytes, and the place of its lump
 abbrev pub seg_size : ℕ
@@ -40,6 +40,6 @@ seg_bytes s =
 abbrev pub SegFits : Seg → Type 0
 SegFits s = Int16 s.offset
 
--- record `index` of a lump, all 0 where refused
-abbrev pub seg_at : List ℕ → ℕ → SegRead
-seg_at lump index = record { check = inside_check lump seg_size index; seg = seg_of (bytes_or_zeros lump seg_size index) }
+-- record `index` of a lump, or the refusal
+abbrev pub seg_at : List ℕ → ℕ → Result Seg Refusal
+seg_at lump index = record_at seg_size seg_of lump index

@@ -1,11 +1,11 @@
 -- A record of SIDEDEFS: fields by document 004's table (01, "One map"). A texture name is eight raw bytes. Assumes nothing.
-use Rattle.std.specs.Prelude.{ℕ, List, ◌++◌}
+use Rattle.std.specs.Prelude.{ℕ, List, ◌++◌, Result}
+use Rattle.refusal.specs.declared.Refusal.{Refusal}
 use Rattle.endian.specs.Unsigned.{u16_at, u16_bytes}
 use Rattle.endian.specs.Signed.{i16_at}
 use Rattle.record_field.specs.Fields.{i16_bytes, Int16, name_at, Name}
-use Rattle.record_field.specs.Records.{inside_check, bytes_or_zeros}
+use Rattle.record_field.specs.Records.{record_at}
 use Rattle.record.specs.declared.sidedef.Sidedef.{Sidedef}
-use Rattle.record.specs.declared.sidedef.SidedefRead.{SidedefRead}
 
 -- a record's bytes, and the place of its lump
 abbrev pub sidedef_size : ℕ
@@ -40,6 +40,6 @@ sidedef_bytes s =
 abbrev pub SidedefFits : Sidedef → Type 0
 SidedefFits s = Int16 s.x_offset × Int16 s.y_offset × Name s.upper × Name s.lower × Name s.middle
 
--- record `index` of a lump, all 0 where refused
-abbrev pub sidedef_at : List ℕ → ℕ → SidedefRead
-sidedef_at lump index = record { check = inside_check lump sidedef_size index; sidedef = sidedef_of (bytes_or_zeros lump sidedef_size index) }
+-- record `index` of a lump, or the refusal
+abbrev pub sidedef_at : List ℕ → ℕ → Result Sidedef Refusal
+sidedef_at lump index = record_at sidedef_size sidedef_of lump index

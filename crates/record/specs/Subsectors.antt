@@ -1,9 +1,9 @@
 -- A record of SSECTORS: fields by document 004's table (01, "One map"). Assumes nothing.
-use Rattle.std.specs.Prelude.{ℕ, List, ◌++◌}
+use Rattle.std.specs.Prelude.{ℕ, List, ◌++◌, Result}
+use Rattle.refusal.specs.declared.Refusal.{Refusal}
 use Rattle.endian.specs.Unsigned.{u16_at, u16_bytes}
-use Rattle.record_field.specs.Records.{inside_check, bytes_or_zeros}
+use Rattle.record_field.specs.Records.{record_at}
 use Rattle.record.specs.declared.subsector.Subsector.{Subsector}
-use Rattle.record.specs.declared.subsector.SubsectorRead.{SubsectorRead}
 
 -- a record's bytes, and the place of its lump
 abbrev pub subsector_size : ℕ
@@ -30,6 +30,6 @@ subsector_bytes s =
 abbrev pub SubsectorFits : Subsector → Type 0
 SubsectorFits s = Unit
 
--- record `index` of a lump, all 0 where refused
-abbrev pub subsector_at : List ℕ → ℕ → SubsectorRead
-subsector_at lump index = record { check = inside_check lump subsector_size index; subsector = subsector_of (bytes_or_zeros lump subsector_size index) }
+-- record `index` of a lump, or the refusal
+abbrev pub subsector_at : List ℕ → ℕ → Result Subsector Refusal
+subsector_at lump index = record_at subsector_size subsector_of lump index

@@ -1,10 +1,10 @@
 -- A record of VERTEXES: fields by document 004's table (01, "One map"). Assumes nothing.
-use Rattle.std.specs.Prelude.{ℕ, List, ◌++◌}
+use Rattle.std.specs.Prelude.{ℕ, List, ◌++◌, Result}
+use Rattle.refusal.specs.declared.Refusal.{Refusal}
 use Rattle.endian.specs.Signed.{i16_at}
 use Rattle.record_field.specs.Fields.{i16_bytes, Int16}
-use Rattle.record_field.specs.Records.{inside_check, bytes_or_zeros}
+use Rattle.record_field.specs.Records.{record_at}
 use Rattle.record.specs.declared.vertex.Vertex.{Vertex}
-use Rattle.record.specs.declared.vertex.VertexRead.{VertexRead}
 
 -- a record's bytes, and the place of its lump
 abbrev pub vertex_size : ℕ
@@ -31,6 +31,6 @@ vertex_bytes v =
 abbrev pub VertexFits : Vertex → Type 0
 VertexFits v = Int16 v.x × Int16 v.y
 
--- record `index` of a lump, all 0 where refused
-abbrev pub vertex_at : List ℕ → ℕ → VertexRead
-vertex_at lump index = record { check = inside_check lump vertex_size index; vertex = vertex_of (bytes_or_zeros lump vertex_size index) }
+-- record `index` of a lump, or the refusal
+abbrev pub vertex_at : List ℕ → ℕ → Result Vertex Refusal
+vertex_at lump index = record_at vertex_size vertex_of lump index

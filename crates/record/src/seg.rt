@@ -1,12 +1,12 @@
 // A record of SEGS: a part of a linedef, along the edge of a subsector.
-ghost use Rattle.std.specs.Prelude.{◌≡◌, length};
-ghost use Rattle.record_field.specs.Records.{Written};
-ghost use Rattle.record.specs.Segs.{seg_size, seg_of, seg_bytes, seg_at};
+ghost use Rattle.std.proofs.Common.{lit<};
+ghost use Rattle.record.specs.Segs.{seg_of, seg_bytes, SegFits};
+ghost use Rattle.record.specs.BuiltCodecs.{seg};
 
-use refusal::Check;
+use record_field::Record;
 
 #[repr(C)]
-#[derive(Clone, Copy)]
+#[derive(Clone, Copy, Default)]
 pub struct Seg {
     // numbers of vertices
     pub start: u16,
@@ -20,23 +20,26 @@ pub struct Seg {
     pub offset: i16,
 }
 
-// What a read answers: the record is all 0 where refused.
-#[derive(Clone, Copy)]
-pub struct SegRead {
-    pub check: Check,
-    pub seg: Seg,
-}
-
 impl Seg {
     pub const SIZE: usize = 12;
 
     pub const PLACE: usize = 5;
+}
 
-    // The fields of a record's bytes.
-    pub fn parse(b: &[u8]) -> Seg
-        requires { length b.now ≡ seg_size }
-        ensures { result ≡ seg_of b.now }
-    {
+impl Record<{ Seg::SIZE }> for Seg {
+    ghost fields_of = { seg_of };
+
+    ghost bytes_of = { seg_bytes };
+
+    ghost fits = { SegFits };
+
+    ghost some = { lit< tt };
+
+    ghost few = { lit< tt };
+
+    ghost lossless = { seg };
+
+    fn parse(b: &[u8]) -> Seg {
         Seg {
             start: endian::u16_at(b, 0),
             end: endian::u16_at(b, 2),
@@ -47,10 +50,7 @@ impl Seg {
         }
     }
 
-    // The bytes of a record's fields.
-    pub fn bytes(self) -> [u8; 12]
-        ensures { result ≡ seg_bytes self }
-    {
+    fn bytes(self) -> [u8; Seg::SIZE] {
         let mut out = [0; 12];
         endian::put_u16(&mut out, 0, self.start);
         endian::put_u16(&mut out, 2, self.end);
@@ -59,23 +59,5 @@ impl Seg {
         endian::put_u16(&mut out, 8, self.direction);
         endian::put_i16(&mut out, 10, self.offset);
         out
-    }
-
-    // Record `index` of a lump, or 60.
-    pub fn read(lump: &[u8], index: usize) -> SegRead
-        ensures { result ≡ seg_at lump.now index }
-    {
-        SegRead {
-            check: record_field::inside_check(lump, Seg::SIZE, index),
-            seg: Seg::parse(record_field::bytes_or_zeros(lump, Seg::SIZE, index, &[0; 12])),
-        }
-    }
-
-    // Record `index` of a lump replaced, or 60 and nothing written.
-    pub fn write(lump: &mut [u8], index: usize, seg: Seg) -> Check
-        ensures { Written lump.old seg_size index (seg_bytes seg) result lump.new }
-    {
-        let bytes = seg.bytes();
-        record_field::replace(lump, Seg::SIZE, index, &bytes)
     }
 }

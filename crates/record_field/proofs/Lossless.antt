@@ -3,17 +3,10 @@ use Prim.Native.Nat.{ℕ}
 use mathlib.Core.Bool.{Bool, true, cond}
 use mathlib.Core.Path.{◌≡◌, ap, ◌∙◌}
 use mathlib.Core.List.{List}
-use lib.ListN.{length, replicate}
-use Rattle.endian.specs.Unsigned.{Bytes}
+use lib.ListN.{replicate}
 use Rattle.record_field.specs.Records.{inside, record_bytes}
-use Rattle.record_field.specs.Lossless.{Lossless}
+use Rattle.record_field.specs.Lossless.{Codec, Lossless}
 use Rattle.record_field.proofs.Records.{inside-fits, length-record_bytes, bytes-record_bytes, replaced-same, length-replaced, take-replaced, drop-replaced, bytes_or_zeros-replaced}
-
--- a record's fields and its bytes determine each other
-pub record Codec {R : Type 0} (size : ℕ) (decode : List ℕ → R) (encode : R → List ℕ) (InRange : R → Type 0) : Type 0 where
-  pub length_encode : (r : R) → length (encode r) ≡ size
-  pub decode_encode : (r : R) → InRange r → decode (encode r) ≡ r
-  pub encode_decode : (bytes : List ℕ) → length bytes ≡ size → Bytes bytes → encode (decode bytes) ≡ bytes
 
 pub lossless : {R : Type 0} (size : ℕ) (decode : List ℕ → R) (encode : R → List ℕ) (InRange : R → Type 0)
     → Codec size decode encode InRange → Lossless size decode encode InRange

@@ -5,6 +5,12 @@ use Rattle.std.specs.Prelude.{ℕ, ◌+◌, ◌*◌, true, List, ◌≡◌, leng
 use Rattle.endian.specs.Unsigned.{Bytes}
 use Rattle.record_field.specs.Records.{inside, bytes_or_zeros, replaced}
 
+-- a record's fields and its bytes determine each other
+pub record Codec {R : Type 0} (size : ℕ) (decode : List ℕ → R) (encode : R → List ℕ) (InRange : R → Type 0) : Type 0 where
+  pub length_encode : (r : R) → length (encode r) ≡ size
+  pub decode_encode : (r : R) → InRange r → decode (encode r) ≡ r
+  pub encode_decode : (bytes : List ℕ) → length bytes ≡ size → Bytes bytes → encode (decode bytes) ≡ bytes
+
 -- reading and writing by number lose nothing
 pub record Lossless {R : Type 0} (size : ℕ) (decode : List ℕ → R) (encode : R → List ℕ) (InRange : R → Type 0) : Type 0 where
   -- a record written back as it was read leaves the very bytes

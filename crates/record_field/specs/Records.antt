@@ -1,8 +1,10 @@
 -- A record of a lump by its number, whatever its kind: `size` bytes from `size × index` on (01, refusal 60 and "A write
 -- changes its record's bytes only"; W-205, refusal 61). Assumes nothing.
-use Rattle.std.specs.Prelude.{ℕ, ◌*◌, ◌/◌, Bool, cond, ◌≡◌, List, ltb, length, take, drop, replicate}
+use Rattle.std.specs.Prelude.{ℕ, ◌*◌, ◌/◌, Bool, cond, ◌≡◌, List, Result, Ok, ltb, length, take, drop, replicate}
 use Rattle.std.proofs.Math.Seq.{paste}
-use Rattle.refusal.specs.declared.Check.{Check}
+use Rattle.std.specs.Result.{result_and}
+use Rattle.refusal.specs.Checks.{Check}
+use Rattle.refusal.specs.declared.Refusal.{Refusal}
 use Rattle.refusal.specs.declared.Refusal.TheVariants.{RecordBounds, RecordFields}
 use Rattle.refusal.specs.Checks.{unless, ◌and_then◌}
 
@@ -25,6 +27,10 @@ bytes_or lump size index other = cond (inside lump size index) (record_bytes lum
 -- the bytes of record `index`, all 0 where it is not wholly inside
 abbrev pub bytes_or_zeros : List ℕ → ℕ → ℕ → List ℕ
 bytes_or_zeros lump size index = bytes_or lump size index (replicate size 0)
+
+-- record `index` of a lump, read out of its bytes by `fields_of`, or 60
+abbrev pub record_at : {R : Type 0} → ℕ → (List ℕ → R) → List ℕ → ℕ → Result R Refusal
+record_at size fields_of lump index = result_and (inside_check lump size index) (Ok (fields_of (record_bytes lump size index)))
 
 -- `lump` with the first `size` of `bytes` in place of record `index`, as found where that is not wholly inside
 abbrev pub replaced : List ℕ → ℕ → ℕ → List ℕ → List ℕ

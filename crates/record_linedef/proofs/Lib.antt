@@ -1,4 +1,3 @@
 -- The laws of linedefs. Assumes nothing.
 
 pub mod Fields
-pub mod Codecs

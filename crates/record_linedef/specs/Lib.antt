@@ -1,3 +1,4 @@
 -- The linedefs of a map. Assumes nothing.
 
 pub mod Linedefs
+pub mod Codecs

@@ -1,11 +1,11 @@
 -- A record of LINEDEFS: fields by document 004's two tables, Doom's and Hexen's (01, "One map"; W-205). Where 004 has the two
 -- sidedefs signed and -1 for none, 01 reads them unsigned and 65,535 is none. Assumes nothing.
-use Rattle.std.specs.Prelude.{ℕ, ◌%◌, Bool, true, ◌&&◌, cond, List, ◌++◌, ◌≡◌, leb, eqb, get_or}
+use Rattle.std.specs.Prelude.{ℕ, ◌%◌, Bool, true, false, ◌&&◌, cond, List, ◌++◌, ◌≡◌, leb, eqb, get_or, replicate, Result}
 use Rattle.endian.specs.Unsigned.{u16_at, u16_bytes}
+use Rattle.refusal.specs.declared.Refusal.{Refusal}
 use Rattle.record_field.specs.Fields.{args_at, no_args, args_zero, action_bytes, Args}
-use Rattle.record_field.specs.Records.{inside, inside_check, bytes_or_zeros}
+use Rattle.record_field.specs.Records.{record_at}
 use Rattle.record_linedef.specs.declared.Linedef.{Linedef}
-use Rattle.record_linedef.specs.declared.LinedefRead.{LinedefRead}
 
 -- a record's bytes by its game, and the place of its lump
 abbrev pub linedef_size : Bool → ℕ
@@ -64,10 +64,10 @@ pub record LinedefFits (hexen : Bool) (l : Linedef) : Type 0 where
   pub fields : linedef_fields_ok l ≡ true
   pub args : Args l.args
 
--- record `index` of a lump of the game, all 0 where refused
-abbrev pub linedef_at : Bool → List ℕ → ℕ → LinedefRead
-linedef_at hexen lump index =
-    record {
-      check = inside_check lump (linedef_size hexen) index;
-      linedef = linedef_of (hexen && inside lump (linedef_size hexen) index) (bytes_or_zeros lump (linedef_size hexen) index);
-    }
+-- record `index` of a lump of the game, or the refusal
+abbrev pub linedef_at : Bool → List ℕ → ℕ → Result Linedef Refusal
+linedef_at hexen lump index = record_at (linedef_size hexen) (linedef_of hexen) lump index
+
+-- what stands beside a refusal: all 0, the game too
+abbrev pub no_linedef : Linedef
+no_linedef = linedef_of false (replicate 14 0)

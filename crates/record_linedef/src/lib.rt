@@ -2,11 +2,12 @@
 // fourteen bytes or of Hexen's sixteen.
 #![tactic(auto)]
 
-ghost use Rattle.std.specs.Prelude.{true, false, ◌≡◌, ◌≤◌, length};
-ghost use Rattle.record_field.specs.Records.{WrittenIf};
-ghost use Rattle.record_linedef.specs.Linedefs.{linedef_size, right_offset, left_offset, linedef_of, linedef_fields_ok, linedef_bytes, linedef_at};
+ghost use Rattle.std.specs.Prelude.{◌≡◌};
+ghost use Rattle.std.proofs.Common.{lit<};
+ghost use Rattle.record_linedef.specs.Linedefs.{right_offset, left_offset, linedef_of, linedef_fields_ok, linedef_bytes, no_linedef, LinedefFits};
+ghost use Rattle.record_linedef.specs.Codecs.{linedef, linedef-good};
 
-use refusal::Check;
+use record_field::GameRecord;
 
 // As a sidedef's number: none. Sidedefs are counted up to 65,535, so that no sidedef has this number.
 pub const NO_SIDEDEF: usize = 65535;
@@ -31,30 +32,12 @@ pub struct Linedef {
     pub left: u16,
 }
 
-// What a read answers: the record is all 0 where refused.
-#[derive(Clone, Copy)]
-pub struct LinedefRead {
-    pub check: Check,
-    pub linedef: Linedef,
-}
-
 impl Linedef {
     pub const SIZE: usize = 14;
 
     pub const HEXEN_SIZE: usize = 16;
 
     pub const PLACE: usize = 2;
-
-    // The size of a record by its game.
-    pub fn size(hexen: bool) -> usize
-        ensures { result ≡ linedef_size hexen }
-    {
-        if hexen {
-            Linedef::HEXEN_SIZE
-        } else {
-            Linedef::SIZE
-        }
-    }
 
     // Where its right sidedef stands.
     pub fn right_offset(hexen: bool) -> usize
@@ -69,22 +52,40 @@ impl Linedef {
     {
         if hexen { 14 } else { 12 }
     }
+}
 
-    // The fields of a record's bytes.
-    pub fn parse(b: &[u8], hexen: bool) -> Linedef
-        requires { linedef_size hexen ≤ length b.now }
-        ensures { result ≡ linedef_of hexen b.now }
-    {
-        if hexen {
-            return Linedef::parse_hexen(b);
-        }
-        Linedef::parse_doom(b)
+impl GameRecord<{ Linedef::SIZE }, { Linedef::HEXEN_SIZE }> for Linedef {
+    ghost fields_of = { linedef_of };
+
+    ghost bytes_of = { linedef_bytes };
+
+    ghost fits = { LinedefFits };
+
+    ghost game_of = { λ l. l.hexen };
+
+    ghost good = { linedef_fields_ok };
+
+    ghost some = { (lit< tt, lit< tt) };
+
+    ghost few = { (lit< tt, lit< tt) };
+
+    ghost lossless = { linedef };
+
+    ghost accepted = { linedef-good };
+
+    fn is_hexen(self) -> bool {
+        self.hexen
     }
 
-    fn parse_doom(b: &[u8]) -> Linedef
-        requires { 14 ≤ length b.now }
-        ensures { result ≡ linedef_of false b.now }
-    {
+    // Hexen's special is a byte.
+    fn fields_ok(self) -> bool {
+        if self.hexen {
+            return (self.special <= 255) & (self.tag == 0);
+        }
+        record_field::args_zero(self.args)
+    }
+
+    fn parse_doom(b: &[u8]) -> Linedef {
         Linedef {
             hexen: false,
             start: endian::u16_at(b, 0),
@@ -98,39 +99,21 @@ impl Linedef {
         }
     }
 
-    fn parse_hexen(b: &[u8]) -> Linedef
-        requires { 16 ≤ length b.now }
-        ensures { result ≡ linedef_of true b.now }
-    {
-        let args = record_field::args_at(b, 7);
+    fn parse_hexen(b: &[u8]) -> Linedef {
         Linedef {
             hexen: true,
             start: endian::u16_at(b, 0),
             end: endian::u16_at(b, 2),
             flags: endian::u16_at(b, 4),
-            special: endian::wide(b[6]),
+            special: u16::from(b[6]),
             tag: 0,
-            args,
+            args: record_field::args_at(b, 7),
             right: endian::u16_at(b, 12),
             left: endian::u16_at(b, 14),
         }
     }
 
-    // Whether what the record's game lacks is 0, and Hexen's special is a byte.
-    pub fn fields_ok(self) -> bool
-        ensures { result ≡ linedef_fields_ok self }
-    {
-        let args = self.args;
-        if self.hexen {
-            return (self.special <= 255) & (self.tag == 0);
-        }
-        record_field::args_zero(args)
-    }
-
-    // The bytes of a record's fields in Doom's layout.
-    pub fn doom_bytes(self) -> [u8; 14]
-        ensures { result ≡ linedef_bytes false self }
-    {
+    fn doom_bytes(self) -> [u8; Linedef::SIZE] {
         let mut out = [0; 14];
         endian::put_u16(&mut out, 0, self.start);
         endian::put_u16(&mut out, 2, self.end);
@@ -142,48 +125,23 @@ impl Linedef {
         out
     }
 
-    // In Hexen's.
-    pub fn hexen_bytes(self) -> [u8; 16]
-        ensures { result ≡ linedef_bytes true self }
-    {
-        let args = self.args;
+    fn hexen_bytes(self) -> [u8; Linedef::HEXEN_SIZE] {
         let mut out = [0; 16];
         endian::put_u16(&mut out, 0, self.start);
         endian::put_u16(&mut out, 2, self.end);
         endian::put_u16(&mut out, 4, self.flags);
-        record_field::put_action(&mut out, 6, (self.special % 256) as u8, args);
+        record_field::put_action(&mut out, 6, (self.special % 256) as u8, self.args);
         endian::put_u16(&mut out, 12, self.right);
         endian::put_u16(&mut out, 14, self.left);
         out
     }
+}
 
-    // Record `index` of a lump of the game, or 60.
-    pub fn read(lump: &[u8], index: usize, hexen: bool) -> LinedefRead
-        ensures { result ≡ linedef_at hexen lump.now index }
-    {
-        let size = Linedef::size(hexen);
-        let zeros = [0; Linedef::HEXEN_SIZE];
-        let found = index < lump.len() / size;
-        LinedefRead {
-            check: record_field::inside_check(lump, size, index),
-            linedef: Linedef::parse(
-                record_field::bytes_or_zeros(lump, size, index, &zeros),
-                hexen & found,
-            ),
-        }
-    }
+// All 0, and so of Doom: what stands beside a refusal.
+impl Default for Linedef {
+    ghost is_default = { λ l. l ≡ no_linedef };
 
-    // Record `index` of a lump of its game replaced, or 60, then 61, and nothing written.
-    pub fn write(lump: &mut [u8], index: usize, linedef: Linedef) -> Check
-        ensures { WrittenIf (linedef_fields_ok linedef) lump.old (linedef_size linedef.hexen) index
-            (linedef_bytes linedef.hexen linedef) result lump.new }
-    {
-        let good = linedef.fields_ok();
-        if linedef.hexen {
-            let bytes = linedef.hexen_bytes();
-            return record_field::replace_if(good, lump, Linedef::HEXEN_SIZE, index, &bytes);
-        }
-        let bytes = linedef.doom_bytes();
-        record_field::replace_if(good, lump, Linedef::SIZE, index, &bytes)
+    fn default() -> Linedef {
+        Linedef::parse_doom(&[0; Linedef::SIZE])
     }
 }

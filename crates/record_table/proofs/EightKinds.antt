@@ -5,13 +5,13 @@ use Rattle.record_linedef.specs.Linedefs.{linedef_size, linedef_of, linedef_byte
 use Rattle.record.specs.Sidedefs.{sidedef_of, sidedef_bytes, SidedefFits}
 use Rattle.record.specs.Vertexes.{vertex_of, vertex_bytes, VertexFits}
 use Rattle.record.specs.Sectors.{sector_of, sector_bytes, SectorFits}
-use Rattle.record_thing.proofs.Codecs.{thing, thing-good}
-use Rattle.record_linedef.proofs.Codecs.{linedef, linedef-good}
-use Rattle.record.proofs.Codecs.{sidedef, vertex, sector}
+use Rattle.record_thing.specs.Codecs.{thing, thing-good}
+use Rattle.record_linedef.specs.Codecs.{linedef, linedef-good}
+use Rattle.record.specs.Codecs.{sidedef, vertex, sector}
 use Rattle.record.specs.Segs.{seg_of, seg_bytes, SegFits}
 use Rattle.record.specs.Subsectors.{subsector_of, subsector_bytes, SubsectorFits}
 use Rattle.record.specs.Nodes.{node_of, node_bytes, NodeFits}
-use Rattle.record.proofs.BuiltCodecs.{seg, subsector, node}
+use Rattle.record.specs.BuiltCodecs.{seg, subsector, node}
 use Rattle.record_table.specs.Lossless.{KindsLossless}
 
 pub kinds_lossless : KindsLossless

@@ -1,4 +1,5 @@
-// The table of a map's lumps, by their places after the marker, 1 to 10.
+// The table of a map's lumps, by their places after the marker, 1 to 10: C sees a refusal's place as this number, so that
+// no enum stands for it.
 #![tactic(auto)]
 
 ghost use Rattle.std.specs.Prelude.{◌≡◌, ◌<◌, ◌≤◌, get_or};
@@ -79,7 +80,7 @@ pub const LUMPS: [LumpRow; 10] = [
 #[derive(Clone, Copy)]
 pub struct CountRow(pub usize, pub usize);
 
-// THINGS to SECTORS; REJECT and BLOCKMAP have no records to count.
+// THINGS to SECTORS, a table of its own: REJECT and BLOCKMAP have no records to count, and in one table no row for that.
 pub const COUNTS: [CountRow; 8] = [
     CountRow(0, 65535),
     CountRow(1, 65535),
@@ -111,8 +112,7 @@ pub fn lump_name(place: usize) -> [u8; 8]
     requires { (1 ≤ place) × (place ≤ 10) }
     ensures { result ≡ lump_name place }
 {
-    let row = LUMPS[place - 1];
-    row.name
+    LUMPS[place - 1].name
 }
 
 // The size of its records by the game.

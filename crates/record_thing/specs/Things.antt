@@ -1,12 +1,12 @@
 -- A record of THINGS: fields by document 004's two tables, Doom's and Hexen's (01, "One map"; W-205). An angle of 0 is east.
 -- Assumes nothing.
-use Rattle.std.specs.Prelude.{ℕ, Bool, true, false, ◌&&◌, ◌||◌, cond, List, ◌++◌, ◌≡◌, eqb, pos, get_or}
+use Rattle.std.specs.Prelude.{ℕ, Bool, true, false, ◌&&◌, ◌||◌, cond, List, ◌++◌, ◌≡◌, eqb, pos, get_or, replicate, Result}
 use Rattle.endian.specs.Unsigned.{u16_at, u16_bytes}
 use Rattle.endian.specs.Signed.{i16_at, between}
+use Rattle.refusal.specs.declared.Refusal.{Refusal}
 use Rattle.record_field.specs.Fields.{i16_bytes, args_at, no_args, args_zero, action_bytes, Int16, Args}
-use Rattle.record_field.specs.Records.{inside, inside_check, bytes_or_zeros}
+use Rattle.record_field.specs.Records.{record_at}
 use Rattle.record_thing.specs.declared.Thing.{Thing}
-use Rattle.record_thing.specs.declared.ThingRead.{ThingRead}
 
 -- a record's bytes by its game, and the place of its lump
 abbrev pub thing_size : Bool → ℕ
@@ -88,10 +88,10 @@ pub record ThingFits (hexen : Bool) (t : Thing) : Type 0 where
   pub height : Int16 t.height
   pub args : Args t.args
 
--- record `index` of a lump of the game, all 0 where refused
-abbrev pub thing_at : Bool → List ℕ → ℕ → ThingRead
-thing_at hexen lump index =
-    record {
-      check = inside_check lump (thing_size hexen) index;
-      thing = thing_of (hexen && inside lump (thing_size hexen) index) (bytes_or_zeros lump (thing_size hexen) index);
-    }
+-- record `index` of a lump of the game, or the refusal
+abbrev pub thing_at : Bool → List ℕ → ℕ → Result Thing Refusal
+thing_at hexen lump index = record_at (thing_size hexen) (thing_of hexen) lump index
+
+-- what stands beside a refusal: all 0, the game too
+abbrev pub no_thing : Thing
+no_thing = thing_of false (replicate 10 0)

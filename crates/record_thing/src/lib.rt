@@ -1,11 +1,12 @@
 // A record of THINGS: a monster, an item or a start, of Doom's ten bytes or of Hexen's twenty.
 #![tactic(auto)]
 
-ghost use Rattle.std.specs.Prelude.{true, false, ◌≡◌, ◌≤◌, length};
-ghost use Rattle.record_field.specs.Records.{WrittenIf};
-ghost use Rattle.record_thing.specs.Things.{thing_size, thing_of, thing_fields_ok, doom_thing, hexen_thing, doom_thing_bytes, hexen_thing_bytes, thing_bytes, thing_at};
+ghost use Rattle.std.specs.Prelude.{◌≡◌};
+ghost use Rattle.std.proofs.Common.{lit<};
+ghost use Rattle.record_thing.specs.Things.{thing_of, thing_fields_ok, thing_bytes, no_thing, ThingFits};
+ghost use Rattle.record_thing.specs.Codecs.{thing, thing-good};
 
-use refusal::Check;
+use record_field::GameRecord;
 
 // What its game lacks is 0: id, height, action and arguments in Doom.
 #[repr(C)]
@@ -29,46 +30,46 @@ pub struct Thing {
     pub args: [u8; 5],
 }
 
-// What a read answers: the record is all 0 where refused.
-#[derive(Clone, Copy)]
-pub struct ThingRead {
-    pub check: Check,
-    pub thing: Thing,
-}
-
 impl Thing {
     pub const SIZE: usize = 10;
 
     pub const HEXEN_SIZE: usize = 20;
 
     pub const PLACE: usize = 1;
+}
 
-    // The size of a record by its game.
-    pub fn size(hexen: bool) -> usize
-        ensures { result ≡ thing_size hexen }
-    {
-        if hexen {
-            Thing::HEXEN_SIZE
-        } else {
-            Thing::SIZE
-        }
+impl GameRecord<{ Thing::SIZE }, { Thing::HEXEN_SIZE }> for Thing {
+    ghost fields_of = { thing_of };
+
+    ghost bytes_of = { thing_bytes };
+
+    ghost fits = { ThingFits };
+
+    ghost game_of = { λ t. t.hexen };
+
+    ghost good = { thing_fields_ok };
+
+    ghost some = { (lit< tt, lit< tt) };
+
+    ghost few = { (lit< tt, lit< tt) };
+
+    ghost lossless = { thing };
+
+    ghost accepted = { λ hexen bytes h. thing-good hexen bytes };
+
+    fn is_hexen(self) -> bool {
+        self.hexen
     }
 
-    // The fields of a record's bytes.
-    pub fn parse(b: &[u8], hexen: bool) -> Thing
-        requires { thing_size hexen ≤ length b.now }
-        ensures { result ≡ thing_of hexen b.now }
-    {
-        if hexen {
-            return Thing::parse_hexen(b);
-        }
-        Thing::parse_doom(b)
+    fn fields_ok(self) -> bool {
+        self.hexen
+            | ((self.id == 0)
+                & (self.height == 0)
+                & (self.action == 0)
+                & record_field::args_zero(self.args))
     }
 
-    fn parse_doom(b: &[u8]) -> Thing
-        requires { 10 ≤ length b.now }
-        ensures { result ≡ doom_thing b.now }
-    {
+    fn parse_doom(b: &[u8]) -> Thing {
         Thing {
             hexen: false,
             id: 0,
@@ -83,11 +84,7 @@ impl Thing {
         }
     }
 
-    fn parse_hexen(b: &[u8]) -> Thing
-        requires { 20 ≤ length b.now }
-        ensures { result ≡ hexen_thing b.now }
-    {
-        let args = record_field::args_at(b, 15);
+    fn parse_hexen(b: &[u8]) -> Thing {
         Thing {
             hexen: true,
             id: endian::i16_at(b, 0),
@@ -98,26 +95,11 @@ impl Thing {
             kind: endian::u16_at(b, 10),
             flags: endian::u16_at(b, 12),
             action: b[14],
-            args,
+            args: record_field::args_at(b, 15),
         }
     }
 
-    // Whether what the record's game lacks is 0.
-    pub fn fields_ok(self) -> bool
-        ensures { result ≡ thing_fields_ok self }
-    {
-        let args = self.args;
-        self.hexen
-            | ((self.id == 0)
-                & (self.height == 0)
-                & (self.action == 0)
-                & record_field::args_zero(args))
-    }
-
-    // The bytes of a record's fields in Doom's layout.
-    pub fn doom_bytes(self) -> [u8; 10]
-        ensures { result ≡ doom_thing_bytes self }
-    {
+    fn doom_bytes(self) -> [u8; Thing::SIZE] {
         let mut out = [0; 10];
         endian::put_i16(&mut out, 0, self.x);
         endian::put_i16(&mut out, 2, self.y);
@@ -127,11 +109,7 @@ impl Thing {
         out
     }
 
-    // In Hexen's.
-    pub fn hexen_bytes(self) -> [u8; 20]
-        ensures { result ≡ hexen_thing_bytes self }
-    {
-        let args = self.args;
+    fn hexen_bytes(self) -> [u8; Thing::HEXEN_SIZE] {
         let mut out = [0; 20];
         endian::put_i16(&mut out, 0, self.id);
         endian::put_i16(&mut out, 2, self.x);
@@ -140,37 +118,16 @@ impl Thing {
         endian::put_u16(&mut out, 8, self.angle);
         endian::put_u16(&mut out, 10, self.kind);
         endian::put_u16(&mut out, 12, self.flags);
-        record_field::put_action(&mut out, 14, self.action, args);
+        record_field::put_action(&mut out, 14, self.action, self.args);
         out
     }
+}
 
-    // Record `index` of a lump of the game, or 60.
-    pub fn read(lump: &[u8], index: usize, hexen: bool) -> ThingRead
-        ensures { result ≡ thing_at hexen lump.now index }
-    {
-        let size = Thing::size(hexen);
-        let zeros = [0; Thing::HEXEN_SIZE];
-        let found = index < lump.len() / size;
-        ThingRead {
-            check: record_field::inside_check(lump, size, index),
-            thing: Thing::parse(
-                record_field::bytes_or_zeros(lump, size, index, &zeros),
-                hexen & found,
-            ),
-        }
-    }
+// All 0, and so of Doom: what stands beside a refusal.
+impl Default for Thing {
+    ghost is_default = { λ t. t ≡ no_thing };
 
-    // Record `index` of a lump of its game replaced, or 60, then 61, and nothing written.
-    pub fn write(lump: &mut [u8], index: usize, thing: Thing) -> Check
-        ensures { WrittenIf (thing_fields_ok thing) lump.old (thing_size thing.hexen) index
-            (thing_bytes thing.hexen thing) result lump.new }
-    {
-        let good = thing.fields_ok();
-        if thing.hexen {
-            let bytes = thing.hexen_bytes();
-            return record_field::replace_if(good, lump, Thing::HEXEN_SIZE, index, &bytes);
-        }
-        let bytes = thing.doom_bytes();
-        record_field::replace_if(good, lump, Thing::SIZE, index, &bytes)
+    fn default() -> Thing {
+        Thing::parse_doom(&[0; Thing::SIZE])
     }
 }

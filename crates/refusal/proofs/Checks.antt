@@ -8,8 +8,8 @@ use mathlib.Core.Logic.{⊎_elim}
 use native.Mathlib.Nat.{not-suc-le-zero, le_of_suc-le-suc, eq-or-lt_of_le}
 use native.Mathlib.Omega.{arith}
 use Rattle.refusal.specs.declared.Refusal.{Refusal}
-use Rattle.refusal.specs.declared.Check.{Check}
-use Rattle.refusal.specs.declared.Check.TheVariants.{Pass, Refused}
+use Rattle.refusal.specs.Checks.{Check}
+use Rattle.std.specs.Prelude.{Ok, Err}
 use Rattle.refusal.specs.Checks.{unless, ◌and_then◌, each}
 
 -- ---- tests
@@ -30,50 +30,50 @@ same_test false false f g = refl
 pub both : (a b : Bool) → (a && b) ≡ true → (a ≡ true) × (b ≡ true)
 both a b e = (and-eq-true_iff a b).0 e
 
-pub unless_pass : (b : Bool) (r : Refusal) → unless b r ≡ Pass → b ≡ true
+pub unless_pass : (b : Bool) (r : Refusal) → unless b r ≡ Ok tt → b ≡ true
 unless_pass true r e = refl
 unless_pass false r e = let z : ◌≡◌ {A = ℕ} 0 1 = cc in absurd (omega arith)
 
-pub unless-refused : (b : Bool) (r : Refusal) {s : Refusal} → unless b r ≡ Refused s → b ≡ false
+pub unless-refused : (b : Bool) (r : Refusal) {s : Refusal} → unless b r ≡ Err s → b ≡ false
 unless-refused true r e = let z : ◌≡◌ {A = ℕ} 0 1 = cc in absurd (omega arith)
 unless-refused false r e = refl
 
-pub refused-then : {a : Check} {r : Refusal} (y : Check) → a ≡ Refused r → Refused r ≡ a and_then y
+pub refused-then : {a : Check} {r : Refusal} (y : Check) → a ≡ Err r → Err r ≡ a and_then y
 refused-then y e = sym (ap (λ (a : Check). a and_then y) e)
 
-pub pass_then : {a x y : Check} → a ≡ Pass → x ≡ y → x ≡ a and_then y
+pub pass_then : {a x y : Check} → a ≡ Ok tt → x ≡ y → x ≡ a and_then y
 pass_then {a} {x} {y} e q = q ∙ sym (ap (λ (a : Check). a and_then y) e)
 
 -- a check that passes changes nothing after another
-pub before_pass : (a : Check) → a ≡ a and_then Pass
-before_pass Pass = refl
-before_pass (Refused r) = refl
+pub before_pass : (a : Check) → a ≡ a and_then Ok tt
+before_pass (Ok _) = refl
+before_pass (Err r) = refl
 
-pub and_then_pass : (a b : Check) → a and_then b ≡ Pass → (a ≡ Pass) × (b ≡ Pass)
-and_then_pass Pass b e = (refl, e)
-and_then_pass (Refused r) b e = let z : ◌≡◌ {A = ℕ} 0 1 = cc in absurd (omega arith)
+pub and_then_pass : (a b : Check) → a and_then b ≡ Ok tt → (a ≡ Ok tt) × (b ≡ Ok tt)
+and_then_pass (Ok _) b e = (refl, e)
+and_then_pass (Err r) b e = let z : ◌≡◌ {A = ℕ} 0 1 = cc in absurd (omega arith)
 
 -- the refusal of a refused check
 abbrev refusal_in : Refusal → Check → Refusal
-refusal_in r Pass = r
-refusal_in r (Refused s) = s
+refusal_in r (Ok _) = r
+refusal_in r (Err s) = s
 
-pub refused-same : {r s : Refusal} → Refused r ≡ Refused s → r ≡ s
+pub refused-same : {r s : Refusal} → ◌≡◌ {A = Check} (Err r) (Err s) → r ≡ s
 refused-same {r} e = ap (refusal_in r) e
 
-pub unless-named : (b : Bool) (r : Refusal) {s : Refusal} → unless b r ≡ Refused s → r ≡ s
+pub unless-named : (b : Bool) (r : Refusal) {s : Refusal} → unless b r ≡ Err s → r ≡ s
 unless-named true r e = let z : ◌≡◌ {A = ℕ} 0 1 = cc in absurd (omega arith)
 unless-named false r e = refused-same e
 
 -- a row is refused by its first check or by its second
-pub and_then_by : {X : Type 0} (a b : Check) {r : Refusal} → a and_then b ≡ Refused r → (a ≡ Refused r → X) → (b ≡ Refused r → X) → X
-and_then_by Pass b e first second = second e
-and_then_by (Refused s) b e first second = first e
+pub and_then_by : {X : Type 0} (a b : Check) {r : Refusal} → a and_then b ≡ Err r → (a ≡ Err r → X) → (b ≡ Err r → X) → X
+and_then_by (Ok _) b e first second = second e
+and_then_by (Err s) b e first second = first e
 
 -- ---- a scan
 
 module _ (f : ℕ → Check) where
-  pub each_none : each f 0 ≡ Pass
+  pub each_none : each f 0 ≡ Ok tt
   unfolding each
   each_none = refl
 
@@ -81,19 +81,19 @@ module _ (f : ℕ → Check) where
   unfolding each
   each-suc n = refl
 
-  pub each_more : (i : ℕ) {x : Check} → each f i ≡ Pass → x ≡ f i → x ≡ Pass → each f (i + 1) ≡ Pass
+  pub each_more : (i : ℕ) {x : Check} → each f i ≡ Ok tt → x ≡ f i → x ≡ Ok tt → each f (i + 1) ≡ Ok tt
   each_more i e q p = rw (add-one i, each-suc i, e) (sym q ∙ p)
 
   -- checks that all pass
-  pub each_all : (n : ℕ) → ((i : ℕ) → i < n → f i ≡ Pass) → each f n ≡ Pass
+  pub each_all : (n : ℕ) → ((i : ℕ) → i < n → f i ≡ Ok tt) → each f n ≡ Ok tt
   each_all zero h = each_none
   each_all (suc n) h = rw (each-suc n, each_all n (λ i l. h i (omega arith))) (h n (omega arith))
 
-  each-refused : (n : ℕ) {r : Refusal} → each f n ≡ Refused r → each f (suc n) ≡ Refused r
+  each-refused : (n : ℕ) {r : Refusal} → each f n ≡ Err r → each f (suc n) ≡ Err r
   each-refused n e = rw (each-suc n, e)
 
   -- a refusal among the first stays the answer, however many follow
-  pub each-kept : (i n : ℕ) {r : Refusal} → each f i ≡ Refused r → i ≤ n → each f n ≡ Refused r
+  pub each-kept : (i n : ℕ) {r : Refusal} → each f i ≡ Err r → i ≤ n → each f n ≡ Err r
   each-kept i zero e h = let z : i ≡ 0 = omega arith in rw z at e
   each-kept i (suc n) {r} e h =
       ⊎_elim
@@ -102,23 +102,23 @@ module _ (f : ℕ → Check) where
       (eq-or-lt_of_le h)
 
   pub each-stop : (i n : ℕ) {x : Check} {r : Refusal}
-      → each f i ≡ Pass → x ≡ f i → x ≡ Refused r → i < n → Refused r ≡ each f n
+      → each f i ≡ Ok tt → x ≡ f i → x ≡ Err r → i < n → Err r ≡ each f n
   each-stop i n {x} {r} e q p h = sym (each-kept (suc i) n (rw (each-suc i, e) (sym q ∙ p)) h)
 
-  pub each-done : (i n : ℕ) → each f i ≡ Pass → i ≤ n → n ≤ i → Pass ≡ each f n
+  pub each-done : (i n : ℕ) → each f i ≡ Ok tt → i ≤ n → n ≤ i → Ok tt ≡ each f n
   each-done i n e h k = let q : i ≡ n = omega arith in sym (rw q at e)
 
   -- a scan that passes says that each of its checks passes
-  pub each_pass : (n : ℕ) → each f n ≡ Pass → (i : ℕ) → i < n → f i ≡ Pass
+  pub each_pass : (n : ℕ) → each f n ≡ Ok tt → (i : ℕ) → i < n → f i ≡ Ok tt
   each_pass zero e i h = absurd (not-suc-le-zero h)
   each_pass (suc n) e i h =
       let both = and_then_pass (each f n) (f n) (sym (each-suc n) ∙ e) in
       ⊎_elim (λ (q : i ≡ n). rw q both.1) (λ (l : i < n). each_pass n both.0 i l) (eq-or-lt_of_le (le_of_suc-le-suc h))
 
   -- a scan that is refused is refused by one of its checks
-  pub each-by : (n : ℕ) {r : Refusal} → each f n ≡ Refused r → (i : ℕ) × ((i < n) × (f i ≡ Refused r))
+  pub each-by : (n : ℕ) {r : Refusal} → each f n ≡ Err r → (i : ℕ) × ((i < n) × (f i ≡ Err r))
   each-by zero e = let z : ◌≡◌ {A = ℕ} 0 1 = (let p = each_none in cc) in absurd (omega arith)
   each-by (suc n) {r} e =
-      and_then_by {X = (i : ℕ) × ((i < suc n) × (f i ≡ Refused r))} (each f n) (f n) (sym (each-suc n) ∙ e)
+      and_then_by {X = (i : ℕ) × ((i < suc n) × (f i ≡ Err r))} (each f n) (f n) (sym (each-suc n) ∙ e)
       (λ q. let (i, (h, t)) = each-by n q in (i, (omega arith, t)))
       (λ q. (n, (omega arith, q)))

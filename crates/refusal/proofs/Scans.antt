@@ -5,8 +5,8 @@ use mathlib.Core.Path.{◌≡◌, refl, sym, ap, ◌∙◌}
 use native.Mathlib.Omega.{arith}
 use borrow.Author.Tests.{not-true, not-false}
 use Rattle.refusal.specs.declared.Refusal.{Refusal}
-use Rattle.refusal.specs.declared.Check.{Check}
-use Rattle.refusal.specs.declared.Check.TheVariants.{Pass, Refused}
+use Rattle.refusal.specs.Checks.{Check}
+use Rattle.std.specs.Prelude.{Ok, Err}
 use Rattle.refusal.specs.Checks.{unless, each}
 use Rattle.refusal.proofs.Checks.{each_none, each_more, each-stop, each-done}
 
@@ -14,19 +14,26 @@ use Rattle.refusal.proofs.Checks.{each_none, each_more, each-stop, each-done}
 pub record Scanned (f : ℕ → Check) (n end i : ℕ) : Type 0 where
   pub ends : end ≡ n
   pub inside : i ≤ end
-  pub passes : each f i ≡ Pass
+  pub passes : each f i ≡ Ok tt
 
 pub scanned_none : {f : ℕ → Check} {n : ℕ} → Scanned f n n 0
 scanned_none {f} = record { ends = refl; inside = omega arith; passes = each_none f }
 
 module _ {f : ℕ → Check} {n end i : ℕ} (s : Scanned f n end i) where
-  pub scanned_more : {x : Check} → i < end → x ≡ f i → x ≡ Pass → Scanned f n end (i + 1)
+  pub scanned_more : {x : Check} → i < end → x ≡ f i → x ≡ Ok tt → Scanned f n end (i + 1)
   scanned_more h q p = record { ends = s.ends; inside = omega arith; passes = each_more f i s.passes q p }
 
-  pub scanned_stop : {x : Check} {r : Refusal} → i < end → x ≡ f i → x ≡ Refused r → Refused r ≡ each f n
+  pub scanned_stop : {x : Check} {r : Refusal} → i < end → x ≡ f i → x ≡ Err r → Err r ≡ each f n
   scanned_stop h q p = each-stop f i n s.passes q p (omega (arith, s.ends))
 
-  pub scanned_done : end ≤ i → Pass ≡ each f n
+  -- the same of a loop that goes on by `?`
+  pub scanned_passed : i < end → ◌≡◌ {A = Check} (Ok tt) (f i) → Scanned f n end (i + 1)
+  scanned_passed h q = scanned_more h q refl
+
+  pub scanned_refused : {r : Refusal} → i < end → ◌≡◌ {A = Check} (Err r) (f i) → ◌≡◌ {A = Check} (Err r) (each f n)
+  scanned_refused h q = scanned_stop h q refl
+
+  pub scanned_done : end ≤ i → Ok tt ≡ each f n
   scanned_done h = each-done f i n s.passes (omega (arith, s.ends, s.inside)) (omega (arith, s.ends))
 
   -- ---- where check `i` is one test
@@ -34,5 +41,5 @@ module _ {f : ℕ → Check} {n end i : ℕ} (s : Scanned f n end i) where
   pub tested_more : {b ok : Bool} (r : Refusal) → i < end → b ≡ ok → not b ≡ false → f i ≡ unless ok r → Scanned f n end (i + 1)
   tested_more {b} r h q t d = scanned_more h (ap (λ (x : Bool). unless x r) q ∙ sym d) (ap (λ (x : Bool). unless x r) (not-false b t))
 
-  pub tested_stop : {b ok : Bool} {r : Refusal} → i < end → b ≡ ok → not b ≡ true → f i ≡ unless ok r → Refused r ≡ each f n
+  pub tested_stop : {b ok : Bool} {r : Refusal} → i < end → b ≡ ok → not b ≡ true → f i ≡ unless ok r → Err r ≡ each f n
   tested_stop {b} {ok} {r} h q t d = scanned_stop h (ap (λ (x : Bool). unless x r) q ∙ sym d) (ap (λ (x : Bool). unless x r) (not-true b t))

@@ -1,8 +1,7 @@
 -- What every answer begins with: number 0 is accepted. Assumes nothing.
-use Rattle.std.specs.Prelude.{ℕ}
+use Rattle.std.specs.Prelude.{ℕ, Result, Ok, Err}
 use Rattle.refusal.specs.declared.Refusal.{Refusal}
-use Rattle.refusal.specs.declared.Check.{Check}
-use Rattle.refusal.specs.declared.Check.TheVariants.{Pass, Refused}
+use Rattle.refusal.specs.Checks.{Check}
 use Rattle.refusal.specs.Table.{number_of, place_of, record_of}
 use Rattle.refusal.specs.declared.status.Status.{Status}
 use Rattle.refusal.specs.declared.status.LengthAnswer.{LengthAnswer}
@@ -17,13 +16,10 @@ refused r = record { number = number_of r; place = place_of r; «record» = reco
 
 -- what a check answered
 abbrev pub status_of : Check → Status
-status_of Pass = accepted
-status_of (Refused r) = refused r
+status_of (Ok passed) = accepted
+status_of (Err r) = refused r
 
--- how many bytes were written
-abbrev pub length_given : ℕ → LengthAnswer
-length_given length = record { status = accepted; length = length }
-
--- a refusal has no length
-abbrev pub length_refused : Refusal → LengthAnswer
-length_refused r = record { status = refused r; length = 0 }
+-- how many bytes were written; a refusal has no length
+abbrev pub length_of : Result ℕ Refusal → LengthAnswer
+length_of (Ok length) = record { status = accepted; length = length }
+length_of (Err r) = record { status = refused r; length = 0 }

@@ -1,4 +1,5 @@
-// The table of refusals as one enum, with the three numbers that a caller is given for each, and the answer of a check.
+// The table of refusals as one enum, with the three numbers that a caller is given for each. A check answers
+// `Result<(), Refusal>`.
 // The table itself is specs/Table.antt.
 #![tactic(auto)]
 
@@ -6,11 +7,9 @@ mod status;
 
 ghost use Rattle.std.specs.Prelude.{◌≡◌};
 ghost use Rattle.refusal.specs.Table.{row_of, number_of, place_of, record_of};
-ghost use Rattle.refusal.specs.Checks.{unless, ◌and_then◌};
+ghost use Rattle.refusal.specs.Checks.{unless};
 
-pub use status::{
-    LengthAnswer, Status, length_given, length_refused, nothing_refused, refused, status_of,
-};
+pub use status::{LengthAnswer, Status};
 
 // One case for each number of the table, with the place or the record that varies.
 #[derive(Clone, Copy)]
@@ -131,13 +130,6 @@ pub enum Refusal {
     TextMissing,
 }
 
-// What a check answers.
-#[derive(Clone, Copy)]
-pub enum Check {
-    Pass,
-    Refused(Refusal),
-}
-
 // A row of the table: number, place and record. An unnamed part is 0.
 #[derive(Clone, Copy)]
 pub struct Row(pub u32, pub usize, pub usize);
@@ -231,18 +223,8 @@ pub fn record_of(r: Refusal) -> usize
 }
 
 // A test as a check: passed, or refused with r.
-pub fn pass_if(ok: bool, r: Refusal) -> Check
+pub fn pass_if(ok: bool, r: Refusal) -> Result<(), Refusal>
     ensures { result ≡ unless ok r }
 {
-    if ok { Check::Pass } else { Check::Refused(r) }
-}
-
-// Two checks in a row: the first refusal.
-pub fn then(a: Check, b: Check) -> Check
-    ensures { result ≡ (a and_then b) }
-{
-    match a {
-        Check::Pass => b,
-        Check::Refused(r) => Check::Refused(r),
-    }
+    if ok { Ok(()) } else { Err(r) }
 }

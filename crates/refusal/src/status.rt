@@ -1,8 +1,8 @@
 // What every answer begins with.
 ghost use Rattle.std.specs.Prelude.{◌≡◌};
-ghost use Rattle.refusal.specs.Status.{accepted, refused, status_of, length_given, length_refused};
+ghost use Rattle.refusal.specs.Status.{refused, status_of, length_of};
 
-use crate::{Check, Refusal};
+use crate::Refusal;
 
 // The refusal's number, place and record; all 0 where nothing was refused.
 #[repr(C)]
@@ -13,32 +13,34 @@ pub struct Status {
     pub record: usize,
 }
 
-pub fn nothing_refused() -> Status
-    ensures { result ≡ accepted }
-{
-    Status {
+impl Status {
+    pub const ACCEPTED: Status = Status {
         number: 0,
         place: 0,
         record: 0,
+    };
+}
+
+impl From<Refusal> for Status {
+    ghost from_gives = { λ r s. s ≡ refused r };
+
+    fn from(r: Refusal) -> Status {
+        Status {
+            number: crate::number_of(r),
+            place: crate::place_of(r),
+            record: crate::record_of(r),
+        }
     }
 }
 
-pub fn refused(r: Refusal) -> Status
-    ensures { result ≡ refused r }
-{
-    Status {
-        number: crate::number_of(r),
-        place: crate::place_of(r),
-        record: crate::record_of(r),
-    }
-}
+impl From<Result<(), Refusal>> for Status {
+    ghost from_gives = { λ check s. s ≡ status_of check };
 
-pub fn status_of(c: Check) -> Status
-    ensures { result ≡ status_of c }
-{
-    match c {
-        Check::Pass => nothing_refused(),
-        Check::Refused(r) => refused(r),
+    fn from(check: Result<(), Refusal>) -> Status {
+        match check {
+            Ok(()) => Status::ACCEPTED,
+            Err(r) => Status::from(r),
+        }
     }
 }
 
@@ -50,20 +52,19 @@ pub struct LengthAnswer {
     pub length: usize,
 }
 
-pub fn length_given(length: usize) -> LengthAnswer
-    ensures { result ≡ length_given length }
-{
-    LengthAnswer {
-        status: nothing_refused(),
-        length,
-    }
-}
+impl From<Result<usize, Refusal>> for LengthAnswer {
+    ghost from_gives = { λ written answer. answer ≡ length_of written };
 
-pub fn length_refused(r: Refusal) -> LengthAnswer
-    ensures { result ≡ length_refused r }
-{
-    LengthAnswer {
-        status: refused(r),
-        length: 0,
+    fn from(written: Result<usize, Refusal>) -> LengthAnswer {
+        match written {
+            Ok(length) => LengthAnswer {
+                status: Status::ACCEPTED,
+                length,
+            },
+            Err(r) => LengthAnswer {
+                status: Status::from(r),
+                length: 0,
+            },
+        }
     }
 }

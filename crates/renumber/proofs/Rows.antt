@@ -1,22 +1,22 @@
 -- Laws of the nodes as they are written: a node's bytes one after the other, and node after node. Assumes nothing.
 use Prim.Native.Nat.{ℕ, zero, suc, ◌+◌, ◌*◌, ◌≤◌, ◌<◌}
 use mathlib.Core.Bool.{true, cond, not}
-use mathlib.Core.List.{List, [], ◌∷◌, ◌++◌}
+use mathlib.Core.List.{List, ◌++◌, append_assoc}
+use borrow.Rule.Slice.PartMut.{put_mid}
 use mathlib.Core.Logic.{⊎_elim}
 use mathlib.Core.Path.{◌≡◌, sym, ap, ◌∙◌}
-use native.Mathlib.Numerals.{add-one}
 use native.Mathlib.Omega.{arith}
 use borrow.Author.Tests.{ltb-true, lt-ltb, le-ltb}
 use lib.Dec.{ltb}
-use lib.ListN.{length, get_or, set, take, drop, length-append, length-drop}
-use lib.Seq.{sets, take-suc, get_or-drop, take-take, length-take-le, sets-eq}
+use lib.ListN.{length, take, drop, length-append, length-drop}
+use lib.Seq.{sets, drop-drop, take-take, length-take-le, sets-eq}
 use Rattle.refusal.proofs.Checks.{not_both}
 use Rattle.endian.specs.Unsigned.{u16_bytes, put_u16}
 use Rattle.layout.specs.Rows.{laid_out}
 use Rattle.layout.specs.Buffers.{buffer_after}
 use Rattle.layout.proofs.LaidOut.{laid_none, laid_more, length_laid_suc}
-use Rattle.layout.proofs.Stores.{sets_append, sets_push}
-use Rattle.refusal.specs.declared.Check.TheVariants.{Pass}
+use Rattle.layout.proofs.Stores.{sets_append}
+use Rattle.std.specs.Prelude.{Ok}
 use Rattle.record_field.specs.Records.{record_bytes}
 use Rattle.record_field.proofs.Records.{length-record_bytes}
 use Rattle.record.specs.Nodes.{node_size}
@@ -34,17 +34,13 @@ use Rattle.renumber_order.proofs.Checking.{children_each, order-inside, child_wo
 
 -- ---- one node
 
--- one byte more of a row
-pub row_more : (nodes : List ℕ) (from : ℕ) (out : List ℕ) (at i : ℕ) (now : List ℕ) → from + i < length nodes
-    → now ≡ sets out at (take i (drop from nodes)) → set now (at + i) (get_or nodes (from + i) 0) ≡ sets out at (take (i + 1) (drop from nodes))
-row_more nodes from out at i now h e =
-    let rest = drop from nodes in
-    let inside : i < length rest = rw (length-drop from nodes) (omega arith) in
-    let long = length-take-le i rest (omega arith) in
-    ap (λ (x : List ℕ). set x (at + i) (get_or nodes (from + i) 0)) e
-    ∙ sets_push out at (take i rest) (get_or nodes (from + i) 0) (at + i) (omega arith)
-    ∙ ap (λ (b : ℕ). sets out at (take i rest ++ (b ∷ []))) (sym (get_or-drop from nodes i 0))
-    ∙ ap (λ (x : List ℕ). sets out at x) (sym (take-suc rest i 0 inside) ∙ ap (λ (k : ℕ). take k rest) (sym (add-one i)))
+-- a row written over the bytes from `at` on
+pub row_stored : (out row : List ℕ) (at n : ℕ) → length row ≡ n → at + n ≤ length out → put_mid at n out row ≡ sets out at row
+row_stored out row at n e h =
+    ap (λ (xs : List ℕ). take at out ++ (row ++ xs)) (drop-drop n at out)
+    ∙ sym (append_assoc (take at out) row (drop (at + n) out))
+    ∙ ap (λ (k : ℕ). take at out ++ row ++ drop (at + k) out) (sym e)
+    ∙ sym (sets-eq row out at (omega arith))
 
 sets_u16 : (l : List ℕ) (at n : ℕ) → put_u16 l at n ≡ sets l at (u16_bytes n)
 sets_u16 l at n = let one : at + 1 ≡ suc at = omega arith in rw one
@@ -115,7 +111,7 @@ module _ (nodes : List ℕ) (count : ℕ) (words order : List ℕ) (room : ℕ) 
       ∙ ap (λ (x : List ℕ). sets out 0 x) (sym (laid_more (new_node nodes order) i))
 
   -- the output afterwards
-  pub nodes_done : (out : List ℕ) → room ≡ length out → sets out 0 (renumbered nodes order) ≡ buffer_after Pass (renumbered nodes order) out
+  pub nodes_done : (out : List ℕ) → room ≡ length out → sets out 0 (renumbered nodes order) ≡ buffer_after (Ok tt) (renumbered nodes order) out
   nodes_done out e =
       let long = length_nodes (length order) (omega arith) in
       let fits = w.fits in

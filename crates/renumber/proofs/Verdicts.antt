@@ -4,46 +4,42 @@ use mathlib.Core.List.{List}
 use mathlib.Core.Path.{◌≡◌, refl, sym, ◌∙◌}
 use lib.ListN.{length}
 use Rattle.refusal.specs.declared.Refusal.{Refusal}
-use Rattle.refusal.specs.declared.Check.TheVariants.{Pass, Refused}
+use Rattle.std.specs.Prelude.{Result, Ok, Err}
 use Rattle.layout.specs.Buffers.{buffer_after}
 use Rattle.record.specs.Nodes.{node_size}
-use Rattle.wad.specs.declared.map.Marker.TheVariants.{Entry, Refused as NoMarker}
 use Rattle.wad.specs.Map.{marker_answer}
-use Rattle.node_route.specs.declared.Graph.{Graph}
-use Rattle.node_route.specs.declared.Graph.TheVariants.{HasLoop, HasShared, HasDepth}
+use Rattle.node_route.specs.declared.GraphError.{GraphError}
+use Rattle.node_route.specs.declared.GraphError.TheVariants.{HasLoop, HasShared}
 use Rattle.node.specs.Nodes.{nodes_of}
 use Rattle.node_route.specs.Heights.{graph_verdict}
 use Rattle.node_graph.specs.Judging.{cleared}
-use Rattle.map_check.specs.declared.Verdict.{Verdict}
-use Rattle.map_check.specs.Verdict.{graph_answer, judged, words_by, check_at, nodes_at, verdict_by, words_after_by}
-use Rattle.renumber.specs.declared.Renumbering.{Renumbering}
-use Rattle.renumber.specs.declared.Renumbering.TheVariants.{Refused as NotWritten}
+use Rattle.map_check.specs.Verdict.{Verdict, graph_answer, judged, words_by, check_at, nodes_at, verdict_by, words_after_by}
 use Rattle.renumber.specs.Renumbering.{renumbered, check_by, lump_by, renumbering_of, Renumbers}
 use Rattle.renumber.specs.Inner.{RenumbersAt, NodesRenumbered}
 use Rattle.renumber_order.specs.Judging.{graph_check}
 
 module _ (wad : List ℕ) (marker : ℕ) (order out : List ℕ) where
   -- the answer to a verdict, and the output afterwards
-  abbrev answered : Verdict → Renumbering
+  abbrev answered : Verdict → Result ℕ Refusal
   answered v = renumbering_of (check_by v wad order (length out)) (node_size * length order)
 
   abbrev written : Verdict → List ℕ
   written v = buffer_after (check_by v wad order (length out)) (lump_by v wad order) out
 
-  answers_by : (graph : Graph)
+  answers_by : (graph : Result ℕ GraphError)
       → renumbering_of (graph_check graph (nodes_at wad marker) order (length out)) (node_size * length order) ≡ answered (graph_answer graph marker)
-  answers_by HasLoop = refl
-  answers_by HasShared = refl
-  answers_by (HasDepth depth) = refl
+  answers_by (Err HasLoop) = refl
+  answers_by (Err HasShared) = refl
+  answers_by (Ok depth) = refl
 
-  writes-by : (graph : Graph)
+  writes-by : (graph : Result ℕ GraphError)
       → buffer_after (graph_check graph (nodes_at wad marker) order (length out)) (renumbered (nodes_at wad marker) order) out ≡ written (graph_answer graph marker)
-  writes-by HasLoop = refl
-  writes-by HasShared = refl
-  writes-by (HasDepth depth) = refl
+  writes-by (Err HasLoop) = refl
+  writes-by (Err HasShared) = refl
+  writes-by (Ok depth) = refl
 
   module _ (words : List ℕ) where
-    pub at_refused : {r : Refusal} → check_at wad marker (length words) ≡ Refused r → RenumbersAt wad marker words order out (NotWritten r) words out
+    pub at_refused : {r : Refusal} → check_at wad marker (length words) ≡ Err r → RenumbersAt wad marker words order out (Err r) words out
     at_refused e =
         record {
           answers = λ j. answered (judged (sym e j) (graph_verdict (nodes_at wad marker)) marker);
@@ -51,7 +47,7 @@ module _ (wad : List ℕ) (marker : ℕ) (order out : List ℕ) where
           writes = λ j. written (judged (sym e j) (graph_verdict (nodes_at wad marker)) marker);
         }
 
-    pub at_nodes : {a : Renumbering} {wordsThen outThen : List ℕ} → check_at wad marker (length words) ≡ Pass
+    pub at_nodes : {a : (Result ℕ Refusal)} {wordsThen outThen : List ℕ} → check_at wad marker (length words) ≡ Ok tt
         → NodesRenumbered (nodes_at wad marker) order out a outThen → wordsThen ≡ cleared words (4 * nodes_of (nodes_at wad marker))
         → RenumbersAt wad marker words order out a wordsThen outThen
     at_nodes e t w =
@@ -63,7 +59,7 @@ module _ (wad : List ℕ) (marker : ℕ) (order out : List ℕ) where
         }
 
 module _ (wad name words order out : List ℕ) where
-  pub renumbers_nowhere : {r : Refusal} → marker_answer wad name ≡ NoMarker r → Renumbers wad name words order out (NotWritten r) words out
+  pub renumbers_nowhere : {r : Refusal} → marker_answer wad name ≡ Err r → Renumbers wad name words order out (Err r) words out
   renumbers_nowhere e =
       record {
         answers = λ j. answered wad 0 order out (verdict_by wad words (sym e j));
@@ -71,7 +67,7 @@ module _ (wad name words order out : List ℕ) where
         writes = λ j. written wad 0 order out (verdict_by wad words (sym e j));
       }
 
-  pub renumbers_at : {marker : ℕ} {a : Renumbering} {wordsThen outThen : List ℕ} → marker_answer wad name ≡ Entry marker
+  pub renumbers_at : {marker : ℕ} {a : (Result ℕ Refusal)} {wordsThen outThen : List ℕ} → marker_answer wad name ≡ Ok marker
       → RenumbersAt wad marker words order out a wordsThen outThen → Renumbers wad name words order out a wordsThen outThen
   renumbers_at {marker} e t =
       record {

@@ -1,13 +1,12 @@
 -- Not for the reader of promises: what only contracts of inner functions cite. The work words hold the place of each node in the list.
 -- Assumes nothing.
-use Rattle.std.specs.Prelude.{ℕ, ◌*◌, ◌≤◌, true, cond, List, ◌≡◌, length}
+use Rattle.refusal.specs.declared.Refusal.{Refusal}
+use Rattle.std.specs.Prelude.{ℕ, ◌*◌, ◌≤◌, true, cond, List, ◌≡◌, length, Result, Ok}
 use Rattle.layout.specs.Buffers.{buffer_after}
 use Rattle.record.specs.Nodes.{node_size}
 use Rattle.node.specs.declared.Choice.TheVariants.{Right, Left}
 use Rattle.node.specs.Nodes.{is_node, child_of}
-use Rattle.wad.specs.declared.map.Marker.TheVariants.{Entry}
 use Rattle.map_check.specs.Verdict.{verdict_by, words_after_by}
-use Rattle.renumber.specs.declared.Renumbering.{Renumbering}
 use Rattle.renumber_order.specs.Orders.{children_ok}
 use Rattle.renumber_order.specs.Judging.{renumber_graph_check, Ordered}
 use Rattle.renumber_order.specs.Places.{place_word}
@@ -16,15 +15,15 @@ use Rattle.renumber.specs.Renumbering.{with_children, check_by, lump_by, renumbe
 -- ---- from a marker on, and from the nodes on
 
 -- what is promised from a marker on that was found
-pub record RenumbersAt (wad : List ℕ) (marker : ℕ) (words order out : List ℕ) (answer : Renumbering)
+pub record RenumbersAt (wad : List ℕ) (marker : ℕ) (words order out : List ℕ) (answer : Result ℕ Refusal)
     (wordsThen outThen : List ℕ) : Type 0 where
-  pub answers : answer ≡ renumbering_of (check_by (verdict_by wad words (Entry marker)) wad order (length out)) (node_size * length order)
-  pub leaves : wordsThen ≡ words_after_by wad words (Entry marker)
-  pub writes : outThen ≡ buffer_after (check_by (verdict_by wad words (Entry marker)) wad order (length out))
-      (lump_by (verdict_by wad words (Entry marker)) wad order) out
+  pub answers : answer ≡ renumbering_of (check_by (verdict_by wad words (Ok marker)) wad order (length out)) (node_size * length order)
+  pub leaves : wordsThen ≡ words_after_by wad words (Ok marker)
+  pub writes : outThen ≡ buffer_after (check_by (verdict_by wad words (Ok marker)) wad order (length out))
+      (lump_by (verdict_by wad words (Ok marker)) wad order) out
 
 -- what is answered and written where only the node graph and the list are left to judge
-pub record NodesRenumbered (nodes order out : List ℕ) (answer : Renumbering) (outThen : List ℕ) : Type 0 where
+pub record NodesRenumbered (nodes order out : List ℕ) (answer : Result ℕ Refusal) (outThen : List ℕ) : Type 0 where
   pub answers : answer ≡ renumbering_of (renumber_graph_check nodes order (length out)) (node_size * length order)
   pub writes : outThen ≡ buffer_after (renumber_graph_check nodes order (length out)) (renumbered nodes order) out
 

@@ -1,19 +1,15 @@
 -- The renumbered NODES lump, and what is answered and lent back (02, W-212). Assumes nothing.
-use Rattle.std.specs.Prelude.{ℕ, ◌*◌, cond, List, [], ◌++◌, ◌≡◌, length, take}
+use Rattle.std.specs.Prelude.{ℕ, ◌*◌, cond, List, [], ◌++◌, ◌≡◌, length, take, Result, Ok, Err}
 use Rattle.endian.specs.Unsigned.{u16_bytes}
-use Rattle.refusal.specs.declared.Check.{Check}
-use Rattle.refusal.specs.declared.Check.TheVariants.{Pass, Refused}
+use Rattle.refusal.specs.Checks.{Check}
 use Rattle.layout.specs.Rows.{laid_out}
 use Rattle.layout.specs.Buffers.{buffer_after}
 use Rattle.record_field.specs.Records.{record_bytes}
 use Rattle.record.specs.Nodes.{node_size}
 use Rattle.node.specs.declared.Choice.TheVariants.{Right, Left}
 use Rattle.node.specs.Nodes.{is_node, child_of}
-use Rattle.map_check.specs.declared.Verdict.{Verdict}
-use Rattle.map_check.specs.declared.Verdict.TheVariants.{Accepted, Refused as NotAccepted}
-use Rattle.map_check.specs.Verdict.{nodes_at, verdict, words_after}
-use Rattle.renumber.specs.declared.Renumbering.{Renumbering}
-use Rattle.renumber.specs.declared.Renumbering.TheVariants.{Written, Refused as NotWritten}
+use Rattle.refusal.specs.declared.Refusal.{Refusal}
+use Rattle.map_check.specs.Verdict.{Verdict, nodes_at, verdict, words_after}
 use Rattle.renumber_order.specs.Orders.{index_in, renumber_check}
 use Rattle.renumber_order.specs.Orders.{old_at}
 
@@ -37,21 +33,21 @@ renumbered nodes order = laid_out (new_node nodes order) (length order)
 
 -- the list is looked at where the map is accepted
 abbrev pub check_by : Verdict → List ℕ → List ℕ → ℕ → Check
-check_by (Accepted depth marker) wad order room = renumber_check (nodes_at wad marker) order room
-check_by (NotAccepted r) wad order room = Refused r
+check_by (Ok map) wad order room = renumber_check (nodes_at wad map.marker) order room
+check_by (Err r) wad order room = Err r
 
 -- the new lump of an accepted map; a refused one has none
 abbrev pub lump_by : Verdict → List ℕ → List ℕ → List ℕ
-lump_by (Accepted depth marker) wad order = renumbered (nodes_at wad marker) order
-lump_by (NotAccepted r) wad order = []
+lump_by (Ok map) wad order = renumbered (nodes_at wad map.marker) order
+lump_by (Err r) wad order = []
 
 -- how many bytes were written, or the refusal
-abbrev pub renumbering_of : Check → ℕ → Renumbering
-renumbering_of Pass length = Written length
-renumbering_of (Refused r) length = NotWritten r
+abbrev pub renumbering_of : Check → ℕ → Result ℕ Refusal
+renumbering_of (Ok _) length = Ok length
+renumbering_of (Err r) length = Err r
 
 -- what is promised: the answer, the words as the map check leaves them, and the output
-pub record Renumbers (wad name words order out : List ℕ) (answer : Renumbering) (wordsThen outThen : List ℕ) : Type 0 where
+pub record Renumbers (wad name words order out : List ℕ) (answer : Result ℕ Refusal) (wordsThen outThen : List ℕ) : Type 0 where
   pub answers : answer ≡ renumbering_of (check_by (verdict wad name words) wad order (length out)) (node_size * length order)
   pub leaves : wordsThen ≡ words_after wad name words
   pub writes : outThen ≡ buffer_after (check_by (verdict wad name words) wad order (length out)) (lump_by (verdict wad name words) wad order) out

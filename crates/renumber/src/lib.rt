@@ -4,28 +4,17 @@
 
 mod writing;
 
-ghost use Rattle.std.specs.Prelude.{◌≡◌, ◌*◌, ◌<◌, eqb};
-ghost use Rattle.refusal.specs.declared.Check.TheVariants.{Pass};
-ghost use Rattle.refusal.specs.declared.Refusal.TheVariants.{RenumberLength};
-ghost use Rattle.refusal.specs.Checks.{unless};
+ghost use Rattle.std.specs.Prelude.{◌≡◌, ◌*◌, ◌<◌, Ok};
 ghost use Rattle.wad.specs.Header.{head_of, entry_count};
 ghost use Rattle.wad.specs.Entries.{file_check};
 ghost use Rattle.node.specs.Nodes.{nodes_of};
 ghost use Rattle.node_graph.specs.Judging.{Judgeable, cleared};
 ghost use Rattle.node_graph.specs.Searching.{Searchable};
-ghost use Rattle.renumber.specs.Renumbering.{renumbering_of, Renumbers};
+ghost use Rattle.renumber.specs.Renumbering.{Renumbers};
 ghost use Rattle.renumber.specs.Inner.{RenumbersAt, NodesRenumbered};
 
 use record::Node;
-use refusal::{Check, Refusal};
-use wad::Marker;
-
-// How many bytes were written, or why none were.
-#[derive(Clone, Copy)]
-pub enum Renumbering {
-    Written(usize),
-    Refused(Refusal),
-}
+use refusal::Refusal;
 
 // The map of the asked name, judged as map_check::judge_map does, over the same words; then the list, and where it is
 // good the renumbered NODES in the front of the output. A refusal writes nothing.
@@ -35,14 +24,12 @@ pub fn renumber(
     words: &mut [u16],
     order: &[u16],
     out: &mut [u8],
-) -> Renumbering
+) -> Result<usize, Refusal>
     ensures { Renumbers wad.now name.now words.old order.now
         out.old result words.new out.new }
 {
-    match wad::find_map(wad, name) {
-        Marker::Refused(r) => Renumbering::Refused(r),
-        Marker::Entry(marker) => renumber_at(wad, marker, words, order, out),
-    }
+    let marker = wad::find_map(wad, name)?;
+    renumber_at(wad, marker, words, order, out)
 }
 
 // From a marker on that was found.
@@ -52,16 +39,14 @@ fn renumber_at(
     words: &mut [u16],
     order: &[u16],
     out: &mut [u8],
-) -> Renumbering
-    requires { (file_check wad.now ≡ Pass) × (marker < entry_count (head_of wad.now)) }
+) -> Result<usize, Refusal>
+    requires { (file_check wad.now ≡ Ok tt) × (marker < entry_count (head_of wad.now)) }
     ensures { RenumbersAt wad.now marker words.old order.now
         out.old result words.new out.new }
 {
     let dir = wad::directory_of(wad);
     let count = wad::entry_count(wad);
-    if let Check::Refused(r) = map_check::judge_below(wad, dir, count, marker, words.len()) {
-        return Renumbering::Refused(r);
-    }
+    map_check::judge_below(wad, dir, count, marker, words.len())?;
     renumber_nodes(
         map_lumps::map_lump(wad, dir, marker, Node::PLACE),
         words,
@@ -71,30 +56,26 @@ fn renumber_at(
 }
 
 // From 31 on. The words are cleared in every case.
-fn renumber_nodes(nodes: &[u8], words: &mut [u16], order: &[u16], out: &mut [u8]) -> Renumbering
+fn renumber_nodes(
+    nodes: &[u8],
+    words: &mut [u16],
+    order: &[u16],
+    out: &mut [u8],
+) -> Result<usize, Refusal>
     requires { Judgeable nodes.now (nodes_of nodes.now) words.old }
     ensures nodes_renumbered { NodesRenumbered nodes.now order.now out.old result out.new }
     ensures words_after { words.new ≡ cleared words.old (4 * nodes_of nodes.now) }
 {
     let count = nodes.len() / Node::SIZE;
     if count == 0 {
-        return renumber_none(order.len());
+        // only the empty list is good, and nothing is to write
+        refusal::pass_if(order.is_empty(), Refusal::RenumberLength)?;
+        return Ok(0);
     }
     let used = 4 * count;
     let answer = renumber_some(nodes, count, &mut words[..used], order, out);
     node_graph::clear(words, used);
     answer
-}
-
-// Without nodes only the empty list is good, and nothing is to write.
-fn renumber_none(length: usize) -> Renumbering
-    ensures { result ≡ renumbering_of (unless (eqb length 0) RenumberLength) 0 }
-{
-    if length == 0 {
-        Renumbering::Written(0)
-    } else {
-        Renumbering::Refused(Refusal::RenumberLength)
-    }
 }
 
 // At least one node.
@@ -104,14 +85,11 @@ fn renumber_some(
     words: &mut [u16],
     order: &[u16],
     out: &mut [u8],
-) -> Renumbering
+) -> Result<usize, Refusal>
     requires { Searchable nodes.now count words.old }
     ensures { NodesRenumbered nodes.now order.now out.old result out.new }
 {
-    if let Check::Refused(r) = renumber_order::judge_graph(nodes, count, words, order, out.len()) {
-        return Renumbering::Refused(r);
-    }
+    renumber_order::judge_graph(nodes, count, words, order, out.len())?;
     writing::write_nodes(nodes, count, words, order, out);
-    let length = Node::SIZE * order.len();
-    Renumbering::Written(length)
+    Ok(Node::SIZE * order.len())
 }

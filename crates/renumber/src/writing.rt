@@ -1,5 +1,5 @@
 // The renumbered nodes, written. Everything is judged, and there is room.
-ghost use Rattle.std.specs.Prelude.{◌≡◌, ◌++◌, ◌+◌, ◌*◌, ◌≤◌, ◌<◌, length, take, drop};
+ghost use Rattle.std.specs.Prelude.{◌≡◌, ◌++◌, ◌+◌, ◌*◌, ◌≤◌, ◌<◌, length};
 ghost use Rattle.std.proofs.lemmas.List.Edits.{sets};
 ghost use Rattle.record.specs.Nodes.{node_size};
 ghost use Rattle.node.specs.Nodes.{subsector_bit};
@@ -30,21 +30,12 @@ fn write_node(nodes: &[u8], count: usize, words: &[u16], node: usize, out: &mut 
     ensures { out.new ≡ sets out.old at
         (node_by nodes.now words.now count node) }
 {
-    copy(nodes, Node::SIZE * node, out, at);
+    let from = Node::SIZE * node;
+    out[at..at + LINE_SIZE].copy_from_slice(&nodes[from..from + LINE_SIZE]);
     let right = renamed(words, count, node::child_of(nodes, node, Choice::Right));
     let left = renamed(words, count, node::child_of(nodes, node, Choice::Left));
     endian::put_u16(out, at + LINE_SIZE, right);
     endian::put_u16(out, at + LINE_SIZE + 2, left);
-}
-
-// The first bytes of a node, up to its children.
-fn copy(nodes: &[u8], from: usize, out: &mut [u8], at: usize)
-    requires { (from + 24 ≤ length nodes.now) × (at + 24 ≤ length out.old) }
-    ensures { out.new ≡ sets out.old at (take 24 (drop from nodes.now)) }
-{
-    for i in 0..LINE_SIZE {
-        out[at + i] = nodes[from + i];
-    }
 }
 
 // A node's new number; a subsector as it is.

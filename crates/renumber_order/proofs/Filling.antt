@@ -19,30 +19,6 @@ use Rattle.renumber_order.proofs.Members.{not_held, held_both, once-apart, apart
 use Rattle.renumber_order.proofs.Marks.{marked-is, is-marked}
 use Rattle.renumber_order.proofs.FirstPlaces.{placed-here, placed_there, placed-absent, absent-placed, free_is, is_free, all-places, places-all}
 
--- ---- no place yet
-
--- the first `i` nodes have no place, and the marks are as they were
-pub record Emptying (count : ℕ) (before : List ℕ) (i : ℕ) (after : List ℕ) : Type 0 where
-  pub long : length after ≡ length before
-  pub marks : (v : ℕ) → v < count → mark_of after v ≡ mark_of before v
-  pub places : (v : ℕ) → v < i → place_word after count v ≡ no_place
-
-pub emptying_none : (count : ℕ) (words : List ℕ) → Emptying count words 0 words
-emptying_none count words = record { long = refl; marks = λ v l. refl; places = λ v l. absurd (not-suc-le-zero l) }
-
-pub emptying_more : (count : ℕ) (before : List ℕ) (i : ℕ) (after : List ℕ) → 2 * count ≤ length before → i < count
-    → Emptying count before i after → Emptying count before (i + 1) (set after (count + i) no_place)
-emptying_more count before i after h l e =
-    record {
-      long = length-set after (count + i) no_place ∙ e.long;
-      marks = λ v k. get_or-set_other after (count + i) v no_place 0 (λ q. omega arith) ∙ e.marks v k;
-      places = λ v k.
-          ⊎_elim
-          (λ (q : v ≡ i). rw q (get_or-set_same after (count + i) no_place 0 (omega (arith, e.long))))
-          (λ (q : v < i). get_or-set_other after (count + i) (count + v) no_place 0 (λ s. omega arith) ∙ e.places v q)
-          (eq-or-lt_of_le (le_of_suc-le-suc (omega arith)));
-    }
-
 -- ---- the list's places
 
 -- the first `i` numbers of the list are marked nodes that stood nowhere before, and the words hold their places

@@ -6,7 +6,7 @@ use mathlib.Core.Path.{◌≡◌, refl, sym, ◌∙◌}
 use native.Mathlib.Omega.{arith}
 use lib.ListN.{length}
 use Rattle.refusal.proofs.Checks.{same_test}
-use Rattle.node_route.specs.declared.Graph.{Graph}
+use Rattle.std.specs.Prelude.{Ok}
 use Rattle.node_route.specs.Heights.{member, graph_verdict}
 use Rattle.node_route.specs.Reach.{reached_nodes}
 use Rattle.node.proofs.Nodes.{nodes_of-whole}
@@ -32,7 +32,7 @@ module _ (nodes : List ℕ) (count : ℕ) (words : List ℕ) where
   all-marked m (x ∷ xs) = λ i. m.says x i && all-marked m xs i
 
   module _ (depth : ℕ) (g : Searchable nodes count words) (x : Explored nodes (mark_of words) depth)
-      (accepted : graph_verdict nodes ≡ Graph.HasDepth depth) where
+      (accepted : graph_verdict nodes ≡ Ok depth) where
     -- the search marks the reached nodes
     pub marks_explored : Marks nodes count words
     marks_explored =

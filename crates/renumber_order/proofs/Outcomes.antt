@@ -8,12 +8,12 @@ use borrow.Author.Tests.{eq-eqb, ne_eqb, not-true}
 use lib.ListN.{length}
 use Rattle.refusal.specs.declared.Refusal.{Refusal}
 use Rattle.refusal.specs.declared.Refusal.TheVariants.{NodeLoop, NodeShared, RenumberNodes, RenumberLength}
-use Rattle.refusal.specs.declared.Check.{Check}
-use Rattle.refusal.specs.declared.Check.TheVariants.{Pass, Refused}
+use Rattle.refusal.specs.Checks.{Check}
+use Rattle.std.specs.Prelude.{Result, Ok, Err}
 use Rattle.refusal.specs.Checks.{unless}
 use Rattle.refusal.proofs.Checks.{both, refused-then, pass_then, same_test}
-use Rattle.node_route.specs.declared.Graph.{Graph}
-use Rattle.node_route.specs.declared.Graph.TheVariants.{HasLoop, HasShared, HasDepth}
+use Rattle.node_route.specs.declared.GraphError.{GraphError}
+use Rattle.node_route.specs.declared.GraphError.TheVariants.{HasLoop, HasShared}
 use Rattle.node_route.specs.Heights.{repeats, graph_verdict}
 use Rattle.node_route.specs.Reach.{reached_nodes}
 use Rattle.node_graph.specs.Searching.{Searchable}
@@ -25,7 +25,7 @@ use Rattle.renumber_order.proofs.Marking.{marks-many, all-marked}
 use Rattle.renumber_order.proofs.FirstPlaces.{placed-none, all-places}
 
 -- a refusal does not pass
-refused-passes : {X : Type 0} {r : Refusal} → Refused r ≡ Pass → X
+refused-passes : {X : Type 0} {r : Refusal} → ◌≡◌ {A = Check} (Err r) (Ok tt) → X
 refused-passes e = let z : ◌≡◌ {A = ℕ} 0 1 = cc in absurd (omega arith)
 
 -- ---- the list
@@ -33,7 +33,7 @@ refused-passes e = let z : ◌≡◌ {A = ℕ} 0 1 = cc in absurd (omega arith)
 module _ (nodes : List ℕ) (count : ℕ) (words order : List ℕ) (room : ℕ) (g : Searchable nodes count words) (m : Marks nodes count words) where
   -- 73
   pub judged-length : (length order ≡ length (marked_below words count) → ⊥) → (last : List ℕ)
-      → OrderJudged nodes count order room last (Refused RenumberLength)
+      → OrderJudged nodes count order room last (Err RenumberLength)
   judged-length n last =
       record {
         tells = refused-then _
@@ -49,7 +49,7 @@ module _ (nodes : List ℕ) (count : ℕ) (words order : List ℕ) (room : ℕ) 
     pub held_none : PlacesHeld order 0 empty count
     held_none v l = e.places v l ∙ sym (placed-none order v)
 
-    length-passes : unless (many_ok nodes order) RenumberLength ≡ Pass
+    length-passes : unless (many_ok nodes order) RenumberLength ≡ Ok tt
     length-passes =
         ap (λ (b : Bool). unless b RenumberLength)
         (eq-eqb (length order) (length (reached_nodes nodes)) (long ∙ marks-many nodes count words m))
@@ -71,7 +71,7 @@ module _ (nodes : List ℕ) (count : ℕ) (words order : List ℕ) (room : ℕ) 
 
     -- 70
     pub judged_nodes : {after : List ℕ} → Filled count empty order after false → (last : List ℕ)
-        → OrderJudged nodes count order room last (Refused RenumberNodes)
+        → OrderJudged nodes count order room last (Err RenumberNodes)
     judged_nodes f last =
         record {
           tells = pass_then length-passes (refused-then _ (ap (λ (b : Bool). unless b RenumberNodes) (sym (once-says f))));
@@ -104,21 +104,21 @@ module _ (nodes : List ℕ) (count : ℕ) (words order : List ℕ) (room : ℕ) 
 -- ---- the graph and the list
 
 module _ (nodes : List ℕ) (count : ℕ) (order : List ℕ) (room : ℕ) where
-  by_graph : {graph : Graph} → graph_verdict nodes ≡ graph → graph_check graph nodes order room ≡ renumber_graph_check nodes order room
-  by_graph e = ap (λ (graph : Graph). graph_check graph nodes order room) (sym e)
+  by_graph : {graph : Result ℕ GraphError} → graph_verdict nodes ≡ graph → graph_check graph nodes order room ≡ renumber_graph_check nodes order room
+  by_graph e = ap (λ (graph : Result ℕ GraphError). graph_check graph nodes order room) (sym e)
 
-  pub judged-loop : graph_verdict nodes ≡ HasLoop → (last : List ℕ) → RenumberJudged nodes count order room last (Refused NodeLoop)
+  pub judged-loop : graph_verdict nodes ≡ Err HasLoop → (last : List ℕ) → RenumberJudged nodes count order room last (Err NodeLoop)
   judged-loop e last = record { tells = by_graph e; ordered = λ q. refused-passes q }
 
-  pub judged-shared : graph_verdict nodes ≡ HasShared → (last : List ℕ) → RenumberJudged nodes count order room last (Refused NodeShared)
+  pub judged-shared : graph_verdict nodes ≡ Err HasShared → (last : List ℕ) → RenumberJudged nodes count order room last (Err NodeShared)
   judged-shared e last = record { tells = by_graph e; ordered = λ q. refused-passes q }
 
-  pub judged-order : {depth : ℕ} → graph_verdict nodes ≡ HasDepth depth → {last : List ℕ} {a : Check}
+  pub judged-order : {depth : ℕ} → graph_verdict nodes ≡ Ok depth → {last : List ℕ} {a : Check}
       → OrderJudged nodes count order room last a → RenumberJudged nodes count order room last a
   judged-order e j = record { tells = j.tells ∙ by_graph e; ordered = j.ordered }
 
   -- a graph that passes leaves the list
-  pub graph_passes : (graph : Graph) → graph_check graph nodes order room ≡ Pass → renumber_check nodes order room ≡ Pass
-  graph_passes HasLoop e = refused-passes e
-  graph_passes HasShared e = refused-passes e
-  graph_passes (HasDepth depth) e = e
+  pub graph_passes : (graph : Result ℕ GraphError) → graph_check graph nodes order room ≡ Ok tt → renumber_check nodes order room ≡ Ok tt
+  graph_passes (Err HasLoop) e = refused-passes e
+  graph_passes (Err HasShared) e = refused-passes e
+  graph_passes (Ok depth) e = e

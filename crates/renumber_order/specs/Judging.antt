@@ -1,14 +1,13 @@
 -- Not for the reader of promises: what the contracts of the functions cite. Marks and places are those of `places`.
 -- Assumes nothing.
-use Rattle.std.specs.Prelude.{ℕ, ◌+◌, ◌*◌, ◌≤◌, ◌<◌, Bool, false, ◌&&◌, ◌||◌, not, List, ◌≡◌, ltb, length}
-use Rattle.refusal.specs.declared.Check.{Check}
-use Rattle.refusal.specs.declared.Check.TheVariants.{Pass, Refused}
+use Rattle.std.specs.Prelude.{ℕ, ◌+◌, ◌*◌, ◌≤◌, ◌<◌, Bool, false, ◌&&◌, ◌||◌, not, List, ◌≡◌, ltb, length, Result, Ok, Err}
+use Rattle.refusal.specs.Checks.{Check}
 use Rattle.refusal.specs.declared.Refusal.TheVariants.{NodeLoop, NodeShared}
 use Rattle.record.specs.Nodes.{node_size}
 use Rattle.node.specs.declared.Choice.{Choice}
 use Rattle.node.specs.declared.Choice.TheVariants.{Right, Left}
-use Rattle.node_route.specs.declared.Graph.{Graph}
-use Rattle.node_route.specs.declared.Graph.TheVariants.{HasLoop, HasShared, HasDepth}
+use Rattle.node_route.specs.declared.GraphError.{GraphError}
+use Rattle.node_route.specs.declared.GraphError.TheVariants.{HasLoop, HasShared}
 use Rattle.node.specs.Nodes.{subsector_bit, is_node, child_of}
 use Rattle.node_route.specs.Heights.{member, repeats, graph_verdict}
 use Rattle.node.specs.Ranges.{NodesInRange}
@@ -19,10 +18,10 @@ use Rattle.renumber_order.specs.Places.{marked_ok, place_word, PlacesHeld}
 -- ---- the graph and the list
 
 -- 31 and 32, and where the graph passes the list
-abbrev pub graph_check : Graph → List ℕ → List ℕ → ℕ → Check
-graph_check HasLoop nodes order room = Refused NodeLoop
-graph_check HasShared nodes order room = Refused NodeShared
-graph_check (HasDepth depth) nodes order room = renumber_check nodes order room
+abbrev pub graph_check : Result ℕ GraphError → List ℕ → List ℕ → ℕ → Check
+graph_check (Err HasLoop) nodes order room = Err NodeLoop
+graph_check (Err HasShared) nodes order room = Err NodeShared
+graph_check (Ok depth) nodes order room = renumber_check nodes order room
 
 abbrev pub renumber_graph_check : List ℕ → List ℕ → ℕ → Check
 renumber_graph_check nodes order room = graph_check (graph_verdict nodes) nodes order room
@@ -46,12 +45,12 @@ pub record Ordered (nodes : List ℕ) (count : ℕ) (words order : List ℕ) : T
 -- what is answered of the list, and known where it passes
 pub record OrderJudged (nodes : List ℕ) (count : ℕ) (order : List ℕ) (room : ℕ) (words : List ℕ) (answer : Check) : Type 0 where
   pub tells : answer ≡ renumber_check nodes order room
-  pub ordered : answer ≡ Pass → Ordered nodes count words order
+  pub ordered : answer ≡ Ok tt → Ordered nodes count words order
 
 -- and of the graph and the list
 pub record RenumberJudged (nodes : List ℕ) (count : ℕ) (order : List ℕ) (room : ℕ) (words : List ℕ) (answer : Check) : Type 0 where
   pub tells : answer ≡ renumber_graph_check nodes order room
-  pub ordered : answer ≡ Pass → Ordered nodes count words order
+  pub ordered : answer ≡ Ok tt → Ordered nodes count words order
 
 -- ---- children by the words
 

@@ -1,7 +1,7 @@
 -- An order of the nodes that a map reaches, as an editor proposes it: old numbers, each at its new place (02, W-212). The
 -- list is untrusted. Assumes nothing.
 use Rattle.std.specs.Prelude.{ℕ, zero, suc, ◌*◌, Bool, true, ◌&&◌, ◌||◌, not, cond, List, [], ◌∷◌, leb, ltb, eqb, length, get_or}
-use Rattle.refusal.specs.declared.Check.{Check}
+use Rattle.refusal.specs.Checks.{Check}
 use Rattle.refusal.specs.declared.Refusal.TheVariants.{RenumberNodes, RenumberChild, RenumberRoot, RenumberLength, RenumberRoom}
 use Rattle.refusal.specs.Checks.{unless, ◌and_then◌}
 use Rattle.record.specs.Nodes.{node_size}

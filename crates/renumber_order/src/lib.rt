@@ -14,9 +14,9 @@ ghost use Rattle.renumber_order.specs.Orders.{last_ok, children_ok, late_check};
 ghost use Rattle.renumber_order.specs.Judging.{Marks, Ordered, OrderJudged, RenumberJudged, ChildrenPlaced, before_ok, both_before};
 
 use node::Choice;
-use node_graph::Search;
+use node_graph::NodeGraph;
 use record::Node;
-use refusal::{Check, Refusal};
+use refusal::Refusal;
 
 // 31 and 32, then the list.
 pub fn judge_graph(
@@ -25,59 +25,62 @@ pub fn judge_graph(
     words: &mut [u16],
     order: &[u16],
     room: usize,
-) -> Check
+) -> Result<(), Refusal>
     requires { Searchable nodes.now count words.old }
     ensures { RenumberJudged nodes.now count order.now room words.new result }
 {
-    match node_graph::explore(nodes, count, words) {
-        Search::Looping(_) => Check::Refused(Refusal::NodeLoop),
-        Search::Done(depth) => judge_explored(nodes, count, words, depth, order, room),
-    }
+    let graph = NodeGraph { nodes, count };
+    let depth = graph.explore(words)?;
+    judge_explored(&graph, words, depth, order, room)
 }
 
 // Without a loop: the marked nodes are the reached ones.
 fn judge_explored(
-    nodes: &[u8],
-    count: usize,
+    graph: &NodeGraph,
     words: &mut [u16],
     depth: usize,
     order: &[u16],
     room: usize,
-) -> Check
-    requires { Searchable nodes.now count words.old × Explored nodes.now (mark_of words.old) depth }
-    ensures { RenumberJudged nodes.now count order.now room words.new result }
+) -> Result<(), Refusal>
+    requires { (2 * graph.now.count ≤ length words.old) × Explored graph.now.nodes.now (mark_of words.old) depth }
+    ensures { RenumberJudged graph.now.nodes.now graph.now.count order.now room words.new result }
 {
-    if node_sharing::shares(nodes, count, words) {
-        return Check::Refused(Refusal::NodeShared);
+    if node_sharing::shares(graph.nodes, graph.count, words) {
+        return Err(Refusal::NodeShared);
     }
-    judge_order(nodes, count, words, order, room)
+    judge_order(graph, words, order, room)
 }
 
 // 73 and 70, then the rest.
-fn judge_order(nodes: &[u8], count: usize, words: &mut [u16], order: &[u16], room: usize) -> Check
-    requires { Searchable nodes.now count words.old × Marks nodes.now count words.old }
-    ensures { OrderJudged nodes.now count order.now room words.new result }
+fn judge_order(
+    graph: &NodeGraph,
+    words: &mut [u16],
+    order: &[u16],
+    room: usize,
+) -> Result<(), Refusal>
+    requires { (2 * graph.now.count ≤ length words.old) × Marks graph.now.nodes.now graph.now.count words.old }
+    ensures { OrderJudged graph.now.nodes.now graph.now.count order.now room words.new result }
 {
-    if order.len() != places::marked_count(words, count) {
-        return Check::Refused(Refusal::RenumberLength);
+    if order.len() != places::marked_count(words, graph.count) {
+        return Err(Refusal::RenumberLength);
     }
-    places::empty_places(words, count);
-    if !places::fill_places(words, count, order) {
-        return Check::Refused(Refusal::RenumberNodes);
+    places::empty_places(words, graph.count);
+    if !places::fill_places(words, graph.count, order) {
+        return Err(Refusal::RenumberNodes);
     }
-    judge_places(nodes, count, words, order, room)
+    judge_places(graph, words, order, room)
 }
 
 // 72, 71 and 74.
-fn judge_places(nodes: &[u8], count: usize, words: &[u16], order: &[u16], room: usize) -> Check
-    requires { Ordered nodes.now count words.now order.now }
-    ensures { result ≡ late_check nodes.now order.now room }
+fn judge_places(graph: &NodeGraph, words: &[u16], order: &[u16], room: usize) -> Result<(), Refusal>
+    requires { Ordered graph.now.nodes.now graph.now.count words.now order.now }
+    ensures { result ≡ late_check graph.now.nodes.now order.now room }
 {
-    if !root_last(order, count) {
-        return Check::Refused(Refusal::RenumberRoot);
+    if !root_last(order, graph.count) {
+        return Err(Refusal::RenumberRoot);
     }
-    if !children_first(nodes, count, words, order) {
-        return Check::Refused(Refusal::RenumberChild);
+    if !children_first(graph, words, order) {
+        return Err(Refusal::RenumberChild);
     }
     refusal::pass_if(Node::SIZE * order.len() <= room, Refusal::RenumberRoom)
 }
@@ -86,18 +89,18 @@ fn root_last(order: &[u16], count: usize) -> bool
     requires { 1 ≤ count }
     ensures { result ≡ last_ok (root count) order.now }
 {
-    if order.len() == 0 {
-        return true;
+    match order.last() {
+        Some(&last) => last as usize == count - 1,
+        None => true,
     }
-    order[order.len() - 1] as usize == count - 1
 }
 
-fn children_first(nodes: &[u8], count: usize, words: &[u16], order: &[u16]) -> bool
-    requires { Ordered nodes.now count words.now order.now }
-    ensures { result ≡ children_ok nodes.now order.now (length order.now) }
+fn children_first(graph: &NodeGraph, words: &[u16], order: &[u16]) -> bool
+    requires { Ordered graph.now.nodes.now graph.now.count words.now order.now }
+    ensures { result ≡ children_ok graph.now.nodes.now order.now (length order.now) }
 {
-    for i in 0..order.len() {
-        if !both_before(nodes, count, words, i, order[i] as usize) {
+    for (i, &node) in order.iter().enumerate() {
+        if !both_before(graph.nodes, graph.count, words, i, node as usize) {
             return false;
         }
     }

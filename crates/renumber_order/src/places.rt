@@ -1,6 +1,6 @@
 // The places of a list of old numbers (W-212), held in the second run of words: each number is a marked node, and stands in the list
 // once. The search of `node_graph` left its marks in the first run.
-ghost use Rattle.std.specs.Prelude.{◌≡◌, cond, ◌+◌, ◌*◌, ◌≤◌, length};
+ghost use Rattle.std.specs.Prelude.{◌≡◌, ◌+◌, ◌*◌, ◌≤◌, length};
 ghost use Rattle.renumber_order.specs.Places.{marked_below, PlacesHeld, free_ok, Emptied, Filled};
 
 // The word of a node that has no place. A place is below the count of nodes.
@@ -11,17 +11,11 @@ pub fn marked_count(words: &[u16], count: usize) -> usize
     requires { count ≤ length words.now }
     ensures { result ≡ length (marked_below words.now count) }
 {
-    let mut marked: usize = 0;
-    for i in 0..count {
-        marked = marked + one_if(words[i] != 0);
+    let mut marked = 0;
+    for &mark in &words[..count] {
+        marked += usize::from(mark != 0);
     }
     marked
-}
-
-fn one_if(test: bool) -> usize
-    ensures { (result ≡ cond test 1 0) × (result ≤ 1) }
-{
-    if test { 1 } else { 0 }
 }
 
 // No node has a place. The search's path stood there.
@@ -29,9 +23,7 @@ pub fn empty_places(words: &mut [u16], count: usize)
     requires { 2 * count ≤ length words.old }
     ensures { Emptied count words.old words.new }
 {
-    for i in 0..count {
-        words[count + i] = NO_PLACE;
-    }
+    words[count..2 * count].fill(NO_PLACE);
 }
 
 // Whether every number of the list is a marked node that has no place before; each is given its own.
@@ -40,8 +32,8 @@ pub fn fill_places(words: &mut [u16], count: usize, order: &[u16]) -> bool
     requires places_held { PlacesHeld order.now 0 words.old count }
     ensures { Filled count words.old order.now words.new result }
 {
-    for i in 0..order.len() {
-        let node = order[i] as usize;
+    for (i, &old) in order.iter().enumerate() {
+        let node = old as usize;
         if !free_ok(words, count, node) {
             return false;
         }

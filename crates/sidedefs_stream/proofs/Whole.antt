@@ -9,7 +9,7 @@ use borrow.Author.Tests.{lt-ltb, le-ltb, lt-leb, eq-eqb, eqb-true, eqb-false, lt
 use lib.Dec.{leb, ltb, eqb}
 use lib.ListN.{length, get_or, drop}
 use lib.Seq.{drop-length, drop-cons}
-use Rattle.refusal.specs.declared.Check.{Check}
+use Rattle.refusal.specs.Checks.{Check}
 use Rattle.refusal.specs.declared.Refusal.TheVariants.{RecordSize, RecordCount, SidedefReference}
 use Rattle.refusal.specs.Checks.{unless, ◌and_then◌, each}
 use Rattle.refusal.proofs.Checks.{each_none}

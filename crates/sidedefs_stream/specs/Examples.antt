@@ -1,6 +1,5 @@
 -- Small lumps in scraps, computed: two sidedefs of sectors 1 and 258, cut between a sector's bytes too. Assumes nothing.
-use Rattle.std.specs.Prelude.{ℕ, true, List, [], ◌∷◌, ◌++◌, ◌≡◌, replicate}
-use Rattle.refusal.specs.declared.Check.TheVariants.{Pass, Refused}
+use Rattle.std.specs.Prelude.{ℕ, true, List, [], ◌∷◌, ◌++◌, ◌≡◌, replicate, Ok, Err}
 use Rattle.refusal.specs.declared.Refusal.TheVariants.{RecordSize, RecordCount, SidedefReference, StreamSectors}
 use Rattle.sidedefs_stream.specs.Scraps.{started, stream_verdict}
 use Rattle.sidedefs_stream.specs.Whole.{fed_all}
@@ -15,17 +14,17 @@ scraps = up_to 1 ∷ (0 ∷ up_to 2) ∷ [] ∷ (1 ∷ []) ∷ []
 
 pub record Examples : Type 0 where
   -- 259 sectors: both are there
-  pub accepted : stream_verdict (fed_all (started 259) scraps) ≡ Pass
+  pub accepted : stream_verdict (fed_all (started 259) scraps) ≡ Ok tt
   -- 258: sidedef 1 is refused
-  pub second : stream_verdict (fed_all (started 258) scraps) ≡ Refused (SidedefReference 1)
+  pub second : stream_verdict (fed_all (started 258) scraps) ≡ Err (SidedefReference 1)
   -- 1: both are not there, the first is told
-  pub first : stream_verdict (fed_all (started 1) scraps) ≡ Refused (SidedefReference 0)
+  pub first : stream_verdict (fed_all (started 1) scraps) ≡ Err (SidedefReference 0)
   -- a byte more is 20, before 24
-  pub cut : stream_verdict (fed_all (started 1) ((9 ∷ []) ∷ scraps)) ≡ Refused (RecordSize 3)
+  pub cut : stream_verdict (fed_all (started 1) ((9 ∷ []) ∷ scraps)) ≡ Err (RecordSize 3)
   -- no scrap at all is the empty lump
-  pub none : stream_verdict (fed_all (started 1) []) ≡ Refused (RecordCount 3)
+  pub none : stream_verdict (fed_all (started 1) []) ≡ Err (RecordCount 3)
   -- no sector is 80, before all else
-  pub sectorless : stream_verdict (fed_all (started 0) ((9 ∷ []) ∷ scraps)) ≡ Refused StreamSectors
+  pub sectorless : stream_verdict (fed_all (started 0) ((9 ∷ []) ∷ scraps)) ≡ Err StreamSectors
   -- a state of 16,777,217 bytes stays as it is
   pub full : fed_all (record { sectors = 1; bytes = 16777217; bad = 5; low = 6; found = true }) scraps
       ≡ record { sectors = 1; bytes = 16777217; bad = 5; low = 6; found = true }

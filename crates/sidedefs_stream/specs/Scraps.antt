@@ -1,7 +1,7 @@
 -- SIDEDEFS in scraps (02, W-209): the state that is kept from one scrap to the next, and its verdict, for any state. A cut may
 -- stand anywhere, between the two bytes of a sector too. Assumes nothing.
 use Rattle.std.specs.Prelude.{ℕ, ◌+◌, ◌*◌, ◌/◌, ◌%◌, Bool, false, not, ◌&&◌, ◌||◌, cond, List, [], ◌∷◌, leb, ltb, eqb}
-use Rattle.refusal.specs.declared.Check.{Check}
+use Rattle.refusal.specs.Checks.{Check}
 use Rattle.refusal.specs.declared.Refusal.TheVariants.{RecordSize, RecordCount, SidedefReference, StreamSectors, StreamLength}
 use Rattle.refusal.specs.Checks.{unless, ◌and_then◌}
 use Rattle.wad.specs.Header.{most_bytes}

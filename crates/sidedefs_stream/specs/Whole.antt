@@ -2,7 +2,7 @@
 -- included"). The whole lump is judged by the map check's own definitions. Assumes nothing.
 use Rattle.std.specs.Prelude.{ℕ, ◌+◌, ◌/◌, ◌≤◌, false, ◌≡◌, length}
 use mathlib.Core.List.{List, [], ◌∷◌, flatten}
-use Rattle.refusal.specs.declared.Check.{Check}
+use Rattle.refusal.specs.Checks.{Check}
 use Rattle.refusal.specs.Checks.{◌and_then◌, each}
 use Rattle.record.specs.Sidedefs.{sidedef_size}
 use Rattle.record_table.specs.Lumps.{SIDEDEFS}

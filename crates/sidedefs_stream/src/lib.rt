@@ -9,7 +9,7 @@ ghost use Rattle.sidedefs_stream.specs.Scraps.{high_place, started, step_of, fed
 ghost use Rattle.sidedefs_stream.specs.Inner.{FirstBad, low_after};
 
 use record::Sidedef;
-use refusal::{Check, Refusal};
+use refusal::Refusal;
 use wad::MOST_BYTES;
 
 // Where the two bytes of a sidedef's sector stand in its record.
@@ -25,7 +25,7 @@ pub struct Stream {
     pub sectors: usize,
     // bytes so far, at most 16,777,217
     pub bytes: usize,
-    // the first sidedef whose sector is not there, 0 while there is none
+    // the first sidedef whose sector is not there, 0 while there is none: C has no Option, so that `found` says whether
     pub bad: usize,
     // the low byte of a sector that a cut divides, else 0
     pub low: u8,
@@ -50,14 +50,14 @@ pub fn start(sectors: usize) -> Stream
 pub fn feed(state: Stream, scrap: &[u8]) -> Stream
     ensures { result ≡ fed state scrap.now }
 {
-    if scrap.len() == 0 {
+    let Some((first, rest)) = scrap.split_first() else {
         return state;
-    }
+    };
     if MOST_BYTES < state.bytes {
         return state;
     }
     if state.bytes % Sidedef::SIZE == HIGH {
-        return feed_records(step(state, scrap[0]), &scrap[1..scrap.len()]);
+        return feed_records(step(state, *first), rest);
     }
     feed_records(state, scrap)
 }
@@ -69,11 +69,11 @@ fn step(state: Stream, byte: u8) -> Stream
 {
     let bad = state.sectors <= state.low as usize + 256 * (byte as usize);
     Stream {
-        sectors: state.sectors,
         bytes: state.bytes + 1,
         bad: pick(bad & !state.found, state.bytes / Sidedef::SIZE, state.bad),
         low: 0,
         found: state.found | bad,
+        ..state
     }
 }
 
@@ -82,8 +82,8 @@ fn feed_records(state: Stream, scrap: &[u8]) -> Stream
     requires { (state.bytes ≤ most_bytes) × (state.bytes % sidedef_size < high_place) }
     ensures { result ≡ fed state scrap.now }
 {
-    let n = least(scrap.len(), MOST_BYTES + 1 - state.bytes);
-    feed_part(state, &scrap[0..n])
+    let n = scrap.len().min(MOST_BYTES + 1 - state.bytes);
+    feed_part(state, &scrap[..n])
 }
 
 fn feed_part(state: Stream, scrap: &[u8]) -> Stream
@@ -93,7 +93,6 @@ fn feed_part(state: Stream, scrap: &[u8]) -> Stream
     let place = first_bad(state.found, state.sectors, state.bytes, scrap);
     let bad = place + 1 < scrap.len();
     Stream {
-        sectors: state.sectors,
         bytes: state.bytes + scrap.len(),
         bad: pick(
             bad & !state.found,
@@ -102,10 +101,12 @@ fn feed_part(state: Stream, scrap: &[u8]) -> Stream
         ),
         low: low_after(state.low, state.bytes, scrap),
         found: state.found | bad,
+        ..state
     }
 }
 
-// From sector to sector, by their high bytes, which one test holds inside: where the first one stands that is not there.
+// From sector to sector, by their high bytes, which one test holds inside: where the first one stands that is not there, or
+// where the loop ends past the last one. `step_by` does not tell where it ended, so that the loop counts by itself.
 fn first_bad(found: bool, sectors: usize, bytes: usize, scrap: &[u8]) -> usize
     requires { (bytes + length scrap.now ≤ most_bytes + 1) × (bytes % sidedef_size < high_place) }
     ensures { FirstBad found sectors bytes scrap.now result }
@@ -118,7 +119,7 @@ fn first_bad(found: bool, sectors: usize, bytes: usize, scrap: &[u8]) -> usize
         if sectors <= endian::u16_at(scrap, high - 1) as usize {
             return high - 1;
         }
-        high = high + Sidedef::SIZE;
+        high += Sidedef::SIZE;
     }
     high - 1
 }
@@ -138,55 +139,48 @@ fn low_after(low: u8, bytes: usize, scrap: &[u8]) -> u8
     0
 }
 
+// A choice as a value: the state is made anew in one expression and stays in registers.
 fn pick(first: bool, a: usize, b: usize) -> usize
     ensures { result ≡ cond first a b }
 {
     if first { a } else { b }
 }
 
-fn least(a: usize, b: usize) -> usize
-    ensures { (result ≤ a) × (result ≤ b) × (result < a → result ≡ b) }
-{
-    if a <= b { a } else { b }
-}
-
 // 80.
-fn judge_sectors(sectors: usize) -> Check
+fn judge_sectors(sectors: usize) -> Result<(), Refusal>
     ensures { result ≡ sectors_check sectors }
 {
     refusal::pass_if((1 <= sectors) & (sectors <= 65535), Refusal::StreamSectors)
 }
 
 // 81.
-fn judge_total(bytes: usize) -> Check
+fn judge_total(bytes: usize) -> Result<(), Refusal>
     ensures { result ≡ total_check bytes }
 {
     refusal::pass_if(bytes <= MOST_BYTES, Refusal::StreamLength)
 }
 
 // 20, then 21.
-fn judge_records(bytes: usize) -> Check
+fn judge_records(bytes: usize) -> Result<(), Refusal>
     ensures { result ≡ records_check bytes }
 {
     let count = bytes / Sidedef::SIZE;
-    refusal::then(
-        refusal::pass_if(
-            bytes % Sidedef::SIZE == 0,
-            Refusal::RecordSize(Sidedef::PLACE),
-        ),
-        refusal::pass_if(
-            (1 <= count) & (count <= 65535),
-            Refusal::RecordCount(Sidedef::PLACE),
-        ),
+    refusal::pass_if(
+        bytes % Sidedef::SIZE == 0,
+        Refusal::RecordSize(Sidedef::PLACE),
+    )?;
+    refusal::pass_if(
+        (1 <= count) & (count <= 65535),
+        Refusal::RecordCount(Sidedef::PLACE),
     )
 }
 
 // The verdict on what was fed so far: 80, 81, 20, 21 and the first 24.
-pub fn verdict(state: Stream) -> Check
+pub fn verdict(state: Stream) -> Result<(), Refusal>
     ensures { result ≡ stream_verdict state }
 {
-    let references = refusal::pass_if(!state.found, Refusal::SidedefReference(state.bad));
-    let records = refusal::then(judge_records(state.bytes), references);
-    let lengths = refusal::then(judge_total(state.bytes), records);
-    refusal::then(judge_sectors(state.sectors), lengths)
+    judge_sectors(state.sectors)?;
+    judge_total(state.bytes)?;
+    judge_records(state.bytes)?;
+    refusal::pass_if(!state.found, Refusal::SidedefReference(state.bad))
 }

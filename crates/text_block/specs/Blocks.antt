@@ -1,7 +1,8 @@
 -- The blocks of a text map (02, W-206): how many of a kind there are, which one is asked for, and the places of their fields' values.
 -- Assumes nothing.
-use Rattle.std.specs.Prelude.{ℕ, ◌+◌, ◌-◌, Bool, true, false, not, ◌&&◌, cond, List, eqb, leb, length, get_or, set, replicate}
+use Rattle.std.specs.Prelude.{ℕ, ◌+◌, Bool, true, false, not, ◌&&◌, cond, Option, Some, None, List, eqb, leb, length, get_or, set, replicate}
 use Rattle.text_token.specs.declared.Token.{Token}
+use Rattle.text_token.specs.Tokens.{form_of}
 use Rattle.text_byte.specs.Bytes.{semicolon, open_brace}
 use Rattle.text_table.specs.declared.scope.Scope.{Scope}
 use Rattle.text_table.specs.declared.scope.Scope.TheVariants.{Top, Vertex, Linedef, Sidedef, Sector, Thing, Unknown}
@@ -76,16 +77,17 @@ field_room = 34
 abbrev pub no_places : List ℕ
 no_places = replicate field_room 0
 
--- a value at a place for field `i`, counted from 1; that of an unknown field, 0, is passed over
-abbrev pub stored : List ℕ → ℕ → ℕ → List ℕ
-stored places i place = cond (eqb i 0) places (set places (i - 1) place)
+-- a value at a place for a field; that of an unknown field is passed over
+abbrev pub stored : List ℕ → Option ℕ → ℕ → List ℕ
+stored places None place = places
+stored places (Some i) place = set places i place
 
 -- of each field of the open block the place of its last value, 0 where it has none, behind one more token
 abbrev pub filed : Wanted → Token → List ℕ → List ℕ
 filed Statement t places = places
-filed (Equals start end) t places = cond (eqb t.form open_brace) no_places places
+filed (Equals start end) t places = cond (eqb (form_of t) open_brace) no_places places
 filed (Value field) t places = places
-filed (Semicolon field place) t places = cond (eqb t.form semicolon) (stored places field place) places
+filed (Semicolon field place) t places = cond (eqb (form_of t) semicolon) (stored places field place) places
 filed NoMore t places = places
 
 -- field `k` has a value, or need not have one

@@ -2,24 +2,20 @@
 // The definitions are in specs/.
 #![tactic(auto)]
 
-ghost use Rattle.std.specs.Prelude.{false, not, cond, ◌≡◌, ◌≤◌, ◌<◌, eqb, length};
-ghost use Rattle.text_table.specs.Rows.{rows_of, required_at};
+ghost use Rattle.std.specs.Prelude.{false, not, cond, ◌≡◌, eqb, length};
 ghost use Rattle.text_table.specs.Scopes.{scope_number};
-ghost use Rattle.text_table.specs.Names.{every};
-ghost use Rattle.text_block.specs.declared.Asked.TheVariants.{Numbered};
-ghost use Rattle.text_block.specs.Blocks.{count_of, counted, is_full, is_asked, stops_there, stops_inside, no_places, stored, is_given, all_given};
+ghost use Rattle.text_block.specs.Blocks.{count_of, counted, is_full, is_asked, stops_there, stops_inside, no_places, stored, all_given};
 
-use text_table::Scope;
+use text_table::{Fallback, Scope};
 
 // What is wanted next: a statement; `=` behind an identifier, from its first byte to the byte behind it; a value for a
-// name of the scope, counted from 1, 0 for an unknown one; `;` behind the value at a place for such a name; or nothing
-// more.
+// name of the scope, none for an unknown one; `;` behind the value at a place for such a name; or nothing more.
 #[derive(Clone, Copy)]
 pub enum Wanted {
     Statement,
     Equals(usize, usize),
-    Value(usize),
-    Semicolon(usize, usize),
+    Value(Option<usize>),
+    Semicolon(Option<usize>, usize),
     NoMore,
 }
 
@@ -34,7 +30,7 @@ pub enum Asked {
 }
 
 // How many blocks of each kind.
-#[derive(Clone, Copy)]
+#[derive(Clone, Copy, Default)]
 pub struct Counts {
     pub vertices: usize,
     pub linedefs: usize,
@@ -45,9 +41,6 @@ pub struct Counts {
 
 // The most blocks of a kind.
 const MOST_BLOCKS: usize = 65535;
-
-// The most fields of a kind.
-const FIELD_ROOM: usize = 34;
 
 // How many of a kind; none of another name is counted.
 pub fn count_of(c: Counts, kind: Scope) -> usize
@@ -93,41 +86,23 @@ pub fn is_asked(asked: Asked, kind: Scope, before: usize) -> bool
     ensures { result ≡ is_asked asked kind before }
 {
     match asked {
-        Asked::Nothing => false,
-        Asked::Numbered(of, number) => is_numbered(of, number, kind, before),
-        Asked::First(of) => is_kind(of, kind),
-        Asked::Opening => false,
+        Asked::Numbered(of, number) => is_same(of, kind) & (before == number),
+        Asked::First(of) => is_same(of, kind),
+        Asked::Nothing | Asked::Opening => false,
     }
 }
 
-fn is_numbered(of: Scope, number: usize, kind: Scope, before: usize) -> bool
-    ensures { result ≡ is_asked (Numbered of number) kind before }
-{
-    (text_table::scope_number(of) == text_table::scope_number(kind)) & (before == number)
-}
-
-fn is_kind(of: Scope, kind: Scope) -> bool
+fn is_same(of: Scope, kind: Scope) -> bool
     ensures { result ≡ eqb (scope_number of) (scope_number kind) }
 {
-    text_table::scope_number(of) == text_table::scope_number(kind)
-}
-
-fn is_known(kind: Scope) -> bool
-    ensures { result ≡ not (eqb (scope_number kind) 6) }
-{
-    text_table::scope_number(kind) != 6
+    of == kind
 }
 
 // Nothing more is read behind it.
 pub fn stops_there(asked: Asked) -> bool
     ensures { result ≡ stops_there asked }
 {
-    match asked {
-        Asked::Nothing => false,
-        Asked::Numbered(_, _) => false,
-        Asked::First(_) => true,
-        Asked::Opening => false,
-    }
+    matches!(asked, Asked::First(_))
 }
 
 // Nothing more is read behind the opening brace of a block of this kind.
@@ -135,10 +110,8 @@ pub fn stops_inside(asked: Asked, kind: Scope) -> bool
     ensures { result ≡ stops_inside asked kind }
 {
     match asked {
-        Asked::Nothing => false,
-        Asked::Numbered(_, _) => false,
-        Asked::First(_) => false,
-        Asked::Opening => is_known(kind),
+        Asked::Opening => !is_same(kind, Scope::Unknown),
+        _ => false,
     }
 }
 
@@ -162,38 +135,29 @@ pub fn clear(ok: bool, places: &mut [usize; 34])
     }
 }
 
-// Of a field of the open block the place of its last value. That of an unknown field, 0, is passed over. (No kind has more than 34.)
-pub fn store(ok: bool, places: &mut [usize; 34], i: usize, place: usize)
+// Of a field of the open block the place of its last value. That of an unknown field is passed over.
+pub fn store(ok: bool, places: &mut [usize; 34], field: Option<usize>, place: usize)
     requires { length places.old ≡ 34 }
-    ensures places_after { places.new ≡ cond ok (stored places.old i place) places.old }
+    ensures places_after { places.new ≡ cond ok (stored places.old field place) places.old }
     ensures places_len { length places.new ≡ 34 }
 {
     if !ok {
         return;
     }
-    if i == 0 {
-        return;
+    if let Some(i) = field {
+        if i < places.len() {
+            places[i] = place;
+        }
     }
-    if FIELD_ROOM < i {
-        return;
-    }
-    places[i - 1] = place;
 }
 
 // All fields of a kind have a value, or a default.
-pub fn all_given(rows: &[u8], kind: Scope, places: &[usize; 34]) -> bool
-    requires { rows.now ≡ rows_of kind }
+pub fn all_given(kind: Scope, places: &[usize; 34]) -> bool
     ensures { result ≡ all_given kind places.now }
 {
-    given_in(rows, places, text_table::row_count(kind))
-}
-
-fn given_in(rows: &[u8], places: &[usize; 34], n: usize) -> bool
-    requires { n ≤ 34 }
-    ensures { result ≡ every (is_given (required_at rows.now) places.now) n }
-{
-    for k in 0..n {
-        if text_table::is_required(rows, k) & (places[k] == 0) {
+    let fields = text_table::fields(kind);
+    for (k, field) in fields.iter().enumerate() {
+        if (field.default == Fallback::Required) & (places[k] == 0) {
             return false;
         }
     }

@@ -2,3 +2,4 @@
 
 pub mod Spans
 pub mod Bytes
+pub mod Letters

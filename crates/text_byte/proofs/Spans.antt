@@ -1,12 +1,11 @@
 -- Laws of the scans over places: one place more, a stop, the end, how far one reaches, and what it passes. Assumes nothing.
-use Prim.Native.Nat.{ℕ, zero, suc, ◌+◌, ◌-◌, ◌≤◌, ◌<◌}
+use Prim.Native.Nat.{ℕ, zero, suc, ◌+◌, ◌-◌, ◌≤◌, ◌<◌, max}
 use mathlib.Core.Bool.{Bool, true, false, ◌||◌, cond, true≢false}
 use mathlib.Core.Path.{◌≡◌, refl, sym, ap, ◌∙◌, subst}
 use native.Mathlib.Omega.{arith}
 use borrow.Author.Tests.{ltb-true, ltb-false}
 use lib.Dec.{ltb}
 use Rattle.text_byte.specs.Spans.{span_end}
-use Rattle.text_byte.specs.WordBytes.{Unseen}
 
 -- `n` places left, of which one is inside
 pub left : (at end : ℕ) → at < end → end - at ≡ suc (end - (at + 1))
@@ -66,6 +65,16 @@ span_stops test zero at h = absurd (omega (arith, h))
 span_stops test (suc n) at h =
     cond_on (λ (x : ℕ). x < at + suc n → test x ≡ false) (test at) (λ _ l. span_stops test n (at + 1) (omega (arith, l))) (λ e _. e) h
 
+-- where a loop over the places ends that leaves the span's end as it is
+pub span_exit : (test : ℕ → Bool) (from at end : ℕ) → span_end test from (end - from) ≡ span_end test at (end - at) → end ≤ at → (from ≤ end → at ≤ end)
+    → at ≡ max from end
+span_exit test from at end same low high =
+    by_test (ltb from end)
+    (λ e. let l = ltb-true from end e in let h = high (omega (arith, l)) in omega (arith, l, h, low))
+    (λ e. let l = ltb-false from end e in
+    let here = sym (span_done test from end l) ∙ same ∙ span_done test at end low in
+    omega (arith, l, here))
+
 -- each place that is passed over passes the test
 pub span_passes : (test : ℕ → Bool) (n at j : ℕ) → at ≤ j → j < span_end test at n → test j ≡ true
 unfolding span_end
@@ -85,6 +94,18 @@ span_all test (suc n) at f =
     step test at n (f at (omega arith) (omega arith))
     ∙ span_all test n (at + 1) (λ (j : ℕ) (a : at + 1 ≤ j) (b : j < at + 1 + n). f j (omega arith) (omega arith)) ∙ omega arith
 
+-- where place `at + i` is the first to fail, it ends there
+pub span_found : (test : ℕ → Bool) (n at i : ℕ) → ((k : ℕ) → k < i → test (at + k) ≡ true) → i < n → test (at + i) ≡ false
+    → span_end test at n ≡ at + i
+unfolding span_end
+span_found test zero at i f h e = absurd (omega (arith, h))
+span_found test (suc n) at zero f h e = let here : at + 0 ≡ at = omega arith in step test at n (ap test (sym here) ∙ e) ∙ sym here
+span_found test (suc n) at (suc i) f h e =
+    let here : at ≡ at + 0 = omega arith in
+    let onward : (k : ℕ) → at + 1 + k ≡ at + suc k = λ k. omega arith in
+    step test at n (ap test here ∙ f 0 (omega arith))
+    ∙ span_found test n (at + 1) i (λ k l. ap test (onward k) ∙ f (suc k) (omega arith)) (omega (arith, h)) (ap test (onward i) ∙ e) ∙ onward i
+
 -- by a wider test it ends at the same place, if that fails it
 pub span_wider : (test wider : ℕ → Bool) → ((j : ℕ) → test j ≡ true → wider j ≡ true) → (n at : ℕ) → wider (span_end test at n) ≡ false
     → span_end wider at n ≡ span_end test at n
@@ -99,24 +120,3 @@ span_wider test wider w (suc n) at e =
 pub neither : (x y : Bool) → (x || y) ≡ false → (x ≡ false) × (y ≡ false)
 neither true y e = absurd (true≢false e)
 neither false y e = (refl, e)
-
--- none was seen at first
-pub unseen_none : (test : ℕ → Bool) (at : ℕ) (seen : Bool) → Unseen test at (at + 0) seen
-unseen_none test at seen e j a l = absurd (omega (arith, a, l))
-
--- and one place more
-pub unseen_more : (test : ℕ → Bool) (at i : ℕ) (seen : Bool) → Unseen test at (at + i) seen → Unseen test at (at + (i + 1)) (seen || test (at + i))
-unseen_more test at i seen h e j a l =
-    let n = neither seen (test (at + i)) e in
-    by_test (ltb j (at + i)) (λ t. h n.0 j a (ltb-true j (at + i) t))
-    (λ t. let k = ltb-false j (at + i) t in
-    let here : at + i ≡ j = omega (arith, l, k) in
-    subst (λ (x : ℕ). test x ≡ false) here n.1)
-
--- what each place that is not seen leaves as it is, `n` of them from `at` to `to` leave as it is
-pub unseen_over : {A : Type 0} (f : ℕ → A) (test : ℕ → Bool) (end : ℕ) → ((j : ℕ) → j < end → test j ≡ false → f j ≡ f (j + 1))
-    → (n at to : ℕ) → n + at ≡ to → to ≤ end → ((j : ℕ) → at ≤ j → j < to → test j ≡ false) → f at ≡ f to
-unseen_over f test end step zero at to e h unseen = let same : at ≡ to = omega arith in ap f same
-unseen_over f test end step (suc n) at to e h unseen =
-    step at (omega arith) (unseen at (omega arith) (omega arith))
-    ∙ unseen_over f test end step n (at + 1) to (omega arith) h (λ (j : ℕ) (a : at + 1 ≤ j) (b : j < to). unseen j (omega arith) b)

@@ -1,54 +1,60 @@
 // Which bytes are what in a text map (W-206). The definitions are in specs/.
 #![tactic(auto)]
 
-ghost use Rattle.std.specs.Prelude.{◌≡◌, get_or};
-ghost use Rattle.text_byte.specs.Bytes.{is_blank, is_mark, opens_line, opens_comment, ends_word, is_digit, is_hex_digit, is_letter, is_name_byte, lower, lower_at};
+ghost use Rattle.std.specs.Prelude.{◌≡◌, ◌-◌, ◌<◌, ℕ, Bool, get_or};
+ghost use Rattle.text_byte.specs.Bytes.{is_blank, is_mark, opens_line, opens_comment, ends_word, is_digit, is_hex_digit, is_letter, is_name_byte, lower};
+ghost use Rattle.text_byte.specs.Spans.{span_end};
 ghost use Rattle.text_byte.specs.WordBytes.{is_plain, stops_word};
 
-pub const NEWLINE: u8 = 10;
+pub const NEWLINE: u8 = b'\n';
 
-pub const DOUBLE_QUOTE: u8 = 34;
+pub const DOUBLE_QUOTE: u8 = b'"';
 
-pub const STAR: u8 = 42;
+pub const STAR: u8 = b'*';
 
-pub const SLASH: u8 = 47;
+pub const SLASH: u8 = b'/';
 
-pub const SEMICOLON: u8 = 59;
+pub const SEMICOLON: u8 = b';';
 
-pub const EQUALS_SIGN: u8 = 61;
+pub const EQUALS_SIGN: u8 = b'=';
 
-pub const BACKSLASH: u8 = 92;
+pub const BACKSLASH: u8 = b'\\';
 
-pub const OPEN_BRACE: u8 = 123;
+pub const OPEN_BRACE: u8 = b'{';
 
-pub const CLOSE_BRACE: u8 = 125;
+pub const CLOSE_BRACE: u8 = b'}';
 
 // The byte at a place, 0 past the end.
 pub fn byte_at(text: &[u8], at: usize) -> u8
     ensures { result ≡ get_or text.now at 0 }
 {
-    if at < text.len() {
-        return text[at];
+    text.get(at).copied().unwrap_or(0)
+}
+
+// The first place from `from` on that fails the test, or `end`.
+pub fn span_end<F: Fn(usize) -> bool>(from: usize, end: usize, test: F) -> usize
+    requires { (i : ℕ) → i < end → F.pre test i }
+    ensures { (p : ℕ → Bool) → ((i : ℕ) (b : Bool) → i < end → F.post test i b → b ≡ p i)
+        → result ≡ span_end p from (end - from) }
+{
+    for at in from..end {
+        if !test(at) {
+            return at;
+        }
     }
-    0
+    from.max(end)
 }
 
 pub fn is_blank(b: u8) -> bool
     ensures { result ≡ is_blank b }
 {
-    (b == 32) | (b == 9) | (b == NEWLINE) | (b == 13)
+    matches!(b, b' ' | b'\t' | b'\n' | b'\r')
 }
 
 pub fn is_mark(b: u8) -> bool
     ensures { result ≡ is_mark b }
 {
-    (b == OPEN_BRACE)
-        | (b == CLOSE_BRACE)
-        | (b == 40)
-        | (b == 41)
-        | (b == SEMICOLON)
-        | (b == EQUALS_SIGN)
-        | (b == 39)
+    matches!(b, b'{' | b'}' | b'(' | b')' | b';' | b'=' | b'\'')
 }
 
 pub fn opens_line(b: u8, c: u8) -> bool
@@ -67,17 +73,17 @@ pub fn opens_comment(b: u8, c: u8) -> bool
 pub fn is_plain(b: u8) -> bool
     ensures { result ≡ is_plain b }
 {
-    if 62 <= b {
+    if b >= b'>' {
         return (b != OPEN_BRACE) & (b != CLOSE_BRACE);
     }
-    (48 <= b) & (b <= 58)
+    matches!(b, b'0'..=b':')
 }
 
 // White space, a mark or a quote: a word ends there, whatever follows. Tested first is what most often stands behind a word.
 pub fn stops_word(b: u8) -> bool
     ensures { result ≡ stops_word b }
 {
-    if (b == 32) | (b == SEMICOLON) {
+    if (b == b' ') | (b == SEMICOLON) {
         return true;
     }
     is_blank(b) | is_mark(b) | (b == DOUBLE_QUOTE)
@@ -96,43 +102,30 @@ pub fn ends_word(b: u8, c: u8) -> bool
 pub fn is_digit(b: u8) -> bool
     ensures { result ≡ is_digit b }
 {
-    (48 <= b) & (b <= 57)
+    b.is_ascii_digit()
 }
 
 pub fn is_hex_digit(b: u8) -> bool
     ensures { result ≡ is_hex_digit b }
 {
-    ((48 <= b) & (b <= 57)) | ((65 <= b) & (b <= 70)) | ((97 <= b) & (b <= 102))
+    b.is_ascii_hexdigit()
 }
 
 pub fn is_letter(b: u8) -> bool
     ensures { result ≡ is_letter b }
 {
-    ((65 <= b) & (b <= 90)) | ((97 <= b) & (b <= 122)) | (b == 95)
+    b.is_ascii_alphabetic() | (b == b'_')
 }
 
 // A letter or a digit. Small letters are tested first, since most bytes of names are such.
 pub fn is_name_byte(b: u8) -> bool
     ensures { result ≡ is_name_byte b }
 {
-    if (97 <= b) & (b <= 122) {
-        return true;
-    }
-    is_letter(b) | is_digit(b)
-}
-
-// The byte at a place, small.
-pub fn lower_at(word: &[u8], at: usize) -> u8
-    ensures { result ≡ lower_at word.now at }
-{
-    lower(byte_at(word, at))
+    b.is_ascii_lowercase() || is_letter(b) || is_digit(b)
 }
 
 pub fn lower(b: u8) -> u8
     ensures { result ≡ lower b }
 {
-    if (65 <= b) & (b <= 90) {
-        return b + 32;
-    }
-    b
+    b.to_ascii_lowercase()
 }

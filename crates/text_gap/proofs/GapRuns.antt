@@ -5,10 +5,12 @@ use mathlib.Core.List.{List}
 use mathlib.Core.Path.{◌≡◌, refl, sym, ap, ◌∙◌, subst}
 use native.Mathlib.Omega.{arith}
 use borrow.Author.Tests.{ltb-true, ltb-false, not-true, not-false}
+use denote.Enum.Bare.{sameb}
 use lib.Dec.{eqb, ltb}
 use lib.ListN.{get_or, length}
 use Rattle.text_gap.specs.declared.Mode.{Mode}
 use Rattle.text_gap.specs.declared.Mode.TheVariants.{Between, Line, Opening, Comment, Star, Stop}
+use Rattle.text_gap.specs.contracts.Mode.{the_type}
 use Rattle.text_gap.specs.declared.Gap.{Gap}
 use Rattle.text_byte.specs.Bytes.{newline, star, slash, is_blank, opens_line, opens_comment}
 use Rattle.text_gap.specs.Gaps.{mode_after, is_stop, gap, gap_from}
@@ -79,6 +81,15 @@ token-starts text at e =
     let other = (and-eq-true_iff (not (is_blank b)) (not (eqb b slash))).0 inside.1 in
     gap-stop text Between at (length text) (ltb-true at (length text) inside.0)
     (begins (is_blank b) (eqb b slash) (eqb c slash) (eqb c star) (not-true (is_blank b) other.0) (not-true (eqb b slash) other.1)) refl refl
+
+-- the code's test whether a mode is between tokens
+pub is_same : (m : Mode) → is_between m ≡ sameb the_type m Between
+is_same Between = refl
+is_same Line = refl
+is_same Opening = refl
+is_same Comment = refl
+is_same Star = refl
+is_same Stop = refl
 
 -- a mode that is between tokens
 pub between_is : (m : Mode) → is_between m ≡ true → m ≡ Between

@@ -1,4 +1,5 @@
 -- Laws of white space and comments. Assumes nothing.
 
 pub mod Scans
+pub mod Found
 pub mod GapRuns

@@ -7,15 +7,12 @@ use Rattle.text_gap.specs.declared.Mode.TheVariants.{Between, Line, Opening, Com
 use Rattle.text_gap.specs.declared.Gap.{Gap}
 use Rattle.text_gap.specs.Gaps.{gap_from}
 
--- the byte at a place is white space; `b`; another than `b`
+-- the byte at a place is white space; another than `b`
 abbrev pub blank_at : List ℕ → ℕ → Bool
 blank_at text i = is_blank (get_or text i 0)
 
-abbrev pub byte_is : List ℕ → ℕ → ℕ → Bool
-byte_is text b i = eqb (get_or text i 0) b
-
 abbrev pub other_at : List ℕ → ℕ → ℕ → Bool
-other_at text b i = not (byte_is text b i)
+other_at text b i = not (eqb (get_or text i 0) b)
 
 -- the first place from `at` on that holds `b`, or the text's end
 abbrev pub other_end : List ℕ → ℕ → ℕ → ℕ

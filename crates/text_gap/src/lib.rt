@@ -5,14 +5,14 @@ ghost use Rattle.std.specs.Prelude.{◌≡◌, ◌+◌, ◌-◌, ◌≤◌, ◌<
 ghost use Rattle.text_gap.specs.declared.Mode.TheVariants.{Between, Line, Opening, Comment};
 ghost use Rattle.text_gap.specs.Gaps.{is_open, gap_from};
 ghost use Rattle.text_byte.specs.Spans.{span_end};
-ghost use Rattle.text_byte.specs.WordBytes.{Unseen};
-ghost use Rattle.text_gap.specs.Passing.{blank_at, byte_is, other_end, starts_token, is_between, Ends};
+ghost use Rattle.text_gap.specs.Passing.{blank_at, other_end, starts_token, Ends};
 
+use memchr::memchr;
 use text_byte as bytes;
 
 // How the reading of a gap goes on: between tokens, in a comment up to the line's end, at the star that opens a
 // comment, in that comment, behind a star in it, and at a token's first byte.
-#[derive(Clone, Copy)]
+#[derive(Clone, Copy, PartialEq, Eq)]
 pub enum Mode {
     Between,
     Line,
@@ -60,8 +60,7 @@ fn read_gap(text: &[u8], from: usize) -> Gap
     let mut at = from;
     while at < text.len() {
         let g = comment_at(text, at);
-        let mode = g.mode;
-        if !is_between(mode) {
+        if g.mode != Mode::Between {
             return g;
         }
         at = blank_end(text, g.at);
@@ -165,80 +164,23 @@ fn close_end(text: &[u8], from: usize) -> Gap
 pub fn blank_end(text: &[u8], from: usize) -> usize
     ensures { result ≡ span_end (blank_at text.now) from (length text.now - from) }
 {
-    let mut at = from;
-    while at < text.len() {
-        if !bytes::is_blank(text[at]) {
-            return at;
-        }
-        at += 1;
-    }
-    at
+    bytes::span_end(from, text.len(), |i| bytes::is_blank(text[i]))
 }
 
 // The first byte of a value.
 fn byte_end(text: &[u8], from: usize, b: u8) -> usize
+    requires { from ≤ length text.now }
     ensures { result ≡ other_end text.now b from }
 {
-    let mut at = other_blocks(text, from, b);
-    while at < text.len() {
-        if text[at] == b {
-            return at;
-        }
-        at += 1;
-    }
-    at
-}
-
-// Past blocks of 8 bytes that do not have it: all of a block are compared at once.
-fn other_blocks(text: &[u8], from: usize, b: u8) -> usize
-    ensures { other_end text.now b from ≡ other_end text.now b result }
-{
-    if text.len() < from {
-        return from;
-    }
-    let mut at = from;
-    while 8 <= text.len() - at {
-        if has_byte(text, at, b) {
-            return at;
-        }
-        at += 8;
-    }
-    at
-}
-
-fn has_byte(text: &[u8], at: usize, b: u8) -> bool
-    requires { at + 8 ≤ length text.now }
-    ensures { Unseen (byte_is text.now b) at (at + 8) result }
-{
-    let mut has = false;
-    for i in 0..8 {
-        has = has | (text[at + i] == b);
-    }
-    has
-}
-
-fn is_between(mode: Mode) -> bool
-    ensures { result ≡ is_between mode }
-{
-    match mode {
-        Mode::Between => true,
-        Mode::Line => false,
-        Mode::Opening => false,
-        Mode::Comment => false,
-        Mode::Star => false,
-        Mode::Stop => false,
+    match memchr(b, &text[from..]) {
+        Some(i) => from + i,
+        None => text.len(),
     }
 }
 
+// Inside a comment that wants its closing star and slash.
 pub fn is_open(mode: Mode) -> bool
     ensures { result ≡ is_open mode }
 {
-    match mode {
-        Mode::Between => false,
-        Mode::Line => false,
-        Mode::Opening => true,
-        Mode::Comment => true,
-        Mode::Star => true,
-        Mode::Stop => false,
-    }
+    matches!(mode, Mode::Opening | Mode::Comment | Mode::Star)
 }

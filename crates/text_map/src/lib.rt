@@ -4,12 +4,11 @@
 
 ghost use Rattle.std.specs.Prelude.{◌≡◌};
 ghost use Rattle.text_table.specs.Scopes.{scope_number};
-ghost use Rattle.text_table.specs.Rows.{namespace_rows};
 ghost use Rattle.text_token.specs.Tokens.{bytes_of};
 ghost use Rattle.text_map.specs.Answers.{namespace_of, summary_by, text_answer, block_check, opened_check, block_by, block_answer};
 ghost use Rattle.text_map.specs.Answers.{fields_by, block_fields, places_by, block_places, numbered, first_from, next_from, id_by, id_of};
 
-use refusal::{Check, Refusal};
+use refusal::Refusal;
 use text_block::{Asked, Counts};
 use text_record::Places;
 use text_step::Parse;
@@ -22,12 +21,6 @@ pub struct TextSummary {
     pub counts: Counts,
 }
 
-#[derive(Clone, Copy)]
-pub enum TextAnswer {
-    Summary(TextSummary),
-    Refused(Refusal),
-}
-
 // A block: its kind, 1 to 5, and the place of its name.
 #[derive(Clone, Copy)]
 pub struct TextBlock {
@@ -35,23 +28,17 @@ pub struct TextBlock {
     pub start: usize,
 }
 
-#[derive(Clone, Copy)]
-pub enum BlockAnswer {
-    Block(TextBlock),
-    Refused(Refusal),
-}
-
 // What a block's record is read from, beside the places of its values: the check, the place behind the block, and the
 // namespace of what was read.
 #[derive(Clone, Copy)]
 pub struct BlockFields {
-    pub check: Check,
+    pub check: Result<(), Refusal>,
     pub next: usize,
     pub namespace: Places,
 }
 
 // The whole text judged: 90 to 93, or its namespace and counts.
-pub fn judge_text(text: &[u8]) -> TextAnswer
+pub fn judge_text(text: &[u8]) -> Result<TextSummary, Refusal>
     ensures { result ≡ text_answer text.now }
 {
     let mut kept = [0; 34];
@@ -59,19 +46,14 @@ pub fn judge_text(text: &[u8]) -> TextAnswer
     summary_by(text, s)
 }
 
-fn summary_by(text: &[u8], s: Parse) -> TextAnswer
+fn summary_by(text: &[u8], s: Parse) -> Result<TextSummary, Refusal>
     ensures { result ≡ summary_by text.now s s.check }
 {
-    let check = s.check;
-    let notes = s.notes;
-    let counts = notes.counts;
-    match check {
-        Check::Pass => TextAnswer::Summary(TextSummary {
-            namespace: namespace_of(text, s),
-            counts,
-        }),
-        Check::Refused(r) => TextAnswer::Refused(r),
-    }
+    s.check?;
+    Ok(TextSummary {
+        namespace: namespace_of(text, s),
+        counts: s.notes.counts,
+    })
 }
 
 fn namespace_of(text: &[u8], s: Parse) -> Places
@@ -81,15 +63,15 @@ fn namespace_of(text: &[u8], s: Parse) -> Places
 }
 
 // 94 comes last.
-fn block_check(s: Parse) -> Check
+fn block_check(s: Parse) -> Result<(), Refusal>
     ensures { result ≡ block_check s }
 {
-    let check = s.check;
-    refusal::then(check, refusal::pass_if(s.notes.found, Refusal::TextMissing))
+    s.check?;
+    refusal::pass_if(s.notes.found, Refusal::TextMissing)
 }
 
 // The first block of a known kind among the statements from a place on. Its fields are not read.
-pub fn next_block(text: &[u8], place: usize) -> BlockAnswer
+pub fn next_block(text: &[u8], place: usize) -> Result<TextBlock, Refusal>
     ensures { result ≡ block_answer (next_from text.now place) }
 {
     let mut kept = [0; 34];
@@ -98,28 +80,21 @@ pub fn next_block(text: &[u8], place: usize) -> BlockAnswer
 }
 
 // 94 comes last.
-fn opened_check(s: Parse) -> Check
+fn opened_check(s: Parse) -> Result<(), Refusal>
     ensures { result ≡ opened_check s }
 {
-    let check = s.check;
-    let scope = s.scope;
-    refusal::then(
-        check,
-        refusal::pass_if(!text_step::is_top(scope), Refusal::TextMissing),
-    )
+    s.check?;
+    refusal::pass_if(!text_step::is_top(s.scope), Refusal::TextMissing)
 }
 
-fn block_by(s: Parse) -> BlockAnswer
+fn block_by(s: Parse) -> Result<TextBlock, Refusal>
     ensures { result ≡ block_by s (opened_check s) }
 {
-    let scope = s.scope;
-    match opened_check(s) {
-        Check::Pass => BlockAnswer::Block(TextBlock {
-            kind: kind_of(scope),
-            start: s.block,
-        }),
-        Check::Refused(r) => BlockAnswer::Refused(r),
-    }
+    opened_check(s)?;
+    Ok(TextBlock {
+        kind: kind_of(s.scope),
+        start: s.block,
+    })
 }
 
 fn kind_of(kind: Scope) -> u32
@@ -158,17 +133,16 @@ fn fields_by(text: &[u8], s: Parse, kept: &mut [usize; 34]) -> BlockFields
     ensures value { result ≡ fields_by text.now s (block_check s) }
     ensures kept_after { kept.new ≡ places_by kept.old (block_check s) }
 {
-    let notes = s.notes;
     match block_check(s) {
-        Check::Pass => BlockFields {
-            check: Check::Pass,
-            next: notes.next,
+        Ok(()) => BlockFields {
+            check: Ok(()),
+            next: s.notes.next,
             namespace: namespace_of(text, s),
         },
-        Check::Refused(r) => {
+        Err(r) => {
             *kept = [0; 34];
             BlockFields {
-                check: Check::Refused(r),
+                check: Err(r),
                 next: 0,
                 namespace: Places { start: 0, end: 0 },
             }
@@ -187,15 +161,7 @@ pub fn id_of(text: &[u8], namespace: Places) -> i32
 pub fn id_by(text: &[u8], start: usize, end: usize) -> i32
     ensures { result ≡ id_by (bytes_of text.now start end) }
 {
-    let namespaces = text_table::namespaces();
-    id_in(&namespaces, text_token::bytes_of(text, start, end))
-}
-
-fn id_in(namespaces: &[u8], namespace: &[u8]) -> i32
-    requires { namespaces.now ≡ namespace_rows }
-    ensures { result ≡ id_by namespace.now }
-{
-    if text_table::zero_ids(namespaces, namespace) {
+    if text_table::zero_ids(text_token::bytes_of(text, start, end)) {
         0
     } else {
         -1

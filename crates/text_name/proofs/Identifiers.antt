@@ -1,6 +1,6 @@
 -- Letters and digits up to a byte that ends any word are a word, and an identifier if the first is a letter. Assumes nothing.
 use Prim.Native.Nat.{ℕ, ◌+◌, ◌-◌, ◌≤◌, ◌<◌}
-use mathlib.Core.Bool.{Bool, true, false, not, ◌&&◌, ◌||◌, and-true}
+use mathlib.Core.Bool.{Bool, true, false, not, ◌&&◌, ◌||◌, cond, and-true}
 use mathlib.Core.List.{List}
 use mathlib.Core.Path.{◌≡◌, refl, sym, ap, ◌∙◌, subst}
 use native.Mathlib.Omega.{arith}
@@ -8,14 +8,16 @@ use borrow.Author.Tests.{lt-ltb, eq-eqb}
 use lib.Dec.{eqb}
 use lib.ListN.{get_or, length, drop, length-drop}
 use lib.Seq.{length-take-le, get_or-take, get_or-drop}
+use Rattle.std.specs.Prelude.{Result, Ok, Err, IfOk, IfErr, MatchResult}
 use Rattle.text_byte.specs.Bytes.{double_quote, slash, is_blank, is_mark, opens_line, opens_comment, is_letter, is_name_byte}
 use Rattle.text_byte.specs.Spans.{span_end}
 use Rattle.text_byte.specs.WordBytes.{stops_word}
 use Rattle.text_byte.proofs.Bytes.{unlike, name-ends, stops-ends}
 use Rattle.text_byte.proofs.Spans.{span_more, span_reach, span_passes, span_all, span_wider, neither}
 use Rattle.text_gap.specs.Passing.{starts_token}
-use Rattle.text_token.specs.Tokens.{in_word, word_to, bytes_of, token_at}
-use Rattle.text_token.proofs.Tokens.{token_at-here}
+use Rattle.text_token.specs.declared.Token.{Token}
+use Rattle.text_token.specs.Tokens.{in_word, word_to, bytes_of, token_at, Placed}
+use Rattle.text_token.proofs.Tokens.{placed_as, token_at-here}
 use Rattle.text_name.specs.Identifiers.{is_identifier}
 
 -- the byte at a place is one of a name
@@ -71,3 +73,17 @@ module _ (text : List ℕ) (at : ℕ) {end : ℕ} (ends : end ≡ span_end (in_n
       let zero : at + 0 ≡ at = omega arith in
       let first : get_or word 0 0 ≡ get_or text at 0 = get_d_name 0 (omega arith) ∙ ap (λ (i : ℕ). get_or text i 0) zero in
       sym (ap (λ (b : Bool). is_letter (get_or word 0 0) && b) (eq-eqb _ (length word) name-whole) ∙ and-true _ ∙ ap is_letter first)
+
+-- a token that was found, as the answer tells it
+pub record Named (text : List ℕ) (from : ℕ) (r : Result Token Token) : Type 0 where
+  pub ok : IfOk r (λ t. (t ≡ token_at text from) × (is_identifier text t ≡ true))
+  pub err : IfErr r (λ t. (t ≡ token_at text from) × (is_identifier text t ≡ false))
+  pub placed : MatchResult r (Placed text from) (Placed text from)
+
+pub named : (text : List ℕ) (from : ℕ) {good : Bool} {t : Token} {r : Result Token Token} → r ≡ cond good (Ok t) (Err t)
+    → t ≡ token_at text from → good ≡ is_identifier text t → Named text from r
+named text from {good} {t} e found is = subst (Named text from) (sym e) (by good is)
+  where
+    by : (x : Bool) → x ≡ is_identifier text t → Named text from (cond x (Ok t) (Err t))
+    by true q = record { ok = (found, sym q); err = tt; placed = placed_as text from found }
+    by false q = record { ok = tt; err = (found, sym q); placed = placed_as text from found }

@@ -3,11 +3,11 @@ use Rattle.std.specs.Prelude.{ℕ, Bool, ◌&&◌, List, eqb, length, get_or}
 use Rattle.text_token.specs.declared.Token.{Token}
 use Rattle.text_byte.specs.Bytes.{is_letter, is_name_byte}
 use Rattle.text_byte.specs.Spans.{span_end}
-use Rattle.text_token.specs.Tokens.{word_form, word_of}
+use Rattle.text_token.specs.Tokens.{word_form, form_of, word_of}
 
 -- a letter, and then letters and digits
 abbrev pub identifier_ok : List ℕ → Bool
 identifier_ok word = is_letter (get_or word 0 0) && eqb (span_end (λ i. is_name_byte (get_or word i 0)) 0 (length word)) (length word)
 
 abbrev pub is_identifier : List ℕ → Token → Bool
-is_identifier text t = eqb t.form word_form && identifier_ok (word_of text t)
+is_identifier text t = eqb (form_of t) word_form && identifier_ok (word_of text t)

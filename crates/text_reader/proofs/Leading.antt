@@ -6,9 +6,10 @@ use mathlib.Core.Path.{◌≡◌, refl, sym, ap, ◌∙◌}
 use native.Mathlib.Omega.{arith}
 use lib.Dec.{eqb}
 use lib.ListN.{length}
+use Rattle.std.specs.Prelude.{Option}
 use Rattle.text_byte.proofs.Spans.{cond_on}
 use Rattle.text_token.specs.declared.Token.{Token}
-use Rattle.text_token.specs.Tokens.{token_at}
+use Rattle.text_token.specs.Tokens.{form_of, token_at}
 use Rattle.text_block.specs.declared.Asked.{Asked}
 use Rattle.text_block.specs.declared.Wanted.{Wanted}
 use Rattle.text_block.specs.declared.Wanted.TheVariants.{NoMore}
@@ -93,9 +94,9 @@ RestsAt r = Rests r.wanted
 
 pub end_rests : (asked : Asked) (places : List ℕ) (s : Parse) (t : Token) → RestsAt (on_end asked places s t)
 end_rests asked places s t =
-    cond_on RestsAt (not (is_top s.scope) && eqb t.form 125)
+    cond_on RestsAt (not (is_top s.scope) && eqb (form_of t) 125)
     (λ _. cond_on RestsAt (all_given s.scope places) (λ _. cond_on Rests (stops_there asked && is_found asked s) (λ _. none) (λ _ _. refl)) (λ _. none))
-    (λ _. cond_on RestsAt (is_top s.scope && eqb t.form 0) (λ _. none) (λ _. none))
+    (λ _. cond_on RestsAt (is_top s.scope && eqb (form_of t) 0) (λ _. none) (λ _. none))
 
 -- and no block ends
 pub record Inside (s r : Parse) : Type 0 where
@@ -105,11 +106,11 @@ pub record Inside (s r : Parse) : Type 0 where
 pub brace_inside : (asked : Asked) (s : Parse) (t : Token) (start : ℕ) (name : List ℕ) → Inside s (on_brace asked s t start name)
 brace_inside asked s t start name =
     let kind = kind_named name in
-    cond_on (Inside s) (is_top s.scope && eqb t.form 123)
+    cond_on (Inside s) (is_top s.scope && eqb (form_of t) 123)
     (λ _. cond_on (Inside s) (is_full s.notes.counts kind) (λ _. record { rests = none; found = refl })
     (λ _. record { rests = cond_on Rests (stops_inside asked kind) (λ _. none) (λ _ _. refl); found = refl }))
     (λ _. record { rests = none; found = refl })
 
-pub semicolon-inside : (s : Parse) (t : Token) (field place : ℕ) → Inside s (on_semicolon s t field place)
+pub semicolon-inside : (s : Parse) (t : Token) (field : Option ℕ) (place : ℕ) → Inside s (on_semicolon s t field place)
 semicolon-inside s t field place =
-    cond_on (Inside s) (eqb t.form 59) (λ _. record { rests = λ _. refl; found = refl }) (λ _. record { rests = none; found = refl })
+    cond_on (Inside s) (eqb (form_of t) 59) (λ _. record { rests = λ _. refl; found = refl }) (λ _. record { rests = none; found = refl })

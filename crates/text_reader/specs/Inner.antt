@@ -1,8 +1,5 @@
 -- What only contracts of inner functions cite: a text read on by several tokens. Assumes nothing.
-use Rattle.std.specs.Prelude.{ℕ, ◌*◌, true, List, ◌≡◌, length, take}
-use Rattle.text_table.specs.declared.scope.Scope.{Scope}
-use Rattle.text_table.specs.Scopes.{row_count}
-use Rattle.text_table.specs.Rows.{row_size, rows_of}
+use Rattle.std.specs.Prelude.{ℕ, true, List, ◌≡◌}
 use Rattle.text_block.specs.declared.Asked.{Asked}
 use Rattle.text_block.specs.declared.Wanted.{Wanted}
 use Rattle.text_block.specs.declared.Wanted.TheVariants.{Statement}
@@ -21,7 +18,3 @@ ReadsOn text asked s places r places' = (kept : List ℕ) → Leads text asked (
 -- where more is wanted, it is a statement
 abbrev pub Rests : Wanted → Type 0
 Rests w = is_more w ≡ true → w ≡ Statement
-
--- the rows of a scope stand at the front
-abbrev pub Loaded : Scope → List ℕ → Type 0
-Loaded scope rows = (take (row_size * row_count scope) rows ≡ rows_of scope) × (length rows ≡ 612)

@@ -1,7 +1,6 @@
 -- A text map from a place on (02, W-206): token by token up to its end, its first fault, or the end of the block that is asked for.
 -- Assumes nothing.
-use Rattle.std.specs.Prelude.{ℕ, suc, Bool, true, false, not, ◌&&◌, cond, List, length}
-use Rattle.refusal.specs.declared.Check.TheVariants.{Pass}
+use Rattle.std.specs.Prelude.{ℕ, suc, Bool, true, false, not, ◌&&◌, cond, List, length, Ok}
 use Rattle.text_token.specs.Tokens.{token_at}
 use Rattle.text_table.specs.declared.scope.Scope.TheVariants.{Top}
 use Rattle.text_block.specs.declared.Asked.{Asked}
@@ -45,7 +44,7 @@ token_more text asked s =
 
 -- before the statements from a place on
 abbrev pub start_at : ℕ → Parse
-start_at from = parse Statement Top 0 from Pass (notes 0 (counts 0 0 0 0 0) false Top 0 0)
+start_at from = parse Statement Top 0 from (Ok tt) (notes 0 (counts 0 0 0 0 0) false Top 0 0)
 
 -- the text from a place on. A token takes a byte at least, so that it is read to its end
 abbrev pub text_from : List ℕ → Asked → ℕ → Stand

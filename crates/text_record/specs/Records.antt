@@ -1,8 +1,9 @@
 -- The five records of a text map (02, W-206; document 002, "Standardized Fields"), fields in the document's order: of a
 -- block whose values stand at `places`, each field by its name. `defaults` has the default of each row of the kind.
 -- Assumes nothing.
-use Rattle.std.specs.Prelude.{ℕ, ◌-◌, Bool, cond, List, eqb, ℤ, pos, Float, length}
+use Rattle.std.specs.Prelude.{ℕ, Bool, unwrap_or, List, ℤ, pos, Float, length}
 use Prim.Native.String.{String}
+use Rattle.text_table.specs.declared.field.Fallback.{Fallback}
 use Rattle.text_table.specs.declared.scope.Scope.{Scope}
 use Rattle.text_table.specs.declared.scope.Scope.TheVariants.{Vertex, Linedef, Sidedef, Sector, Thing}
 use Rattle.text_table.specs.Table.{bytes, fields_of}
@@ -17,7 +18,7 @@ use Rattle.text_record.specs.declared.TextThing.{TextThing}
 
 -- the row of a field, found by its name as a text's own words are; behind the last row for a name that the kind does not have
 abbrev pub row_of : Scope → String → ℕ
-row_of kind name = let n = field_named kind (bytes name) in cond (eqb n 0) (length (fields_of kind)) (n - 1)
+row_of kind name = unwrap_or (field_named kind (bytes name)) (length (fields_of kind))
 
 abbrev pub text_vertex_of : List ℕ → List ℕ → TextVertex
 text_vertex_of text places =
@@ -28,7 +29,7 @@ text_vertex_of text places =
     }
 
 -- a linedef, whose id is `id` by default
-abbrev pub text_linedef_of : List ℕ → List ℕ → (ℕ → ℕ) → ℤ → TextLinedef
+abbrev pub text_linedef_of : List ℕ → List ℕ → (ℕ → Fallback) → ℤ → TextLinedef
 text_linedef_of text places defaults id =
     let whole : String → ℤ = λ name. whole_field text places defaults id (row_of Linedef name) in
     let flag : String → Bool = λ name. flag_field text places (row_of Linedef name) in
@@ -70,7 +71,7 @@ text_linedef_of text places defaults id =
       comment = string "comment";
     }
 
-abbrev pub text_sidedef_of : List ℕ → List ℕ → (ℕ → ℕ) → TextSidedef
+abbrev pub text_sidedef_of : List ℕ → List ℕ → (ℕ → Fallback) → TextSidedef
 text_sidedef_of text places defaults =
     let whole : String → ℤ = λ name. whole_field text places defaults (pos 0) (row_of Sidedef name) in
     let string : String → Places = λ name. string_field text places (row_of Sidedef name) in
@@ -84,7 +85,7 @@ text_sidedef_of text places defaults =
       comment = string "comment";
     }
 
-abbrev pub text_sector_of : List ℕ → List ℕ → (ℕ → ℕ) → TextSector
+abbrev pub text_sector_of : List ℕ → List ℕ → (ℕ → Fallback) → TextSector
 text_sector_of text places defaults =
     let whole : String → ℤ = λ name. whole_field text places defaults (pos 0) (row_of Sector name) in
     let string : String → Places = λ name. string_field text places (row_of Sector name) in
@@ -100,7 +101,7 @@ text_sector_of text places defaults =
     }
 
 -- a thing; `kind` is the field `type`, a word of the language
-abbrev pub text_thing_of : List ℕ → List ℕ → (ℕ → ℕ) → TextThing
+abbrev pub text_thing_of : List ℕ → List ℕ → (ℕ → Fallback) → TextThing
 text_thing_of text places defaults =
     let whole : String → ℤ = λ name. whole_field text places defaults (pos 0) (row_of Thing name) in
     let decimal : String → Float = λ name. decimal_field text places (row_of Thing name) in

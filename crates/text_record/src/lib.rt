@@ -4,12 +4,13 @@
 
 mod given;
 
-ghost use Rattle.std.specs.Prelude.{◌≡◌};
-ghost use Rattle.text_table.specs.Rows.{default_at};
+ghost use Rattle.std.specs.Prelude.{◌≡◌, map};
+ghost use Rattle.text_table.specs.Table.{default_of};
+ghost use Rattle.text_table.specs.Rows.{row_of};
 ghost use Rattle.text_record.specs.Records.{text_vertex_of, text_linedef_of, text_sidedef_of, text_sector_of, text_thing_of};
 
-use given as fields;
 pub use given::{Places, string_at};
+use text_table::Field;
 
 #[repr(C)]
 #[derive(Clone, Copy)]
@@ -124,118 +125,118 @@ pub fn vertex_of(text: &[u8], places: &[usize; 34]) -> TextVertex
     ensures { result ≡ text_vertex_of text.now places.now }
 {
     TextVertex {
-        x: fields::decimal_field(text, places, 0),
-        y: fields::decimal_field(text, places, 1),
+        x: given::decimal_field(text, places, 0),
+        y: given::decimal_field(text, places, 1),
     }
 }
 
-// The rest of the five take the rows of the kind too, for the defaults: past their end every default is 0. Of a linedef
+// The rest of the five take the fields of the kind too, for the defaults: past their end every default is 0. Of a linedef
 // `id` is the default of its id where the namespace decides. The whole numbers come first, since they are those that
-// ask for the rows.
-pub fn linedef_of(text: &[u8], rows: &[u8], places: &[usize; 34], id: i32) -> TextLinedef
-    ensures { result ≡ text_linedef_of text.now places.now (default_at rows.now) id }
+// ask for the fields.
+pub fn linedef_of(text: &[u8], fields: &[Field], places: &[usize; 34], id: i32) -> TextLinedef
+    ensures { result ≡ text_linedef_of text.now places.now (default_of (map row_of fields.now)) id }
 {
     TextLinedef {
-        id: fields::whole_field(text, rows, places, id, 0),
-        v1: fields::whole_field(text, rows, places, id, 1),
-        v2: fields::whole_field(text, rows, places, id, 2),
-        special: fields::whole_field(text, rows, places, id, 25),
-        arg0: fields::whole_field(text, rows, places, id, 26),
-        arg1: fields::whole_field(text, rows, places, id, 27),
-        arg2: fields::whole_field(text, rows, places, id, 28),
-        arg3: fields::whole_field(text, rows, places, id, 29),
-        arg4: fields::whole_field(text, rows, places, id, 30),
-        sidefront: fields::whole_field(text, rows, places, id, 31),
-        sideback: fields::whole_field(text, rows, places, id, 32),
-        blocking: fields::flag_field(text, places, 3),
-        blockmonsters: fields::flag_field(text, places, 4),
-        twosided: fields::flag_field(text, places, 5),
-        dontpegtop: fields::flag_field(text, places, 6),
-        dontpegbottom: fields::flag_field(text, places, 7),
-        secret: fields::flag_field(text, places, 8),
-        blocksound: fields::flag_field(text, places, 9),
-        dontdraw: fields::flag_field(text, places, 10),
-        mapped: fields::flag_field(text, places, 11),
-        passuse: fields::flag_field(text, places, 12),
-        translucent: fields::flag_field(text, places, 13),
-        jumpover: fields::flag_field(text, places, 14),
-        blockfloaters: fields::flag_field(text, places, 15),
-        playercross: fields::flag_field(text, places, 16),
-        playeruse: fields::flag_field(text, places, 17),
-        monstercross: fields::flag_field(text, places, 18),
-        monsteruse: fields::flag_field(text, places, 19),
-        impact: fields::flag_field(text, places, 20),
-        playerpush: fields::flag_field(text, places, 21),
-        monsterpush: fields::flag_field(text, places, 22),
-        missilecross: fields::flag_field(text, places, 23),
-        repeatspecial: fields::flag_field(text, places, 24),
-        comment: fields::string_field(text, places, 33),
+        id: given::whole_field(text, fields, places, id, 0),
+        v1: given::whole_field(text, fields, places, id, 1),
+        v2: given::whole_field(text, fields, places, id, 2),
+        special: given::whole_field(text, fields, places, id, 25),
+        arg0: given::whole_field(text, fields, places, id, 26),
+        arg1: given::whole_field(text, fields, places, id, 27),
+        arg2: given::whole_field(text, fields, places, id, 28),
+        arg3: given::whole_field(text, fields, places, id, 29),
+        arg4: given::whole_field(text, fields, places, id, 30),
+        sidefront: given::whole_field(text, fields, places, id, 31),
+        sideback: given::whole_field(text, fields, places, id, 32),
+        blocking: given::flag_field(text, places, 3),
+        blockmonsters: given::flag_field(text, places, 4),
+        twosided: given::flag_field(text, places, 5),
+        dontpegtop: given::flag_field(text, places, 6),
+        dontpegbottom: given::flag_field(text, places, 7),
+        secret: given::flag_field(text, places, 8),
+        blocksound: given::flag_field(text, places, 9),
+        dontdraw: given::flag_field(text, places, 10),
+        mapped: given::flag_field(text, places, 11),
+        passuse: given::flag_field(text, places, 12),
+        translucent: given::flag_field(text, places, 13),
+        jumpover: given::flag_field(text, places, 14),
+        blockfloaters: given::flag_field(text, places, 15),
+        playercross: given::flag_field(text, places, 16),
+        playeruse: given::flag_field(text, places, 17),
+        monstercross: given::flag_field(text, places, 18),
+        monsteruse: given::flag_field(text, places, 19),
+        impact: given::flag_field(text, places, 20),
+        playerpush: given::flag_field(text, places, 21),
+        monsterpush: given::flag_field(text, places, 22),
+        missilecross: given::flag_field(text, places, 23),
+        repeatspecial: given::flag_field(text, places, 24),
+        comment: given::string_field(text, places, 33),
     }
 }
 
-pub fn sidedef_of(text: &[u8], rows: &[u8], places: &[usize; 34]) -> TextSidedef
-    ensures { result ≡ text_sidedef_of text.now places.now (default_at rows.now) }
+pub fn sidedef_of(text: &[u8], fields: &[Field], places: &[usize; 34]) -> TextSidedef
+    ensures { result ≡ text_sidedef_of text.now places.now (default_of (map row_of fields.now)) }
 {
     TextSidedef {
-        offsetx: fields::whole_field(text, rows, places, 0, 0),
-        offsety: fields::whole_field(text, rows, places, 0, 1),
-        texturetop: fields::string_field(text, places, 2),
-        texturebottom: fields::string_field(text, places, 3),
-        texturemiddle: fields::string_field(text, places, 4),
-        sector: fields::whole_field(text, rows, places, 0, 5),
-        comment: fields::string_field(text, places, 6),
+        offsetx: given::whole_field(text, fields, places, 0, 0),
+        offsety: given::whole_field(text, fields, places, 0, 1),
+        texturetop: given::string_field(text, places, 2),
+        texturebottom: given::string_field(text, places, 3),
+        texturemiddle: given::string_field(text, places, 4),
+        sector: given::whole_field(text, fields, places, 0, 5),
+        comment: given::string_field(text, places, 6),
     }
 }
 
-pub fn sector_of(text: &[u8], rows: &[u8], places: &[usize; 34]) -> TextSector
-    ensures { result ≡ text_sector_of text.now places.now (default_at rows.now) }
+pub fn sector_of(text: &[u8], fields: &[Field], places: &[usize; 34]) -> TextSector
+    ensures { result ≡ text_sector_of text.now places.now (default_of (map row_of fields.now)) }
 {
     TextSector {
-        heightfloor: fields::whole_field(text, rows, places, 0, 0),
-        heightceiling: fields::whole_field(text, rows, places, 0, 1),
-        texturefloor: fields::string_field(text, places, 2),
-        textureceiling: fields::string_field(text, places, 3),
-        lightlevel: fields::whole_field(text, rows, places, 0, 4),
-        special: fields::whole_field(text, rows, places, 0, 5),
-        id: fields::whole_field(text, rows, places, 0, 6),
-        comment: fields::string_field(text, places, 7),
+        heightfloor: given::whole_field(text, fields, places, 0, 0),
+        heightceiling: given::whole_field(text, fields, places, 0, 1),
+        texturefloor: given::string_field(text, places, 2),
+        textureceiling: given::string_field(text, places, 3),
+        lightlevel: given::whole_field(text, fields, places, 0, 4),
+        special: given::whole_field(text, fields, places, 0, 5),
+        id: given::whole_field(text, fields, places, 0, 6),
+        comment: given::string_field(text, places, 7),
     }
 }
 
-pub fn thing_of(text: &[u8], rows: &[u8], places: &[usize; 34]) -> TextThing
-    ensures { result ≡ text_thing_of text.now places.now (default_at rows.now) }
+pub fn thing_of(text: &[u8], fields: &[Field], places: &[usize; 34]) -> TextThing
+    ensures { result ≡ text_thing_of text.now places.now (default_of (map row_of fields.now)) }
 {
     TextThing {
-        id: fields::whole_field(text, rows, places, 0, 0),
-        angle: fields::whole_field(text, rows, places, 0, 4),
-        kind: fields::whole_field(text, rows, places, 0, 5),
-        special: fields::whole_field(text, rows, places, 0, 24),
-        arg0: fields::whole_field(text, rows, places, 0, 25),
-        arg1: fields::whole_field(text, rows, places, 0, 26),
-        arg2: fields::whole_field(text, rows, places, 0, 27),
-        arg3: fields::whole_field(text, rows, places, 0, 28),
-        arg4: fields::whole_field(text, rows, places, 0, 29),
-        x: fields::decimal_field(text, places, 1),
-        y: fields::decimal_field(text, places, 2),
-        height: fields::decimal_field(text, places, 3),
-        skill1: fields::flag_field(text, places, 6),
-        skill2: fields::flag_field(text, places, 7),
-        skill3: fields::flag_field(text, places, 8),
-        skill4: fields::flag_field(text, places, 9),
-        skill5: fields::flag_field(text, places, 10),
-        ambush: fields::flag_field(text, places, 11),
-        single: fields::flag_field(text, places, 12),
-        dm: fields::flag_field(text, places, 13),
-        coop: fields::flag_field(text, places, 14),
-        friend: fields::flag_field(text, places, 15),
-        dormant: fields::flag_field(text, places, 16),
-        class1: fields::flag_field(text, places, 17),
-        class2: fields::flag_field(text, places, 18),
-        class3: fields::flag_field(text, places, 19),
-        standing: fields::flag_field(text, places, 20),
-        strifeally: fields::flag_field(text, places, 21),
-        translucent: fields::flag_field(text, places, 22),
-        invisible: fields::flag_field(text, places, 23),
-        comment: fields::string_field(text, places, 30),
+        id: given::whole_field(text, fields, places, 0, 0),
+        angle: given::whole_field(text, fields, places, 0, 4),
+        kind: given::whole_field(text, fields, places, 0, 5),
+        special: given::whole_field(text, fields, places, 0, 24),
+        arg0: given::whole_field(text, fields, places, 0, 25),
+        arg1: given::whole_field(text, fields, places, 0, 26),
+        arg2: given::whole_field(text, fields, places, 0, 27),
+        arg3: given::whole_field(text, fields, places, 0, 28),
+        arg4: given::whole_field(text, fields, places, 0, 29),
+        x: given::decimal_field(text, places, 1),
+        y: given::decimal_field(text, places, 2),
+        height: given::decimal_field(text, places, 3),
+        skill1: given::flag_field(text, places, 6),
+        skill2: given::flag_field(text, places, 7),
+        skill3: given::flag_field(text, places, 8),
+        skill4: given::flag_field(text, places, 9),
+        skill5: given::flag_field(text, places, 10),
+        ambush: given::flag_field(text, places, 11),
+        single: given::flag_field(text, places, 12),
+        dm: given::flag_field(text, places, 13),
+        coop: given::flag_field(text, places, 14),
+        friend: given::flag_field(text, places, 15),
+        dormant: given::flag_field(text, places, 16),
+        class1: given::flag_field(text, places, 17),
+        class2: given::flag_field(text, places, 18),
+        class3: given::flag_field(text, places, 19),
+        standing: given::flag_field(text, places, 20),
+        strifeally: given::flag_field(text, places, 21),
+        translucent: given::flag_field(text, places, 22),
+        invisible: given::flag_field(text, places, 23),
+        comment: given::string_field(text, places, 30),
     }
 }

@@ -1,21 +1,18 @@
 // What a token of a text map does (W-206) where a statement, `=`, a value or `;` is wanted. The definitions are in specs/.
 #![tactic(auto)]
 
-ghost use Rattle.std.specs.Prelude.{false, cond, ◌≡◌, ◌≤◌, length};
+ghost use Rattle.std.specs.Prelude.{false, cond, ◌≡◌, ◌≤◌, length, Err};
 ghost use Rattle.refusal.specs.declared.Refusal.TheVariants.{TextGrammar, TextNumber};
-ghost use Rattle.refusal.specs.declared.Check.TheVariants.{Refused};
-ghost use Rattle.text_table.specs.Rows.{kind_rows, rows_of};
 ghost use Rattle.text_block.specs.Blocks.{is_full};
 ghost use Rattle.text_value.specs.Values.{token_read};
 ghost use Rattle.text_step.specs.Steps.{goes_on, refused_with, misfit, is_top, is_found, notes_after, wanted_after, closed_block, on_end, wanted_inside, opened_block, on_brace};
 ghost use Rattle.text_step.specs.Steps.{held_by, serves, given_as, value_check, notes_assigned, on_semicolon};
 
-use refusal::{Check, Refusal};
+use refusal::Refusal;
 use text_block::{Asked, Counts, Wanted};
-use text_byte as bytes;
-use text_table::Scope;
-use text_token::Token;
-use text_value::{Reading, Value};
+use text_table::{Holds, Scope};
+use text_token::{Form, Token};
+use text_value::{Misread, Value};
 
 // What was noted so far: the place of the last namespace's value, 0 for none; the counts; and whether the block that is asked for was
 // found, its kind, the place of its name, and the place behind it.
@@ -37,7 +34,7 @@ pub struct Parse {
     pub scope: Scope,
     pub block: usize,
     pub at: usize,
-    pub check: Check,
+    pub check: Result<(), Refusal>,
     pub notes: Notes,
 }
 
@@ -45,30 +42,21 @@ pub struct Parse {
 pub fn goes_on(s: Parse, t: Token, wanted: Wanted) -> Parse
     ensures { result ≡ goes_on s t wanted }
 {
-    let scope = s.scope;
-    let notes = s.notes;
     Parse {
         wanted,
-        scope,
-        block: s.block,
         at: t.next,
-        check: Check::Pass,
-        notes,
+        check: Ok(()),
+        ..s
     }
 }
 
 pub fn refused_with(s: Parse, r: Refusal) -> Parse
     ensures { result ≡ refused_with s r }
 {
-    let scope = s.scope;
-    let notes = s.notes;
     Parse {
         wanted: Wanted::NoMore,
-        scope,
-        block: s.block,
-        at: s.at,
-        check: Check::Refused(r),
-        notes,
+        check: Err(r),
+        ..s
     }
 }
 
@@ -81,41 +69,37 @@ fn misfit(s: Parse, t: Token) -> Parse
 pub fn is_top(scope: Scope) -> bool
     ensures { result ≡ is_top scope }
 {
-    text_table::scope_number(scope) == 0
+    scope == Scope::Top
 }
 
 // No statement: in a block a closing brace may come, and at the top the text's end. (The kind of the open block was not full where it
 // opened, so that it can be counted.)
-pub fn on_end(rows: &[u8], asked: Asked, places: &[usize; 34], s: Parse, t: Token) -> Parse
-    requires rows_value { rows.now ≡ rows_of s.scope }
-    requires scope_value { is_full s.notes.counts s.scope ≡ false }
+pub fn on_end(asked: Asked, places: &[usize; 34], s: Parse, t: Token) -> Parse
+    requires { is_full s.notes.counts s.scope ≡ false }
     ensures { result ≡ on_end asked places.now s t }
 {
-    let scope = s.scope;
-    let top = is_top(scope);
-    if !top & (t.form == bytes::CLOSE_BRACE) {
-        return closed_block(rows, asked, places, s, t);
+    let top = is_top(s.scope);
+    if !top & (t.form == Form::CloseBrace) {
+        return closed_block(asked, places, s, t);
     }
-    if top & (t.form == text_token::END) {
+    if top & (t.form == Form::End) {
         return goes_on(s, t, Wanted::NoMore);
     }
     misfit(s, t)
 }
 
 // A closing brace: 92 there where a field without default is missing.
-fn closed_block(rows: &[u8], asked: Asked, places: &[usize; 34], s: Parse, t: Token) -> Parse
-    requires rows_value { rows.now ≡ rows_of s.scope }
-    requires scope_value { is_full s.notes.counts s.scope ≡ false }
+fn closed_block(asked: Asked, places: &[usize; 34], s: Parse, t: Token) -> Parse
+    requires { is_full s.notes.counts s.scope ≡ false }
     ensures { result ≡ closed_block asked places.now s t }
 {
-    let scope = s.scope;
-    if text_block::all_given(rows, scope, places) {
+    if text_block::all_given(s.scope, places) {
         return Parse {
             wanted: wanted_after(asked, s),
             scope: Scope::Top,
             block: 0,
             at: t.next,
-            check: Check::Pass,
+            check: Ok(()),
             notes: notes_after(asked, s, t.next),
         };
     }
@@ -126,10 +110,11 @@ fn closed_block(rows: &[u8], asked: Asked, places: &[usize; 34], s: Parse, t: To
 fn is_found(asked: Asked, s: Parse) -> bool
     ensures { result ≡ is_found asked s }
 {
-    let scope = s.scope;
-    let notes = s.notes;
-    let counts = notes.counts;
-    text_block::is_asked(asked, scope, text_block::count_of(counts, scope))
+    text_block::is_asked(
+        asked,
+        s.scope,
+        text_block::count_of(s.notes.counts, s.scope),
+    )
 }
 
 fn wanted_after(asked: Asked, s: Parse) -> Wanted
@@ -146,39 +131,26 @@ fn notes_after(asked: Asked, s: Parse, next: usize) -> Notes
     requires { is_full s.notes.counts s.scope ≡ false }
     ensures { result ≡ notes_after asked s next }
 {
-    let scope = s.scope;
-    let n = s.notes;
-    let counts = n.counts;
-    let more = text_block::counted(counts, scope);
+    let counts = text_block::counted(s.notes.counts, s.scope);
     if is_found(asked, s) {
         return Notes {
-            namespace: n.namespace,
-            counts: more,
+            counts,
             found: true,
-            kind: scope,
+            kind: s.scope,
             block: s.block,
             next,
+            ..s.notes
         };
     }
-    let kind = n.kind;
-    Notes {
-        namespace: n.namespace,
-        counts: more,
-        found: n.found,
-        kind,
-        block: n.block,
-        next: n.next,
-    }
+    Notes { counts, ..s.notes }
 }
 
 // An opening brace behind a name at the top.
-pub fn on_brace(kinds: &[u8], asked: Asked, s: Parse, t: Token, start: usize, name: &[u8]) -> Parse
-    requires { kinds.now ≡ kind_rows }
+pub fn on_brace(asked: Asked, s: Parse, t: Token, start: usize, name: &[u8]) -> Parse
     ensures { result ≡ on_brace asked s t start name.now }
 {
-    let scope = s.scope;
-    if is_top(scope) & (t.form == bytes::OPEN_BRACE) {
-        return opened_block(asked, s, t, start, text_table::kind_named(kinds, name));
+    if is_top(s.scope) & (t.form == Form::OpenBrace) {
+        return opened_block(asked, s, t, start, text_table::kind_named(name));
     }
     misfit(s, t)
 }
@@ -187,9 +159,7 @@ pub fn on_brace(kinds: &[u8], asked: Asked, s: Parse, t: Token, start: usize, na
 fn opened_block(asked: Asked, s: Parse, t: Token, start: usize, kind: Scope) -> Parse
     ensures { result ≡ opened_block asked s t start kind }
 {
-    let notes = s.notes;
-    let counts = notes.counts;
-    if text_block::is_full(counts, kind) {
+    if text_block::is_full(s.notes.counts, kind) {
         return refused_with(s, Refusal::TextBlocks(start));
     }
     Parse {
@@ -197,8 +167,8 @@ fn opened_block(asked: Asked, s: Parse, t: Token, start: usize, kind: Scope) -> 
         scope: kind,
         block: start,
         at: t.next,
-        check: Check::Pass,
-        notes,
+        check: Ok(()),
+        ..s
     }
 }
 
@@ -211,106 +181,93 @@ fn wanted_inside(asked: Asked, kind: Scope) -> Wanted
     Wanted::Statement
 }
 
-// A token where a value is wanted for a name of the scope, counted from 1, 0 for an unknown one.
-pub fn judge_value(text: &[u8], rows: &[u8], scope: Scope, t: Token, field: usize) -> Check
-    requires rows_value { rows.now ≡ rows_of scope }
-    requires start_le_end { (t.start ≤ t.end) × (t.end ≤ length text.now) }
+// A token where a value is wanted for a name of the scope, none for an unknown one.
+pub fn judge_value(text: &[u8], scope: Scope, t: Token, field: Option<usize>) -> Result<(), Refusal>
+    requires { (t.start ≤ t.end) × (t.end ≤ length text.now) }
     ensures { result ≡ value_check (held_by scope field) (token_read text.now t) t.start }
 {
-    let held = held_by(rows, scope, field);
+    let held = held_by(scope, field);
     value_check(held, text_value::read(text, t), t.start)
 }
 
-// What a name of a scope holds; 0, which is anything, for an unknown one. (No scope has more than 34 names.)
-fn held_by(rows: &[u8], scope: Scope, i: usize) -> u8
-    requires { rows.now ≡ rows_of scope }
-    ensures { result ≡ held_by scope i }
+// What a name of a scope holds; none, which is anything, for an unknown one.
+fn held_by(scope: Scope, field: Option<usize>) -> Option<Holds>
+    ensures { result ≡ held_by scope field }
 {
-    if i == 0 {
-        return 0;
-    }
-    if text_table::MOST_ROWS < i {
-        return 0;
-    }
-    text_table::holds_of(rows, i - 1)
+    text_table::fields(scope).get(field?).map(|f| f.holds)
 }
 
 // 90 for no value or one of the wrong kind, and 91 for a number past its limits where its kind is right.
-fn value_check(held: u8, reading: Reading, at: usize) -> Check
+fn value_check(
+    held: Option<Holds>,
+    reading: Result<Value, Misread>,
+    at: usize,
+) -> Result<(), Refusal>
     ensures { result ≡ value_check held reading at }
 {
     match reading {
-        Reading::Good(v) => refusal::pass_if(serves(held, given_as(v)), Refusal::TextGrammar(at)),
-        Reading::WholePast => past(serves(held, text_table::WHOLE), at),
-        Reading::DecimalPast => past(serves(held, text_table::DECIMAL), at),
-        Reading::NoValue => Check::Refused(Refusal::TextGrammar(at)),
+        Ok(v) => refusal::pass_if(serves(held, given_as(v)), Refusal::TextGrammar(at)),
+        Err(Misread::WholePast) => past(serves(held, Holds::Whole), at),
+        Err(Misread::DecimalPast) => past(serves(held, Holds::Decimal), at),
+        Err(Misread::NoValue) => Err(Refusal::TextGrammar(at)),
     }
 }
 
-fn past(served: bool, at: usize) -> Check
-    ensures { result ≡ Refused (cond served (TextNumber at) (TextGrammar at)) }
+fn past(served: bool, at: usize) -> Result<(), Refusal>
+    ensures { result ≡ Err (cond served (TextNumber at) (TextGrammar at)) }
 {
     if served {
-        return Check::Refused(Refusal::TextNumber(at));
+        return Err(Refusal::TextNumber(at));
     }
-    Check::Refused(Refusal::TextGrammar(at))
+    Err(Refusal::TextGrammar(at))
 }
 
-fn given_as(v: Value) -> u8
+fn given_as(v: Value) -> Holds
     ensures { result ≡ given_as v }
 {
     match v {
-        Value::Whole(_) => text_table::WHOLE,
-        Value::Decimal(_) => text_table::DECIMAL,
-        Value::Text(_, _) => text_table::STRING,
-        Value::Flag(_) => text_table::FLAG,
+        Value::Whole(_) => Holds::Whole,
+        Value::Decimal(_) => Holds::Decimal,
+        Value::Text(_, _) => Holds::String,
+        Value::Flag(_) => Holds::Flag,
     }
 }
 
-fn serves(held: u8, given: u8) -> bool
+// A whole number serves for a decimal.
+fn serves(held: Option<Holds>, given: Holds) -> bool
     ensures { result ≡ serves held given }
 {
-    (held == 0) | ((held == given) | ((held == text_table::DECIMAL) & (given == text_table::WHOLE)))
+    match held {
+        Some(held) => (held == given) | ((held == Holds::Decimal) & (given == Holds::Whole)),
+        None => true,
+    }
 }
 
 // `;` behind a value.
-pub fn on_semicolon(s: Parse, t: Token, field: usize, place: usize) -> Parse
+pub fn on_semicolon(s: Parse, t: Token, field: Option<usize>, place: usize) -> Parse
     ensures { result ≡ on_semicolon s t field place }
 {
-    let scope = s.scope;
-    if t.form == bytes::SEMICOLON {
+    if t.form == Form::Semicolon {
         return Parse {
             wanted: Wanted::Statement,
-            scope,
-            block: s.block,
             at: t.next,
-            check: Check::Pass,
+            check: Ok(()),
             notes: notes_assigned(s, field, place),
+            ..s
         };
     }
     misfit(s, t)
 }
 
-// The only name that the top knows, 1, is the namespace: the last one's value counts.
-fn notes_assigned(s: Parse, field: usize, place: usize) -> Notes
+// The only name that the top knows is the namespace: the last one's value counts.
+fn notes_assigned(s: Parse, field: Option<usize>, place: usize) -> Notes
     ensures { result ≡ notes_assigned s field place }
 {
-    let scope = s.scope;
-    let n = s.notes;
-    let counts = n.counts;
-    let kind = n.kind;
-    Notes {
-        namespace: place_if(is_top(scope) & (field != 0), place, n.namespace),
-        counts,
-        found: n.found,
-        kind,
-        block: n.block,
-        next: n.next,
+    if is_top(s.scope) & field.is_some() {
+        return Notes {
+            namespace: place,
+            ..s.notes
+        };
     }
-}
-
-fn place_if(ok: bool, place: usize, before: usize) -> usize
-    ensures { result ≡ cond ok place before }
-{
-    if ok { place } else { before }
+    s.notes
 }

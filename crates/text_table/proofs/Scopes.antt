@@ -1,5 +1,6 @@
 -- A scope is known by its number. Assumes nothing.
-use Prim.Native.Nat.{ℕ}
+use Prim.Native.Nat.{ℕ, ◌-◌}
+use Rattle.std.specs.Prelude.{Some}
 use mathlib.Core.Path.{◌≡◌, refl, sym, ap, ◌∙◌}
 use Rattle.text_table.specs.declared.scope.Scope.{Scope}
 use Rattle.text_table.specs.declared.scope.Scope.TheVariants.{Top, Vertex, Linedef, Sidedef, Sector, Thing, Unknown}
@@ -9,7 +10,7 @@ use mathlib.Core.Bool.{cond}
 
 -- the scope of a number, the top among them
 scope_at : ℕ → Scope
-scope_at n = cond (eqb n 0) Top (scope_of n)
+scope_at n = cond (eqb n 0) Top (scope_of (Some (n - 1)))
 
 scope-again : (k : Scope) → scope_at (scope_number k) ≡ k
 unfolding scope_at

@@ -4,4 +4,3 @@ pub mod Scopes
 pub mod Table
 pub mod Rows
 pub mod Names
-pub mod Inner

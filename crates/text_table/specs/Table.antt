@@ -1,9 +1,13 @@
 -- The names of a text map (02, W-206; document 002, "Standardized Fields" and its last note): the kinds of block, the
 -- global name, and the fields of each kind in the document's order, each with what it holds and what it is where no
 -- value is given. Assumes nothing.
-use Rattle.std.specs.Prelude.{ℕ, Bool, List, [], ◌∷◌, eqb, get_or}
+use Rattle.std.specs.Prelude.{ℕ, Bool, true, false, cond, Option, Some, None, List, [], ◌∷◌, ltb, length, get_or}
 use Prim.Native.Char.{code}
 use Prim.Native.String.{String, [] as []ˢ, ◌∷◌ as ◌∷ˢ◌}
+use Rattle.text_table.specs.declared.field.Holds.{Holds}
+use Rattle.text_table.specs.declared.field.Holds.TheVariants.{Whole, Decimal, String as StringHeld, Flag}
+use Rattle.text_table.specs.declared.field.Fallback.{Fallback}
+use Rattle.text_table.specs.declared.field.Fallback.TheVariants.{Required, Zero, MinusOne, Light, ByNamespace}
 use Rattle.text_table.specs.declared.scope.Scope.{Scope}
 use Rattle.text_table.specs.declared.scope.Scope.TheVariants.{Top, Vertex, Linedef, Sidedef, Sector, Thing, Unknown}
 
@@ -12,63 +16,60 @@ abbrev pub bytes : String → List ℕ
 bytes []ˢ = []
 bytes (c ∷ˢ s) = code c ∷ bytes s
 
--- what a field holds; the last two are rows that are no fields: the name of a kind of block, and a name that is
--- compared byte for byte. (The code's rows have the letters w, d, s, f, b and e.)
-abbrev pub whole : ℕ
-whole = 119
+-- what a field holds
+abbrev pub whole : Holds
+whole = Whole
 
-abbrev pub decimal : ℕ
-decimal = 100
+abbrev pub decimal : Holds
+decimal = Decimal
 
-abbrev pub string : ℕ
-string = 115
+abbrev pub string : Holds
+string = StringHeld
 
-abbrev pub flag : ℕ
-flag = 102
+abbrev pub flag : Holds
+flag = Flag
 
-abbrev pub block_name : ℕ
-block_name = 98
-
-abbrev pub exact_name : ℕ
-exact_name = 101
+-- what a field holds, as a number
+abbrev pub holds_number : Holds → ℕ
+holds_number Whole = 0
+holds_number Decimal = 1
+holds_number StringHeld = 2
+holds_number Flag = 3
 
 -- what a field is where no value is given: nothing, so that one must be given; 0, false or no string; -1; 160; 0 or -1
--- by the namespace. The last is that of a row that is no field. (The letters are !, 0, m, l, n and a space.)
-abbrev pub required : ℕ
-required = 33
+-- by the namespace
+abbrev pub required : Fallback
+required = Required
 
-abbrev pub zero_value : ℕ
-zero_value = 48
+abbrev pub zero_value : Fallback
+zero_value = Zero
 
-abbrev pub minus_one : ℕ
-minus_one = 109
+abbrev pub minus_one : Fallback
+minus_one = MinusOne
 
-abbrev pub light : ℕ
-light = 108
+abbrev pub light : Fallback
+light = Light
 
-abbrev pub by_namespace : ℕ
-by_namespace = 110
-
-abbrev pub none : ℕ
-none = 32
+abbrev pub by_namespace : Fallback
+by_namespace = ByNamespace
 
 -- a row: the bytes of a name, what it holds, and what it is by default
 pub record Row : Type 0 where
   pub name : List ℕ
-  pub holds : ℕ
-  pub default : ℕ
+  pub holds : Holds
+  pub default : Fallback
 
-abbrev pub row : String → ℕ → ℕ → Row
+abbrev pub row : String → Holds → Fallback → Row
 row name holds default = record { name = bytes name; holds = holds; default = default }
 
 -- the kinds of block
-unfoldable pub kind_names : List Row
+unfoldable pub kind_names : List (List ℕ)
 kind_names =
-    row "vertex" block_name none
-    ∷ row "linedef" block_name none
-    ∷ row "sidedef" block_name none
-    ∷ row "sector" block_name none
-    ∷ row "thing" block_name none
+    bytes "vertex"
+    ∷ bytes "linedef"
+    ∷ bytes "sidedef"
+    ∷ bytes "sector"
+    ∷ bytes "thing"
     ∷ []
 
 -- the one global name
@@ -185,11 +186,11 @@ thing_fields =
     ∷ []
 
 -- the namespaces whose linedefs have id 0 by default
-unfoldable pub zero_id_names : List Row
+unfoldable pub zero_id_names : List (List ℕ)
 zero_id_names =
-    row "Doom" exact_name none
-    ∷ row "Heretic" exact_name none
-    ∷ row "Strife" exact_name none
+    bytes "Doom"
+    ∷ bytes "Heretic"
+    ∷ bytes "Strife"
     ∷ []
 
 -- the names of a scope: at the top the global name, in a block the fields of its kind
@@ -204,16 +205,24 @@ fields_of Unknown = []
 
 -- past the last row
 abbrev pub no_row : Row
-no_row = record { name = []; holds = 0; default = 0 }
+no_row = record { name = []; holds = Whole; default = Zero }
 
--- what the field of row `i` holds, 0 past the last
-abbrev pub holds_of : List Row → ℕ → ℕ
-holds_of rows i = (get_or rows i no_row).holds
+-- what the field of row `i` holds, nothing past the last
+abbrev pub holds_of : List Row → ℕ → Option Holds
+holds_of rows i = cond (ltb i (length rows)) (Some (get_or rows i no_row).holds) None
 
 -- what it is by default, 0 past the last
-abbrev pub default_of : List Row → ℕ → ℕ
+abbrev pub default_of : List Row → ℕ → Fallback
 default_of rows i = (get_or rows i no_row).default
+
+-- a field without default
+abbrev pub is_none : Fallback → Bool
+is_none Required = true
+is_none Zero = false
+is_none MinusOne = false
+is_none Light = false
+is_none ByNamespace = false
 
 -- the field of row `i` has no default
 abbrev pub is_required : List Row → ℕ → Bool
-is_required rows i = eqb (default_of rows i) required
+is_required rows i = is_none (default_of rows i)

@@ -4,3 +4,4 @@ pub mod Scans
 pub mod QuoteRuns
 pub mod Parts
 pub mod Tokens
+pub mod Forms

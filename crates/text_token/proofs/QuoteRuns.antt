@@ -1,14 +1,16 @@
 -- Laws of a string read run by run: bytes that mean nothing, and a backslash with the byte that it takes. Assumes nothing.
-use Prim.Native.Nat.{ℕ, ◌+◌, ◌-◌, ◌<◌}
-use mathlib.Core.Bool.{Bool, true, false, ◌||◌, true≢false}
+use Prim.Native.Nat.{ℕ, zero, suc, ◌+◌, ◌-◌, ◌≤◌, ◌<◌}
+use mathlib.Core.Bool.{Bool, true, false, not, ◌||◌, cond, true≢false}
 use mathlib.Core.List.{List}
-use mathlib.Core.Path.{◌≡◌, refl, ap, ◌∙◌}
+use mathlib.Core.Path.{◌≡◌, refl, sym, ap, ◌∙◌, subst}
 use native.Mathlib.Omega.{arith}
 use lib.Dec.{eqb}
 use lib.ListN.{get_or, length}
 use Rattle.text_byte.specs.Bytes.{double_quote, backslash}
 use Rattle.text_token.specs.Tokens.{quote_end}
-use Rattle.text_byte.proofs.Spans.{neither}
+use Rattle.text_byte.specs.Spans.{span_end}
+use Rattle.text_byte.proofs.Spans.{neither, by_test}
+use Rattle.text_token.specs.Inner.{ends_run, StringRun}
 use Rattle.text_token.proofs.Scans.{quote_more, quote_done}
 
 -- of a quote and a backslash the second, where it is not the first
@@ -39,3 +41,24 @@ module _ (text : List ℕ) (at : ℕ) where
       ∙ ap (λ (x : Bool). quote_end text x (at + 1) (length text - (at + 1))) f
       ∙ quote_more text true (at + 1) (length text) h refl
       ∙ ap (λ (k : ℕ). quote_end text false k (length text - k)) two
+
+module _ (text : List ℕ) where
+  -- the byte at a place is neither a quote nor a backslash
+  abbrev pub plain_at : ℕ → Bool
+  plain_at i = not (ends_run text i)
+
+  -- over such bytes the string goes on
+  run_for : (n at : ℕ) → n + at ≡ length text → StringRun text at (span_end plain_at at n)
+  unfolding span_end
+  run_for zero at e = record { same = refl; onward = omega arith; stops = λ h. absurd (omega (arith, h, e)) }
+  run_for (suc n) at e =
+      by_test (ends_run text at)
+      (λ t. subst (StringRun text at) (ap (λ (x : Bool). cond x (span_end plain_at (at + 1) n) at) (sym (ap not t)))
+      (record { same = refl; onward = omega arith; stops = λ _. t }))
+      (λ t. let next = run_for n (at + 1) (omega arith) in
+      let o = next.onward in
+      subst (StringRun text at) (ap (λ (x : Bool). cond x (span_end plain_at (at + 1) n) at) (sym (ap not t)))
+      (record { same = quote_plain text at (omega (arith, e)) t ∙ next.same; onward = omega arith; stops = next.stops }))
+
+  pub runs_to : (from : ℕ) → from ≤ length text → {to : ℕ} → to ≡ span_end plain_at from (length text - from) → StringRun text from to
+  runs_to from h e = subst (StringRun text from) (sym e) (run_for (length text - from) from (omega arith))

@@ -7,11 +7,6 @@ use Rattle.text_token.specs.Tokens.{quote_end}
 abbrev pub ends_run : List ℕ → ℕ → Bool
 ends_run text i = eqb (get_or text i 0) double_quote || eqb (get_or text i 0) backslash
 
--- from `at` to `to` a string has neither
-pub record PlainRun (text : List ℕ) (at to : ℕ) : Type 0 where
-  pub same : quote_end text false at (length text - at) ≡ quote_end text false to (length text - to)
-  pub onward : at ≤ to
-
 -- from `at` to `to` a string has neither a quote nor a backslash; one of them stands at `to`, or the text ends there
 pub record StringRun (text : List ℕ) (at to : ℕ) : Type 0 where
   pub same : quote_end text false at (length text - at) ≡ quote_end text false to (length text - to)

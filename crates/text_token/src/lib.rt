@@ -2,29 +2,37 @@
 // definitions are in specs/.
 #![tactic(auto)]
 
-ghost use Rattle.std.specs.Prelude.{true, false, not, ◌≡◌, ◌+◌, ◌-◌, ◌≤◌, ◌<◌, length};
+ghost use Rattle.std.specs.Prelude.{true, false, ◌≡◌, ◌+◌, ◌-◌, ◌≤◌, ◌<◌, length};
 ghost use Rattle.text_byte.specs.Bytes.{is_mark};
 ghost use Rattle.text_byte.specs.Spans.{span_end};
-ghost use Rattle.text_token.specs.Tokens.{in_word, quote_end, ended, string_to, word_to, token_here, token_behind, token_at, bytes_of, word_of, Placed};
-ghost use Rattle.text_byte.specs.WordBytes.{Unseen};
-ghost use Rattle.text_token.specs.Inner.{ends_run, PlainRun, StringRun};
+ghost use Rattle.text_token.specs.Tokens.{mark_form, in_word, quote_end, ended, string_to, word_to, token_here, token_behind, token_at, bytes_of, word_of, Placed};
+ghost use Rattle.text_token.specs.Inner.{StringRun};
 
+use memchr::memchr2;
 use text_byte as bytes;
 use text_gap::Gap;
 
-// The forms of tokens. That of a mark is its own byte.
-pub const END: u8 = 0;
-
-pub const UNCLOSED: u8 = 1;
-
-pub const WORD: u8 = 2;
-
-pub const STRING: u8 = 34;
+// What a token is: the text's end; a comment or string that is never closed, which ends the text too; a word; a string;
+// or a mark.
+#[derive(Clone, Copy, PartialEq, Eq)]
+pub enum Form {
+    End,
+    Unclosed,
+    Word,
+    String,
+    OpenBrace,
+    CloseBrace,
+    OpenParenthesis,
+    CloseParenthesis,
+    Semicolon,
+    EqualsSign,
+    Apostrophe,
+}
 
 // A token's form, its first byte, the byte behind its last (of a string: the closing quote), and the place to go on.
 #[derive(Clone, Copy)]
 pub struct Token {
-    pub form: u8,
+    pub form: Form,
     pub start: usize,
     pub end: usize,
     pub next: usize,
@@ -48,7 +56,7 @@ pub fn mark_at(text: &[u8], from: usize, mark: u8) -> Token
     if at < text.len() {
         if text[at] == mark {
             return Token {
-                form: mark,
+                form: mark_form(mark),
                 start: at,
                 end: at + 1,
                 next: at + 1,
@@ -61,15 +69,13 @@ pub fn mark_at(text: &[u8], from: usize, mark: u8) -> Token
 fn token_behind(text: &[u8], g: Gap) -> Token
     ensures { result ≡ token_behind text.now g }
 {
-    let at = g.at;
-    if at < text.len() {
-        return token_here(text, at);
+    if g.at < text.len() {
+        return token_here(text, g.at);
     }
-    let mode = g.mode;
-    if text_gap::is_open(mode) {
-        return ended(text, UNCLOSED);
+    if text_gap::is_open(g.mode) {
+        return ended(text, Form::Unclosed);
     }
-    ended(text, END)
+    ended(text, Form::End)
 }
 
 fn token_here(text: &[u8], at: usize) -> Token
@@ -82,7 +88,7 @@ fn token_here(text: &[u8], at: usize) -> Token
     }
     if bytes::is_mark(b) {
         return Token {
-            form: b,
+            form: mark_form(b),
             start: at,
             end: at + 1,
             next: at + 1,
@@ -91,18 +97,33 @@ fn token_here(text: &[u8], at: usize) -> Token
     word_to(at, word_end(text, at + 1))
 }
 
+// The form of a mark.
+fn mark_form(b: u8) -> Form
+    ensures { result ≡ mark_form b }
+{
+    match b {
+        b'{' => Form::OpenBrace,
+        b'}' => Form::CloseBrace,
+        b'(' => Form::OpenParenthesis,
+        b')' => Form::CloseParenthesis,
+        b';' => Form::Semicolon,
+        b'=' => Form::EqualsSign,
+        _ => Form::Apostrophe,
+    }
+}
+
 fn string_to(text: &[u8], at: usize, end: usize) -> Token
     ensures { result ≡ string_to text.now at end }
 {
     if end < text.len() {
         return Token {
-            form: STRING,
+            form: Form::String,
             start: at,
             end,
             next: end + 1,
         };
     }
-    ended(text, UNCLOSED)
+    ended(text, Form::Unclosed)
 }
 
 // A word from its first byte to the byte behind its last.
@@ -110,14 +131,14 @@ pub fn word_to(at: usize, end: usize) -> Token
     ensures { result ≡ word_to at end }
 {
     Token {
-        form: WORD,
+        form: Form::Word,
         start: at,
         end,
         next: end,
     }
 }
 
-fn ended(text: &[u8], form: u8) -> Token
+fn ended(text: &[u8], form: Form) -> Token
     ensures { result ≡ ended text.now form }
 {
     Token {
@@ -132,29 +153,20 @@ fn ended(text: &[u8], form: u8) -> Token
 fn word_end(text: &[u8], from: usize) -> usize
     ensures { result ≡ span_end (in_word text.now) from (length text.now - from) }
 {
-    let mut at = from;
-    while at < text.len() {
-        if ends_at(text, at) {
-            return at;
-        }
-        at += 1;
-    }
-    at
+    bytes::span_end(from, text.len(), |at| in_word(text, at))
 }
 
-fn ends_at(text: &[u8], at: usize) -> bool
+fn in_word(text: &[u8], at: usize) -> bool
     requires { at < length text.now }
-    ensures { not result ≡ in_word text.now at }
+    ensures { result ≡ in_word text.now at }
 {
     let b = text[at];
-    if bytes::is_plain(b) {
-        return false;
-    }
-    bytes::ends_word(b, bytes::byte_at(text, at + 1))
+    bytes::is_plain(b) || !bytes::ends_word(b, bytes::byte_at(text, at + 1))
 }
 
 // The closing quote of a string: a backslash takes the next byte, whatever it is.
 fn quote_end(text: &[u8], from: usize) -> usize
+    requires { from ≤ length text.now }
     ensures { result ≡ quote_end text.now false from (length text.now - from) }
 {
     let mut at = string_run(text, from);
@@ -172,46 +184,13 @@ fn quote_end(text: &[u8], from: usize) -> usize
 
 // Past the bytes of a string that are neither a quote nor a backslash.
 fn string_run(text: &[u8], from: usize) -> usize
+    requires { from ≤ length text.now }
     ensures { StringRun text.now from result }
 {
-    let mut at = plain_blocks(text, from);
-    while at < text.len() {
-        let b = text[at];
-        if (b == bytes::DOUBLE_QUOTE) | (b == bytes::BACKSLASH) {
-            return at;
-        }
-        at += 1;
+    match memchr2(bytes::DOUBLE_QUOTE, bytes::BACKSLASH, &text[from..]) {
+        Some(i) => from + i,
+        None => text.len(),
     }
-    at
-}
-
-// Past blocks of 16 bytes that have neither: all of a block are compared at once.
-fn plain_blocks(text: &[u8], from: usize) -> usize
-    ensures { PlainRun text.now from result }
-{
-    if text.len() < from {
-        return from;
-    }
-    let mut at = from;
-    while 16 <= text.len() - at {
-        if block_ends(text, at) {
-            return at;
-        }
-        at += 16;
-    }
-    at
-}
-
-fn block_ends(text: &[u8], at: usize) -> bool
-    requires { at + 16 ≤ length text.now }
-    ensures { Unseen (ends_run text.now) at (at + 16) result }
-{
-    let mut has = false;
-    for i in 0..16 {
-        let b = text[at + i];
-        has = has | ((b == bytes::DOUBLE_QUOTE) | (b == bytes::BACKSLASH));
-    }
-    has
 }
 
 // The bytes of a word.
@@ -219,23 +198,12 @@ pub fn word_of(text: &[u8], t: Token) -> &[u8]
     requires { (t.start ≤ t.end) × (t.end ≤ length text.now) }
     ensures { result.now ≡ word_of text.now t }
 {
-    let start = t.start;
-    let end = t.end;
-    &text[start..end]
+    &text[t.start..t.end]
 }
 
 // The bytes from `start` up to `end`, as far as the text has them.
 pub fn bytes_of(text: &[u8], start: usize, end: usize) -> &[u8]
     ensures { result.now ≡ bytes_of text.now start end }
 {
-    if end <= start {
-        return &text[0..0];
-    }
-    if text.len() <= start {
-        return &text[0..0];
-    }
-    if text.len() < end {
-        return &text[start..];
-    }
-    &text[start..end]
+    text.get(start..end.min(text.len())).unwrap_or(&[])
 }

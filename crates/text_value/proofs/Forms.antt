@@ -7,14 +7,14 @@ use native.Mathlib.Omega.{arith}
 use borrow.Author.Tests.{ltb-true, eqb-true, ne_eqb}
 use lib.Dec.{ltb, eqb}
 use lib.ListN.{length, get_or}
+use Rattle.std.specs.Prelude.{Err}
 use Rattle.text_byte.specs.Bytes.{is_digit}
 use Rattle.text_byte.proofs.Spans.{span_more, span_stop}
 use Rattle.text_value.specs.Numbers.{zero_digit, small_x, minus_sign, digits_from, digits_end, hex_ok, whole_ok, behind_sign}
 use Rattle.text_value.specs.Inner.Digits.{is_hex, is_point}
 use Rattle.text_value.proofs.Numbers.{cap, hex_ok-is, decimal_ok-is, whole_ok-end}
-use Rattle.text_value.specs.declared.Reading.{Reading}
-use Rattle.text_value.specs.declared.Reading.TheVariants.{NoValue}
-use Rattle.text_value.specs.Values.{whole_read, digits_read, number_read}
+use Rattle.text_value.specs.declared.Misread.TheVariants.{NoValue}
+use Rattle.text_value.specs.Values.{Reading, whole_read, digits_read, number_read}
 use Rattle.text_value.specs.Inner.Forms.{hex_read, point_read}
 use Rattle.text_value.proofs.Capped.{whole_read_capped}
 
@@ -34,7 +34,7 @@ module _ (word : List ℕ) (minus : Bool) (at behind : ℕ) where
   pub point_form : whole_ok word at behind ≡ false → is_point word at behind ≡ true → point_read word minus at behind ≡ digits_read word minus at behind
   point_form whole e = simp (whole, decimal_ok-is word at behind e)
 
-  pub no_form : whole_ok word at behind ≡ false → is_point word at behind ≡ false → NoValue ≡ digits_read word minus at behind
+  pub no_form : whole_ok word at behind ≡ false → is_point word at behind ≡ false → Err NoValue ≡ digits_read word minus at behind
   no_form whole e = simp (whole, decimal_ok-is word at behind e)
 
 module _ (word : List ℕ) where
@@ -46,7 +46,7 @@ module _ (word : List ℕ) where
       (eqb-true (get_or word 0 0) zero_digit q.0, (eqb-true (get_or word 1 0) small_x q.1, ltb-true 2 (length word) p.1))
 
   -- a word that begins with 0x is no other number: its digits end at the x
-  hex_alone : is_hex word ≡ true → number_read word ≡ NoValue
+  hex_alone : is_hex word ≡ true → number_read word ≡ Err NoValue
   hex_alone e =
       let h = hex_bytes e in
       let at : behind_sign (get_or word 0 0) ≡ 0 = ap behind_sign h.0 in

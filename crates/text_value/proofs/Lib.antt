@@ -3,3 +3,4 @@
 pub mod Numbers
 pub mod Capped
 pub mod Forms
+pub mod Keywords

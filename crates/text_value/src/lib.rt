@@ -11,7 +11,7 @@ ghost use Rattle.text_value.specs.Inner.Forms.{hex_read, point_read};
 
 use number as numbers;
 use text_byte as bytes;
-use text_token::Token;
+use text_token::{Form, Token};
 
 // A value: of a string the places after its opening quote and of its closing one.
 #[derive(Clone, Copy)]
@@ -22,37 +22,34 @@ pub enum Value {
     Flag(bool),
 }
 
-// What stands where a value is wanted: a value; a whole number or a decimal past its limits; or no value.
-#[derive(Clone, Copy)]
-pub enum Reading {
-    Good(Value),
+// Why a token is no value: a whole number or a decimal past its limits; or anything else.
+#[derive(Clone, Copy, PartialEq, Eq)]
+pub enum Misread {
     WholePast,
     DecimalPast,
     NoValue,
 }
 
 // A token as a value.
-pub fn read(text: &[u8], t: Token) -> Reading
+pub fn read(text: &[u8], t: Token) -> Result<Value, Misread>
     requires { (t.start ≤ t.end) × (t.end ≤ length text.now) }
     ensures { result ≡ token_read text.now t }
 {
-    if t.form == text_token::STRING {
-        return Reading::Good(Value::Text(t.start + 1, t.end));
+    match t.form {
+        Form::String => Ok(Value::Text(t.start + 1, t.end)),
+        Form::Word => word_read(text_token::word_of(text, t)),
+        _ => Err(Misread::NoValue),
     }
-    if t.form == text_token::WORD {
-        return word_read(text_token::word_of(text, t));
-    }
-    Reading::NoValue
 }
 
-fn word_read(word: &[u8]) -> Reading
+fn word_read(word: &[u8]) -> Result<Value, Misread>
     ensures { result ≡ word_read word.now }
 {
     if is_true(word) {
-        return Reading::Good(Value::Flag(true));
+        return Ok(Value::Flag(true));
     }
     if is_false(word) {
-        return Reading::Good(Value::Flag(false));
+        return Ok(Value::Flag(false));
     }
     if numbers::is_hex(word) {
         return hex_read(word);
@@ -61,41 +58,29 @@ fn word_read(word: &[u8]) -> Reading
 }
 
 // Behind 0x only hexadecimal digits make a value.
-fn hex_read(word: &[u8]) -> Reading
+fn hex_read(word: &[u8]) -> Result<Value, Misread>
     ensures { result ≡ hex_read word.now }
 {
     let d = numbers::digits_at(word, 16, 0, 2);
     if d.end == word.len() {
         return whole_read(false, d.number);
     }
-    Reading::NoValue
+    Err(Misread::NoValue)
 }
 
-// The length is asked first: most words are of another.
 fn is_true(word: &[u8]) -> bool
     ensures { result ≡ is_true word.now }
 {
-    if word.len() == 4 {
-        return (bytes::lower(word[0]) == 116)
-            & ((bytes::lower(word[1]) == 114)
-                & ((bytes::lower(word[2]) == 117) & (bytes::lower(word[3]) == 101)));
-    }
-    false
+    word.eq_ignore_ascii_case(b"true")
 }
 
 fn is_false(word: &[u8]) -> bool
     ensures { result ≡ is_false word.now }
 {
-    if word.len() == 5 {
-        return (bytes::lower(word[0]) == 102)
-            & ((bytes::lower(word[1]) == 97)
-                & ((bytes::lower(word[2]) == 108)
-                    & ((bytes::lower(word[3]) == 115) & (bytes::lower(word[4]) == 101))));
-    }
-    false
+    word.eq_ignore_ascii_case(b"false")
 }
 
-fn number_read(word: &[u8]) -> Reading
+fn number_read(word: &[u8]) -> Result<Value, Misread>
     ensures { result ≡ number_read word.now }
 {
     let first = bytes::byte_at(word, 0);
@@ -107,20 +92,26 @@ fn number_read(word: &[u8]) -> Reading
     if numbers::is_point(word, at, d.end) {
         return decimal_read(word, first == numbers::MINUS_SIGN, at, d.end, d.number);
     }
-    Reading::NoValue
+    Err(Misread::NoValue)
 }
 
-fn whole_read(minus: bool, n: u64) -> Reading
+fn whole_read(minus: bool, n: u64) -> Result<Value, Misread>
     ensures { result ≡ whole_read minus n }
 {
     if n <= numbers::most_of(minus) {
-        return Reading::Good(Value::Whole(numbers::signed(minus, n)));
+        return Ok(Value::Whole(numbers::signed(minus, n)));
     }
-    Reading::WholePast
+    Err(Misread::WholePast)
 }
 
 // The digits before the point come to `before`.
-fn decimal_read(word: &[u8], minus: bool, at: usize, point: usize, before: u64) -> Reading
+fn decimal_read(
+    word: &[u8],
+    minus: bool,
+    at: usize,
+    point: usize,
+    before: u64,
+) -> Result<Value, Misread>
     requires { (at < point) × ((point < length word.now)
         × (before ≡ min (digits_from word.now 10 0 at (point - at)) 9007199254740992)) }
     ensures { result ≡ point_read word.now minus at point }
@@ -128,10 +119,11 @@ fn decimal_read(word: &[u8], minus: bool, at: usize, point: usize, before: u64) 
     let d = numbers::digits_at(word, 10, before, point + 1);
     let end = word.len();
     if d.end != end {
-        return Reading::NoValue;
+        return Err(Misread::NoValue);
     }
     if (end - at <= 16) & (end - point <= 7) {
-        return Reading::Good(Value::Decimal(numbers::quotient(minus, d.number, end - (point + 1))));
+        let quotient = numbers::quotient(minus, d.number, end - (point + 1));
+        return Ok(Value::Decimal(quotient));
     }
-    Reading::DecimalPast
+    Err(Misread::DecimalPast)
 }

@@ -9,8 +9,8 @@ use lib.Dec.{leb}
 use lib.ListN.{length, drop}
 use Rattle.refusal.specs.declared.Refusal.{Refusal}
 use Rattle.refusal.specs.declared.Refusal.TheVariants.{DifferenceRoom, DifferenceGames}
-use Rattle.refusal.specs.declared.Check.{Check}
-use Rattle.refusal.specs.declared.Check.TheVariants.{Pass, Refused}
+use Rattle.refusal.specs.Checks.{Check}
+use Rattle.std.specs.Prelude.{Ok, Err}
 use Rattle.refusal.specs.Checks.{unless}
 use Rattle.refusal.specs.Table.{number_of}
 use Rattle.refusal.proofs.Checks.{and_then_pass, unless_pass}
@@ -22,9 +22,7 @@ use Rattle.map_lumps.specs.Lumps.{map_lump}
 use Rattle.map_lumps.specs.Run.{run_check}
 use Rattle.map_check.specs.Lumps.{lumps_check}
 use Rattle.map_check.proofs.CountsPassing.{count-whole}
-use Rattle.map_check.specs.declared.Verdict.{Verdict}
-use Rattle.map_check.specs.declared.Verdict.TheVariants.{Accepted, Refused as NotAccepted}
-use Rattle.map_check.specs.Verdict.{verdict, words_after}
+use Rattle.map_check.specs.Verdict.{Verdict, accepted, verdict, words_after}
 use Rattle.map_check.proofs.Passing.{counts}
 use Rattle.theorem_map.proofs.Demands.{known}
 use Rattle.difference.specs.Differences.{changes_at, changes_in, game_in, lumps_in, same_game, change_list, change_counts, pair_check, pair_answer, differences_by, list_by}
@@ -41,7 +39,7 @@ refused-not r e = let some = number-some r in absurd (omega (arith, some, e))
 
 -- ---- two accepted maps
 
-module _ (oldWad newWad newName words : List ℕ) (depth old new : ℕ) (e : verdict newWad newName words ≡ Accepted depth new) where
+module _ (oldWad newWad newName words : List ℕ) (depth old new : ℕ) (e : verdict newWad newName words ≡ accepted depth new) where
   -- the changed records at a place are those that must be copied
   changes_copy : same_game (game_in oldWad old) (game_in newWad new) ≡ true → (place : ℕ) → 1 ≤ place → place ≤ 8
       → Copies (record_size (game_in oldWad old) place) (map_lump (lumps_in oldWad old) place) (map_lump (lumps_in newWad new) place)
@@ -72,12 +70,12 @@ module _ (oldWad oldName newWad newName words list : List ℕ) (answer : Differe
   abbrev middle : List ℕ
   middle = words_after oldWad oldName words
 
-  by_pair : (d old e new : ℕ) → verdict oldWad oldName words ≡ Accepted d old → verdict newWad newName middle ≡ Accepted e new
+  by_pair : (d old e new : ℕ) → verdict oldWad oldName words ≡ accepted d old → verdict newWad newName middle ≡ accepted e new
       → (c : Check) → pair_check oldWad old newWad new (length list) ≡ c
       → answer ≡ differences_out (pair_answer c (change_counts (game_in oldWad old) (lumps_in oldWad old) (lumps_in newWad new)))
       → listThen ≡ buffer_after c (change_list oldWad old newWad new) list → Handed oldWad oldName newWad newName words answer.counts listThen
-  by_pair d old e new v w (Refused r) p a l = refused-not r (sym (ap (λ (x : DifferencesAnswer). x.status.number) a) ∙ zero)
-  by_pair d old e new v w Pass p a l =
+  by_pair d old e new v w (Err r) p a l = refused-not r (sym (ap (λ (x : DifferencesAnswer). x.status.number) a) ∙ zero)
+  by_pair d old e new v w (Ok _) p a l =
       let hexen = game_in oldWad old in
       let room = unless (leb (length (change_list oldWad old newWad new)) (length list)) DifferenceRoom in
       let game =
@@ -102,10 +100,10 @@ module _ (oldWad oldName newWad newName words list : List ℕ) (answer : Differe
   by-verdicts : (v w : Verdict) → verdict oldWad oldName words ≡ v → verdict newWad newName middle ≡ w
       → answer ≡ differences_out (differences_by v w oldWad newWad (length list)) → listThen ≡ list_by v w oldWad newWad list
       → Handed oldWad oldName newWad newName words answer.counts listThen
-  by-verdicts (NotAccepted r) w p q a l = refused-not r (sym (ap (λ (x : DifferencesAnswer). x.status.number) a) ∙ zero)
-  by-verdicts (Accepted d old) (NotAccepted r) p q a l = refused-not r (sym (ap (λ (x : DifferencesAnswer). x.status.number) a) ∙ zero)
-  by-verdicts (Accepted d old) (Accepted e new) p q a l =
-      by_pair d old e new p q (pair_check oldWad old newWad new (length list)) refl a l
+  by-verdicts (Err r) w p q a l = refused-not r (sym (ap (λ (x : DifferencesAnswer). x.status.number) a) ∙ zero)
+  by-verdicts (Ok old) (Err r) p q a l = refused-not r (sym (ap (λ (x : DifferencesAnswer). x.status.number) a) ∙ zero)
+  by-verdicts (Ok old) (Ok new) p q a l =
+      by_pair old.depth old.marker new.depth new.marker p q (pair_check oldWad old.marker newWad new.marker (length list)) refl a l
 
 pub differences_hold : DifferencesHold
 differences_hold oldWad oldName newWad newName words list answer wordsThen listThen given zero =

@@ -6,8 +6,7 @@ use Rattle.record_field.specs.Records.{record_bytes}
 use Rattle.node_route.specs.Heights.{member}
 use Rattle.record_table.specs.Lumps.{record_size}
 use Rattle.map_lumps.specs.Lumps.{map_lump}
-use Rattle.map_check.specs.declared.Verdict.TheVariants.{Accepted}
-use Rattle.map_check.specs.Verdict.{verdict, words_after}
+use Rattle.map_check.specs.Verdict.{accepted, verdict, words_after}
 use Rattle.difference.specs.Records.{count_in}
 use Rattle.difference.specs.Differences.{game_in, lumps_in, same_game}
 use Rattle.export_differences.specs.declared.DifferencesAnswer.{DifferencesAnswer}
@@ -62,8 +61,8 @@ pub record Handed (oldWad oldName newWad newName words counts list : List ℕ) :
   pub old : ℕ
   pub new_depth : ℕ
   pub new : ℕ
-  pub old_accepted : verdict oldWad oldName words ≡ Accepted old_depth old
-  pub new_accepted : verdict newWad newName (words_after oldWad oldName words) ≡ Accepted new_depth new
+  pub old_accepted : verdict oldWad oldName words ≡ accepted old_depth old
+  pub new_accepted : verdict newWad newName (words_after oldWad oldName words) ≡ accepted new_depth new
   pub one_game : same_game (game_in oldWad old) (game_in newWad new) ≡ true
   pub copies : (place : ℕ) → 1 ≤ place → place ≤ 8
       → Copies (record_size (game_in oldWad old) place) (map_lump (lumps_in oldWad old) place) (map_lump (lumps_in newWad new) place)

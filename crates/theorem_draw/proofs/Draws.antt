@@ -9,8 +9,8 @@ use native.Mathlib.Omega.{arith}
 use borrow.Author.Tests.{le-leb}
 use lib.IntN.{ℤ}
 use lib.ListN.{length}
-use Rattle.refusal.specs.declared.Check.TheVariants.{Pass}
-use Rattle.node_route.specs.declared.Graph.{Graph}
+use Rattle.std.specs.Prelude.{Ok}
+use Rattle.std.specs.Prelude.{Ok}
 use Rattle.node.specs.Nodes.{nodes_of, subsector_bit, root}
 use Rattle.node_route.specs.Routes.{Reached}
 use Rattle.node_route.specs.Heights.{stands, height, words_from, repeats, graph_verdict}
@@ -30,7 +30,7 @@ use Rattle.theorem_draw.proofs.Fronts.{front, front_end, follow_front, front_wor
 
 module _ (nodes : List ℕ) (subsectors : ℕ) (x y : ℤ) (p : Passed nodes subsectors) where
   -- 40, 41 and 45 pass
-  order-passes : (lent : ℕ) → nodes_of nodes + 1 ≤ lent → order_check nodes subsectors lent ≡ Pass
+  order-passes : (lent : ℕ) → nodes_of nodes + 1 ≤ lent → order_check nodes subsectors lent ≡ Ok tt
   order-passes lent enough =
       rw (nodes_ok_lem nodes subsectors p, subsectors_ok_lem nodes subsectors p, le-leb (nodes_of nodes + 1) lent enough)
 
@@ -83,7 +83,7 @@ module _ (nodes : List ℕ) (subsectors : ℕ) (x y : ℤ) (p : Passed nodes sub
         once = once_by (repeats all) refl off alone;
       }
 
-  pub draws : (depth : ℕ) → graph_verdict nodes ≡ Graph.HasDepth depth → depth ≤ most_passed
+  pub draws : (depth : ℕ) → graph_verdict nodes ≡ Ok depth → depth ≤ most_passed
       → (lent : ℕ) → nodes_of nodes + 1 ≤ lent → Draws nodes subsectors x y lent
   draws depth e shallow lent enough =
       let (off, alone, is) = depth_verdict nodes e in

@@ -12,8 +12,8 @@ use lib.IntN.{ℤ}
 use lib.ListN.{length, take, drop}
 use lib.Seq.{take-append_seam}
 use Rattle.refusal.specs.declared.Refusal.{Refusal}
-use Rattle.refusal.specs.declared.Check.{Check}
-use Rattle.refusal.specs.declared.Check.TheVariants.{Pass, Refused}
+use Rattle.refusal.specs.Checks.{Check}
+use Rattle.std.specs.Prelude.{Ok, Err}
 use Rattle.refusal.specs.Table.{number_of}
 use Rattle.refusal.specs.Status.{accepted, refused}
 use Rattle.refusal.proofs.Table.{number-some}
@@ -36,9 +36,9 @@ use Rattle.map_check.proofs.Passing.{lumps_pass, subsectors-inside}
 use Rattle.theorem_map.proofs.Demands.{known, known_passed}
 use Rattle.hazard.specs.declared.Hazard.{Hazard}
 use Rattle.hazard.specs.declared.Hazard.TheVariants.{SegTwice}
-use Rattle.hazard.specs.declared.Finding.{Finding}
-use Rattle.hazard.specs.declared.Finding.TheVariants.{Nothing, Found}
-use Rattle.hazard.specs.Findings.{found_unless, ◌or_else◌, each_of}
+use Rattle.std.specs.Prelude.{Ok, Err}
+use Rattle.std.specs.Result.{result_err}
+use Rattle.hazard.specs.Findings.{Finding, found_unless, ◌or_else◌, each_of}
 use Rattle.hazard.specs.Segs.{takes_again, seg_twice_at, seg_twice}
 use Rattle.hazard.specs.Hazards.{hazard_at, hazard_by}
 use Rattle.hazard.proofs.Findings.{unless-nothing, each_none, each-suc, each-nothing}
@@ -57,26 +57,26 @@ use Rattle.theorem_draw.proofs.Segs.{drawn-once, drawn-low}
 -- ---- no hazard 1
 
 module _ (lump : List ℕ) where
-  unless-twice : (b : Bool) (k : ℕ) {h : Hazard} → found_unless b (SegTwice k) ≡ Found h → (hazard_out h).hazard ≡ 1
+  unless-twice : (b : Bool) (k : ℕ) {h : Hazard} → found_unless b (SegTwice k) ≡ Err h → (hazard_out h).hazard ≡ 1
   unless-twice true k e = let z : ◌≡◌ {A = ℕ} 0 1 = cc in absurd (omega arith)
-  unless-twice false k e = sym (ap (λ (f : Finding). (finding_out f).hazard) e)
+  unless-twice false k e = sym (ap (λ (f : Finding). (finding_out (result_err f)).hazard) e)
 
-  twice-by : (f : Finding) (k : ℕ) {h : Hazard} → ((h' : Hazard) → f ≡ Found h' → (hazard_out h').hazard ≡ 1) → f or_else seg_twice_at lump k ≡ Found h
+  twice-by : (f : Finding) (k : ℕ) {h : Hazard} → ((h' : Hazard) → f ≡ Err h' → (hazard_out h').hazard ≡ 1) → f or_else seg_twice_at lump k ≡ Err h
       → (hazard_out h).hazard ≡ 1
-  twice-by Nothing k rec e = unless-twice (not (takes_again lump k)) k e
-  twice-by (Found h') k {h} rec e = rec h e
+  twice-by (Ok _) k rec e = unless-twice (not (takes_again lump k)) k e
+  twice-by (Err h') k {h} rec e = rec h e
 
   -- what the look at segs finds has the number 1
-  twice-number : (n : ℕ) {h : Hazard} → each_of (seg_twice_at lump) n ≡ Found h → (hazard_out h).hazard ≡ 1
+  twice-number : (n : ℕ) {h : Hazard} → each_of (seg_twice_at lump) n ≡ Err h → (hazard_out h).hazard ≡ 1
   twice-number zero e = let none = each_none (seg_twice_at lump) in let z : ◌≡◌ {A = ℕ} 0 1 = cc in absurd (omega arith)
   twice-number (suc n) e = twice-by (each_of (seg_twice_at lump) n) n (λ h' q. twice-number n {h = h'} q) (sym (each-suc (seg_twice_at lump) n) ∙ e)
 
-  nothing-by : (f rest : Finding) → seg_twice lump ≡ f → ((finding_out (f or_else rest)).hazard ≡ 1 → ⊥) → seg_twice lump ≡ Nothing
-  nothing-by Nothing rest e other = e
-  nothing-by (Found h) rest e other = absurd (other (twice-number _ e))
+  nothing-by : (f rest : Finding) → seg_twice lump ≡ f → ((finding_out (result_err (f or_else rest))).hazard ≡ 1 → ⊥) → seg_twice lump ≡ Ok tt
+  nothing-by (Ok _) rest e other = e
+  nothing-by (Err h) rest e other = absurd (other (twice-number _ e))
 
   -- so that no subsector takes a seg again
-  none-again : (rest : Finding) → ((finding_out (seg_twice lump or_else rest)).hazard ≡ 1 → ⊥) → (k : ℕ) → k < length lump / subsector_size → takes_again lump k ≡ false
+  none-again : (rest : Finding) → ((finding_out (result_err (seg_twice lump or_else rest))).hazard ≡ 1 → ⊥) → (k : ℕ) → k < length lump / subsector_size → takes_again lump k ≡ false
   none-again rest other k h =
       not-true (takes_again lump k)
       (unless-nothing (not (takes_again lump k)) (SegTwice k)
@@ -95,7 +95,7 @@ module _ (nodes : List ℕ) (subsectors : ℕ) (x y : ℤ) (lent : List ℕ) whe
   -- what is known of it: the check passes, and the words begin with the list
   record Listed (count : ℕ) (drawn : List ℕ) : Type 0 where
     list : List ℕ
-    passes : order_check nodes subsectors (length lent) ≡ Pass
+    passes : order_check nodes subsectors (length lent) ≡ Ok tt
     is : root_order nodes subsectors x y ≡ listed list
     counts : count ≡ length list
     writes : drawn ≡ list ++ drop (length list) lent
@@ -106,10 +106,10 @@ module _ (nodes : List ℕ) (subsectors : ℕ) (x y : ℤ) (lent : List ℕ) whe
   listed_by_lem : (c : Check) (l : Listing) → order_check nodes subsectors (length lent) ≡ c → root_order nodes subsectors x y ≡ l
       → (order : OrderAnswer) (drawn : List ℕ) → order ≡ order_out (order_answer (listed_by c l)) → drawn ≡ words_after_check c nodes l lent
       → order.status ≡ accepted → Listed order.count drawn
-  listed_by_lem Pass (listed xs) e q order drawn a w s =
+  listed_by_lem (Ok _) (listed xs) e q order drawn a w s =
       record { list = xs; passes = e; is = q; counts = ap (λ (o : OrderAnswer). o.count) a; writes = w }
-  listed_by_lem Pass (stopped r) e q order drawn a w s = not-refused r (sym (ap (λ (o : OrderAnswer). o.status) a) ∙ s)
-  listed_by_lem (Refused r) l e q order drawn a w s = not-refused r (sym (ap (λ (o : OrderAnswer). o.status) a) ∙ s)
+  listed_by_lem (Ok _) (stopped r) e q order drawn a w s = not-refused r (sym (ap (λ (o : OrderAnswer). o.status) a) ∙ s)
+  listed_by_lem (Err r) l e q order drawn a w s = not-refused r (sym (ap (λ (o : OrderAnswer). o.status) a) ∙ s)
 
   draw_is : draw_order nodes subsectors x y (length lent) ≡ listed_by (order_check nodes subsectors (length lent)) (root_order nodes subsectors x y)
   unfolding draw_order
@@ -173,7 +173,7 @@ pictures_bounded wad name words answer after judged other depth marker e x y len
     let shallow : depth ≤ 256 = rw (sym deep) (root-low nodes subsectors x y (record { list = l.list; is = l.is })) in
     let draws = draws_accepted wad name words depth marker e shallow x y (length lent) enough in
     let same : draws.list ≡ l.list = listed_same (sym draws.drawn ∙ draw_is nodes subsectors x y lent ∙ (λ i. listed_by (l.passes i) (l.is i))) in
-    let found : answer.hazard ≡ (finding_out (hazard_at wad marker)).hazard =
+    let found : answer.hazard ≡ (finding_out (result_err (hazard_at wad marker))).hazard =
     ap (λ (a : HazardAnswer). a.hazard) (judged.answers ∙ ap (λ v. answer_out (hazard_by wad v)) e) in
     let none = none-again lump _ (λ q. other (found ∙ q)) in
     let taken : take order.count drawn ≡ draws.list =

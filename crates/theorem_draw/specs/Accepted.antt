@@ -2,8 +2,7 @@
 -- proofs/Draws.antt. Assumes nothing.
 use Rattle.std.specs.Prelude.{ℕ, ◌+◌, ◌≤◌, List, ◌≡◌, ℤ}
 use Rattle.node.specs.Nodes.{nodes_of}
-use Rattle.map_check.specs.declared.Verdict.TheVariants.{Accepted}
-use Rattle.map_check.specs.Verdict.{nodes_at, subsectors_at, verdict}
+use Rattle.map_check.specs.Verdict.{accepted, nodes_at, subsectors_at, verdict}
 use Rattle.draw_order.specs.Lists.{most_passed}
 use Rattle.theorem_draw.specs.Promises.{Draws}
 
@@ -11,6 +10,6 @@ use Rattle.theorem_draw.specs.Promises.{Draws}
 -- exactly once, and begins with the descent's own answer
 abbrev pub DrawsAccepted : List ℕ → List ℕ → List ℕ → Type 0
 DrawsAccepted wad name words =
-    (depth marker : ℕ) → verdict wad name words ≡ Accepted depth marker → depth ≤ most_passed
+    (depth marker : ℕ) → verdict wad name words ≡ accepted depth marker → depth ≤ most_passed
     → (x y : ℤ) (lent : ℕ) → nodes_of (nodes_at wad marker) + 1 ≤ lent
     → Draws (nodes_at wad marker) (subsectors_at wad marker) x y lent

@@ -8,8 +8,7 @@ use Rattle.record.specs.Segs.{seg_size}
 use Rattle.record_table.specs.Lumps.{SEGS, SSECTORS}
 use Rattle.node_route.specs.Heights.{repeats}
 use Rattle.map_lumps.specs.Lumps.{map_lumps, map_lump, record_count}
-use Rattle.map_check.specs.declared.Verdict.TheVariants.{Accepted}
-use Rattle.map_check.specs.Verdict.{nodes_at, subsectors_at, verdict}
+use Rattle.map_check.specs.Verdict.{accepted as judged_accepted, nodes_at, subsectors_at, verdict}
 use Rattle.hazard.specs.Segs.{subsector_in}
 use Rattle.export_maps.specs.declared.hazards.HazardAnswer.{HazardAnswer}
 use Rattle.export_maps.specs.declared.OrderAnswer.{OrderAnswer}
@@ -38,7 +37,7 @@ abbrev pub PicturesBounded : Type 0
 PicturesBounded =
     (wad name words : List ℕ) (answer : HazardAnswer) (after : List ℕ) → HazardJudged wad name words answer after
     → (answer.hazard ≡ 1 → ⊥)
-    → (depth marker : ℕ) → verdict wad name words ≡ Accepted depth marker
+    → (depth marker : ℕ) → verdict wad name words ≡ judged_accepted depth marker
     → (x y : ℤ) (lent : List ℕ) (order : OrderAnswer) (drawn : List ℕ)
     → OrderDrawn (nodes_at wad marker) (subsectors_at wad marker) x y lent order drawn → order.status ≡ accepted
     → Bounded wad marker (take order.count drawn)

@@ -1,6 +1,5 @@
 -- What the draw order lists on a graph that is accepted (W-208). The proof is proofs/Draws.antt. Assumes nothing.
-use Rattle.std.specs.Prelude.{ℕ, ◌+◌, ◌<◌, List, ◌∷◌, ◌≡◌, ℤ, length}
-use Rattle.node_descent.specs.declared.Descent.TheVariants.{Found}
+use Rattle.std.specs.Prelude.{ℕ, ◌+◌, ◌<◌, List, ◌∷◌, ◌≡◌, ℤ, length, Ok}
 use Rattle.node.specs.Nodes.{subsector_bit}
 use Rattle.node_route.specs.Routes.{Reached}
 use Rattle.node_route.specs.Reach.{HoldsOnce}
@@ -18,7 +17,7 @@ pub record Draws (nodes : List ℕ) (subsectors : ℕ) (x y : ℤ) (lent : ℕ) 
   pub rest : List ℕ
   pub begins : list ≡ first ∷ rest
   pub count : ℕ
-  pub descends : descent nodes subsectors x y ≡ Found first count
+  pub descends : descent nodes subsectors x y ≡ Ok (record { subsector = first; count = count })
   -- so that they are one more than the reached nodes
   pub node_words : List ℕ
   pub each_node : HoldsOnce (λ v. Reached nodes v × (v < subsector_bit)) node_words

@@ -1,15 +1,13 @@
 -- The examples of 01, "Examples", (a) to (l), of W-205 and of W-214, of the definitions. The proof is
 -- proofs/Examples.antt. Assumes nothing.
-use Rattle.std.specs.Prelude.{ℕ, zero, suc, ◌+◌, ◌-◌, ◌*◌, ◌/◌, ◌≤◌, Bool, true, false, List, [], ◌∷◌, ◌++◌, ◌≡◌, ℤ, pos, negsuc, ◌-ℤ◌, ◌*ℤ◌, length, replicate}
+use Rattle.std.specs.Prelude.{ℕ, zero, suc, ◌+◌, ◌-◌, ◌*◌, ◌/◌, ◌≤◌, Bool, true, false, List, [], ◌∷◌, ◌++◌, ◌≡◌, ℤ, pos, negsuc, ◌-ℤ◌, ◌*ℤ◌, length, replicate, Ok, Err}
 use Rattle.endian.specs.Unsigned.{u16_bytes, u32_bytes}
-use Rattle.refusal.specs.declared.Check.TheVariants.{Pass}
 use Rattle.refusal.specs.declared.Refusal.TheVariants.{DescentLoop}
 use Rattle.name.specs.Names.{name_ok, same_name}
 use Rattle.record_table.specs.Lumps.{lump_name, THINGS, LINEDEFS, SIDEDEFS, VERTEXES, SEGS, SSECTORS, NODES, SECTORS, REJECT, BLOCKMAP}
 use Rattle.node.specs.declared.Choice.{Choice}
 use Rattle.node.specs.declared.Choice.TheVariants.{Right, Left}
-use Rattle.node_descent.specs.declared.Descent.TheVariants.{Found, Refused as NotFound}
-use Rattle.node_route.specs.declared.Graph.{Graph}
+use Rattle.node_route.specs.declared.GraphError.{GraphError}
 use Rattle.node.specs.Nodes.{subsector_bit, is_node, child_ok}
 use Rattle.node_route.specs.Heights.{graph_verdict}
 use Rattle.node_descent.specs.Side.{side}
@@ -155,29 +153,29 @@ pub record Examples : Type 0 where
   pub e_in_range : (count subsectors : ℕ) → 1 ≤ subsectors → child_ok count subsectors 0x8000 ≡ true
   pub e_never : (count subsectors : ℕ) → subsectors ≤ 32767 → child_ok count subsectors 0xFFFF ≡ false
   -- (f) no nodes, one subsector: depth 0, answer 0, count 0
-  pub f_depth : graph_verdict [] ≡ Graph.HasDepth 0
-  pub f_descent : (x y : ℤ) → descent [] 1 x y ≡ Found 0 0
+  pub f_depth : graph_verdict [] ≡ Ok 0
+  pub f_descent : (x y : ℤ) → descent [] 1 x y ≡ Ok (record { subsector = 0; count = 0 })
   -- (g), by W-202: one node, both children subsector 0: a whole map with it is refused 32 at place 7, whatever the words hold
-  pub g : graph_verdict two_alike ≡ Graph.HasShared
+  pub g : graph_verdict two_alike ≡ Err GraphError.HasShared
   pub g-refused : (a b c d : ℕ) → map_judged 1 two_alike (a ∷ b ∷ c ∷ d ∷ []) ≡ refused_as 32 7
   -- with subsectors 0 and 1 it has depth 1, and is accepted
-  pub g-different : graph_verdict one_node ≡ Graph.HasDepth 1
+  pub g-different : graph_verdict one_node ≡ Ok 1
   pub g-accepted : (a b c d : ℕ) → map_judged 2 one_node (a ∷ b ∷ c ∷ d ∷ []) ≡ accepted_at 1
   -- (h) one node whose left child is itself: a whole map with it is refused 31 at place 7
-  pub h : graph_verdict own_left ≡ Graph.HasLoop
+  pub h : graph_verdict own_left ≡ Err GraphError.HasLoop
   pub h-refused : (a b c d : ℕ) → map_judged 1 own_left (a ∷ b ∷ c ∷ d ∷ []) ≡ refused_as 31 7
   -- (i) two nodes, node 0 its own child, the root's children different subsectors: accepted, depth 1
-  pub i : graph_verdict two_nodes ≡ Graph.HasDepth 1
+  pub i : graph_verdict two_nodes ≡ Ok 1
   pub i-accepted : map_judged 2 two_nodes (replicate 8 7) ≡ accepted_at 1
   -- (j) three nodes, root 2 has node 0, node 0 has node 1, all else different subsectors: accepted, depth 3
-  pub j : graph_verdict three_nodes ≡ Graph.HasDepth 3
+  pub j : graph_verdict three_nodes ≡ Ok 3
   pub j-accepted : map_judged 4 three_nodes (replicate 12 7) ≡ accepted_at 3
   -- (k) the lists are good, and name no linedef and three
   pub k_none : linedefs_named blockmap 6 ≡ []
   pub k_three : linedefs_named blockmap 8 ≡ 330 ∷ 331 ∷ 333 ∷ []
   pub k_good : (list_ok blockmap 0 6 ≡ true) × (list_ok blockmap 334 8 ≡ true)
   -- (l) colour 0 7 0, cover 0 1 0
-  pub l_accepted : paint_check picture 3 3 ≡ Pass
+  pub l_accepted : paint_check picture 3 3 ≡ Ok tt
   pub l_colour : plane_of by_colour picture ≡ 0 ∷ 7 ∷ 0 ∷ []
   pub l_cover : plane_of by_cover picture ≡ 0 ∷ 1 ∷ 0 ∷ []
   -- W-205: with BEHAVIOR after the ten a linedef has 16 bytes, without it 14; either map is accepted with the depth of its nodes
@@ -198,5 +196,5 @@ pub record Examples : Type 0 where
   -- by a line of no direction every point goes right
   pub none : (x y px py : ℤ) → side x y px py (pos 0) (pos 0) ≡ Right
   -- so that (h)'s node, its own left child by such a line, loops and no point takes it, and its own right child is met by all
-  pub unmet : (x y : ℤ) → descent own_left 1 x y ≡ Found 0 1
-  pub met : (x y : ℤ) → descent (node 0 0x8000) 1 x y ≡ NotFound DescentLoop
+  pub unmet : (x y : ℤ) → descent own_left 1 x y ≡ Ok (record { subsector = 0; count = 1 })
+  pub met : (x y : ℤ) → descent (node 0 0x8000) 1 x y ≡ Err DescentLoop

@@ -11,15 +11,12 @@ use lib.ListN.{length}
 use Rattle.refusal.specs.declared.Refusal.{Refusal}
 use Rattle.refusal.specs.declared.Refusal.TheVariants.{NodeLoop, NodeShared, WorkWords}
 use Rattle.refusal.specs.Table.{number_of}
-use Rattle.refusal.specs.declared.Check.{Check}
-use Rattle.refusal.specs.declared.Check.TheVariants.{Pass, Refused}
+use Rattle.refusal.specs.Checks.{Check}
+use Rattle.std.specs.Prelude.{Result, Ok, Err}
 use Rattle.refusal.specs.Checks.{unless, ◌and_then◌}
 use Rattle.refusal.proofs.Checks.{and_then_pass}
 use Rattle.refusal.proofs.Numbers.{AtMost}
-use Rattle.wad.specs.declared.lumps.Entry.{Entry as Entries}
-use Rattle.wad.specs.declared.lumps.Entry.TheVariants.{At}
-use Rattle.wad.specs.declared.map.Marker.{Marker}
-use Rattle.wad.specs.declared.map.Marker.TheVariants.{Entry, Refused as NoMarker}
+use Rattle.wad.specs.declared.lumps.Entry.{Entry}
 use Rattle.wad.specs.Header.{head_of, entry_count}
 use Rattle.wad.specs.Entries.{directory_of}
 use Rattle.wad.specs.Lump.{entry_size, entry_offset, lump_at, entry_answer, part_of}
@@ -28,8 +25,8 @@ use Rattle.wad.proofs.Answers.{entry_at, handed-whole}
 use Rattle.record_linedef.specs.Linedefs.{linedef_size}
 use Rattle.record.specs.Subsectors.{subsector_size}
 use Rattle.wad.proofs.Numbers.{marker_at_most}
-use Rattle.node_route.specs.declared.Graph.{Graph}
-use Rattle.node_route.specs.declared.Graph.TheVariants.{HasLoop, HasShared, HasDepth}
+use Rattle.node_route.specs.declared.GraphError.{GraphError}
+use Rattle.node_route.specs.declared.GraphError.TheVariants.{HasLoop, HasShared}
 use Rattle.node_route.specs.Heights.{graph_verdict}
 use Rattle.node_route.specs.Routes.{Loop, Shared}
 use Rattle.node_route.specs.Reach.{OneMore}
@@ -38,8 +35,6 @@ use Rattle.node_route.proofs.Verdict.{verdict-holds, depth_verdict}
 use Rattle.node_route.proofs.Reach.{one_more_lem}
 use Rattle.node_descent.proofs.Descends.{Passed, descent-holds}
 use Rattle.map_blockmap.specs.Blockmap.{blockmap_check}
-use Rattle.map_check.specs.declared.Verdict.{Verdict}
-use Rattle.map_check.specs.declared.Verdict.TheVariants.{Accepted, Refused as NotAccepted}
 use Rattle.record_table.specs.Lumps.{LINEDEFS, SSECTORS, NODES, BLOCKMAP}
 use Rattle.map_lumps.specs.Lumps.{map_lumps, map_lump, record_count}
 use Rattle.map_lumps.specs.Run.{run_check}
@@ -47,7 +42,7 @@ use Rattle.map_lumps.specs.Games.{game_at}
 use Rattle.map_lumps.specs.Sizes.{sizes_check}
 use Rattle.map_check.specs.References.{references_check}
 use Rattle.map_check.specs.Lumps.{lumps_check}
-use Rattle.map_check.specs.Verdict.{map_check, graph_answer, judged, check_at, nodes_at, subsectors_at, verdict_by, verdict}
+use Rattle.map_check.specs.Verdict.{Verdict, accepted, map_check, graph_answer, judged, check_at, nodes_at, subsectors_at, verdict_by, verdict}
 use Rattle.theorem_map.specs.Demands.{MapAt, SameMap, SameShortage, Frame, Below31, HandedOver, Demand3, GameTold}
 use Rattle.map_check.proofs.Passing.{run_long, passed}
 use Rattle.map_check.proofs.Answers.{marker_known}
@@ -62,15 +57,15 @@ module _ (wad wad' name words words' : List ℕ) (same : SameMap wad wad' name) 
 
   module _ (m : ℕ) where
     -- the ten names are looked at before the lumps
-    run_refused : (r : Refusal) → run_check (directory_of wad) (entry_count (head_of wad)) m ≡ Refused r
-        → verdict_by wad words (Entry m) ≡ verdict_by wad' words' (Entry m)
+    run_refused : (r : Refusal) → run_check (directory_of wad) (entry_count (head_of wad)) m ≡ Err r
+        → verdict_by wad words (Ok m) ≡ verdict_by wad' words' (Ok m)
     run_refused r e =
-        let e' : run_check (directory_of wad') (entry_count (head_of wad')) m ≡ Refused r =
+        let e' : run_check (directory_of wad') (entry_count (head_of wad')) m ≡ Err r =
         sym (λ i. run_check (same.directory i) (entry_count (same.header i)) m) ∙ e in
         ap (λ (c : Check). judged (c and_then lumps_check (game_at (directory_of wad) (entry_count (head_of wad)) m) (map_lumps wad (directory_of wad) m) (length words)) (graph_verdict (nodes_at wad m)) m) e
         ∙ sym (ap (λ (c : Check). judged (c and_then lumps_check (game_at (directory_of wad') (entry_count (head_of wad')) m) (map_lumps wad' (directory_of wad') m) (length words')) (graph_verdict (nodes_at wad' m)) m) e')
 
-    run_passed : MapAt wad name m → verdict_by wad words (Entry m) ≡ verdict_by wad' words' (Entry m)
+    run_passed : MapAt wad name m → verdict_by wad words (Ok m) ≡ verdict_by wad' words' (Ok m)
     run_passed at =
         let dir = directory_of wad in
         let lumps = map_lumps wad dir m in
@@ -82,14 +77,14 @@ module _ (wad wad' name words words' : List ℕ) (same : SameMap wad wad' name) 
         ∙ (λ i.
         judged (map_check (same.directory i) (entry_count (same.header i)) m (same.lumps m at i) (length words')) (graph_verdict (map_lump (same.lumps m at i) NODES)) m)
 
-    run_by : (c : Check) → marker_answer wad name ≡ Entry m → run_check (directory_of wad) (entry_count (head_of wad)) m ≡ c
-        → verdict_by wad words (Entry m) ≡ verdict_by wad' words' (Entry m)
-    run_by Pass e q = run_passed (e, q)
-    run_by (Refused r) e q = run_refused r q
+    run_by : (c : Check) → marker_answer wad name ≡ Ok m → run_check (directory_of wad) (entry_count (head_of wad)) m ≡ c
+        → verdict_by wad words (Ok m) ≡ verdict_by wad' words' (Ok m)
+    run_by (Ok _) e q = run_passed (e, q)
+    run_by (Err r) e q = run_refused r q
 
-  same_by : (a : Marker) → marker_answer wad name ≡ a → verdict_by wad words a ≡ verdict_by wad' words' a
-  same_by (NoMarker r) e = refl
-  same_by (Entry m) e = run_by m (run_check (directory_of wad) (entry_count (head_of wad)) m) e refl
+  same_by : (a : Result ℕ Refusal) → marker_answer wad name ≡ a → verdict_by wad words a ≡ verdict_by wad' words' a
+  same_by (Err r) e = refl
+  same_by (Ok m) e = run_by m (run_check (directory_of wad) (entry_count (head_of wad)) m) e refl
 
 pub frame : Frame
 frame wad wad' name words words' same short =
@@ -100,40 +95,56 @@ frame wad wad' name words words' same short =
 
 -- the number of a refused map
 abbrev number_in : Verdict → ℕ
-number_in (Accepted depth marker) = 0
-number_in (NotAccepted r) = number_of r
+number_in (Ok a) = 0
+number_in (Err r) = number_of r
 
-pub graph_loop : (g : Graph) (m : ℕ) → graph_answer g m ≡ NotAccepted NodeLoop → g ≡ HasLoop
-graph_loop HasLoop m e = refl
-graph_loop HasShared m e = let z : ◌≡◌ {A = ℕ} 31 32 = ap number_in (sym e) in absurd (omega arith)
-graph_loop (HasDepth d) m e = let z : ◌≡◌ {A = ℕ} 0 1 = cc in absurd (omega arith)
+-- the depth and the marker of a map that is accepted
+abbrev depth_in : Verdict → ℕ
+depth_in (Ok a) = a.depth
+depth_in (Err r) = 0
 
-graph_shared : (g : Graph) (m : ℕ) → graph_answer g m ≡ NotAccepted NodeShared → g ≡ HasShared
-graph_shared HasLoop m e = let z : ◌≡◌ {A = ℕ} 31 32 = ap number_in e in absurd (omega arith)
-graph_shared HasShared m e = refl
-graph_shared (HasDepth d) m e = let z : ◌≡◌ {A = ℕ} 0 1 = cc in absurd (omega arith)
+abbrev marker_in : Verdict → ℕ
+marker_in (Ok a) = a.marker
+marker_in (Err r) = 0
 
-graph_deep : (g : Graph) (m : ℕ) {d m' : ℕ} → graph_answer g m ≡ Accepted d m' → (g ≡ HasDepth d) × (m ≡ m')
-graph_deep HasLoop m e = let z : ◌≡◌ {A = ℕ} 0 1 = cc in absurd (omega arith)
-graph_deep HasShared m e = let z : ◌≡◌ {A = ℕ} 0 1 = cc in absurd (omega arith)
-graph_deep (HasDepth d) m e = ((cc), (cc))
+abbrev Graph : Type 0
+Graph = Result ℕ GraphError
+
+pub graph_loop : (g : Graph) (m : ℕ) → graph_answer g m ≡ Err NodeLoop → g ≡ Err HasLoop
+graph_loop (Err HasLoop) m e = refl
+graph_loop (Err HasShared) m e = let z : ◌≡◌ {A = ℕ} 31 32 = ap number_in (sym e) in absurd (omega arith)
+graph_loop (Ok d) m e = let z : ◌≡◌ {A = ℕ} 0 31 = ap number_in e in absurd (omega arith)
+
+graph_shared : (g : Graph) (m : ℕ) → graph_answer g m ≡ Err NodeShared → g ≡ Err HasShared
+graph_shared (Err HasLoop) m e = let z : ◌≡◌ {A = ℕ} 31 32 = ap number_in e in absurd (omega arith)
+graph_shared (Err HasShared) m e = refl
+graph_shared (Ok d) m e = let z : ◌≡◌ {A = ℕ} 0 32 = ap number_in e in absurd (omega arith)
+
+graph_deep : (g : Graph) (m : ℕ) {d m' : ℕ} → graph_answer g m ≡ accepted d m' → (g ≡ Ok d) × (m ≡ m')
+graph_deep (Err HasLoop) m e = let z : ◌≡◌ {A = ℕ} 31 0 = ap number_in e in absurd (omega arith)
+graph_deep (Err HasShared) m e = let z : ◌≡◌ {A = ℕ} 32 0 = ap number_in e in absurd (omega arith)
+graph_deep (Ok d) m e = (ap Ok (ap depth_in e), ap marker_in e)
 
 -- a loop is no shared child
-loop-or-shared : {g : Graph} → g ≡ HasLoop → g ≡ HasShared → ⊥
+loop-or-shared : {g : Graph} → g ≡ Err HasLoop → g ≡ Err HasShared → ⊥
 loop-or-shared e q = let z : ◌≡◌ {A = ℕ} 0 1 = cc in omega arith
 
 -- a check gives no number above 30, so that one is the graph's
-not_above_lem : (r s : Refusal) → number_of r ≤ 30 → 30 < number_of s → NotAccepted r ≡ NotAccepted s → ⊥
+not_above_lem : (r s : Refusal) → number_of r ≤ 30 → 30 < number_of s → ◌≡◌ {A = Verdict} (Err r) (Err s) → ⊥
 not_above_lem r s h k e = let same : number_of r ≡ number_of s = ap number_in e in omega arith
 
-judged_graph : (c : Check) (g : Graph) (m : ℕ) (s : Refusal) → 30 < number_of s → AtMost 30 c → judged c g m ≡ NotAccepted s
-    → (c ≡ Pass) × (graph_answer g m ≡ NotAccepted s)
-judged_graph Pass g m s k h e = (refl, e)
-judged_graph (Refused r) g m s k h e = absurd (not_above_lem r s (h r refl) k e)
+judged_graph : (c : Check) (g : Graph) (m : ℕ) (s : Refusal) → 30 < number_of s → AtMost 30 c → judged c g m ≡ Err s
+    → (c ≡ Ok tt) × (graph_answer g m ≡ Err s)
+judged_graph (Ok _) g m s k h e = (refl, e)
+judged_graph (Err r) g m s k h e = absurd (not_above_lem r s (h r refl) k e)
 
-judged-deep : (c : Check) (g : Graph) (m : ℕ) {d m' : ℕ} → judged c g m ≡ Accepted d m' → (c ≡ Pass) × ((g ≡ HasDepth d) × (m ≡ m'))
-judged-deep Pass g m e = (refl, graph_deep g m e)
-judged-deep (Refused r) g m e = let z : ◌≡◌ {A = ℕ} 0 1 = cc in absurd (omega arith)
+judged-deep : (c : Check) (g : Graph) (m : ℕ) {d m' : ℕ} → judged c g m ≡ accepted d m' → (c ≡ Ok tt) × ((g ≡ Ok d) × (m ≡ m'))
+judged-deep (Ok _) g m e = (refl, graph_deep g m e)
+judged-deep (Err r) g m e = let z : ◌≡◌ {A = ℕ} 0 1 = cc in absurd (omega arith)
+
+-- an entry that is not refused
+abbrev entry_of : ℕ → ℕ → Result Entry Refusal
+entry_of offset size = Ok (record { offset = offset; size = size })
 
 module _ (wad name words : List ℕ) where
   -- below 31 everything passes: the verdict is the graph's
@@ -143,34 +154,34 @@ module _ (wad name words : List ℕ) where
 
   pub record Known (d m : ℕ) : Type 0 where
     pub below : Below31 wad name words m
-    pub deep : graph_verdict (nodes_at wad m) ≡ HasDepth d
+    pub deep : graph_verdict (nodes_at wad m) ≡ Ok d
 
-  known_by : (a : Marker) {d m : ℕ} → marker_answer wad name ≡ a → verdict_by wad words a ≡ Accepted d m → Known d m
-  known_by (NoMarker r) e q = let z : ◌≡◌ {A = ℕ} 0 1 = cc in absurd (omega arith)
-  known_by (Entry k) {d} {m} e q =
+  known_by : (a : Result ℕ Refusal) {d m : ℕ} → marker_answer wad name ≡ a → verdict_by wad words a ≡ accepted d m → Known d m
+  known_by (Err r) e q = let z : ◌≡◌ {A = ℕ} 0 1 = cc in absurd (omega arith)
+  known_by (Ok k) {d} {m} e q =
       let p = judged-deep (check_at wad k (length words)) (graph_verdict (nodes_at wad k)) k q in
       subst (λ (n : ℕ). Known d n) p.1.1 (record { below = record { marks = e; passes = p.0 }; deep = p.1.0 })
 
   -- an accepted map passes every check below 31, and its graph has that depth
-  pub known : (d m : ℕ) → verdict wad name words ≡ Accepted d m → Known d m
+  pub known : (d m : ℕ) → verdict wad name words ≡ accepted d m → Known d m
   known d m q = known_by (marker_answer wad name) refl q
 
   -- a map that is refused with a number above 30 passes every check below it, and is refused for its graph
-  pub graph_by_lem : (a : Marker) (s : Refusal) → 30 < number_of s → marker_answer wad name ≡ a → verdict_by wad words a ≡ NotAccepted s
-      → (m : ℕ) × (Below31 wad name words m × (graph_answer (graph_verdict (nodes_at wad m)) m ≡ NotAccepted s))
-  graph_by_lem (NoMarker r) s k e q = let h = marker_at_most wad name r e in absurd (not_above_lem r s (omega arith) k q)
-  graph_by_lem (Entry m) s k e q =
+  pub graph_by_lem : (a : Result ℕ Refusal) (s : Refusal) → 30 < number_of s → marker_answer wad name ≡ a → verdict_by wad words a ≡ Err s
+      → (m : ℕ) × (Below31 wad name words m × (graph_answer (graph_verdict (nodes_at wad m)) m ≡ Err s))
+  graph_by_lem (Err r) s k e q = let h = marker_at_most wad name r e in absurd (not_above_lem r s (omega arith) k q)
+  graph_by_lem (Ok m) s k e q =
       let dir = directory_of wad in
       let below = map_at_most dir (entry_count (head_of wad)) m (map_lumps wad dir m) (length words) in
       let p = judged_graph (check_at wad m (length words)) (graph_verdict (nodes_at wad m)) m s k below q in
       (m, (record { marks = e; passes = p.0 }, p.1))
 
-  loop-only : verdict wad name words ≡ NotAccepted NodeLoop → (m : ℕ) × (Below31 wad name words m × Loop (nodes_at wad m))
+  loop-only : verdict wad name words ≡ Err NodeLoop → (m : ℕ) × (Below31 wad name words m × Loop (nodes_at wad m))
   loop-only q =
       let (m, (b, e)) = graph_by_lem (marker_answer wad name) NodeLoop (omega arith) refl q in
       (m, (b, (verdict-holds (nodes_at wad m)).loop.0 (graph_loop (graph_verdict (nodes_at wad m)) m e)))
 
-  shared-only : verdict wad name words ≡ NotAccepted NodeShared
+  shared-only : verdict wad name words ≡ Err NodeShared
       → (m : ℕ) × (Below31 wad name words m × ((Loop (nodes_at wad m) → ⊥) × Shared (nodes_at wad m)))
   shared-only q =
       let (m, (b, e)) = graph_by_lem (marker_answer wad name) NodeShared (omega arith) refl q in
@@ -203,14 +214,14 @@ module _ (wad name words : List ℕ) where
       let count = entry_count (head_of wad) in
       let file = (marker_known wad name k.below.marks).0 in
       let long = run_long dir count m (and_then_pass (run_check dir count m) _ k.below.passes).0 in
-      let at : (i : ℕ) → i < count → entry_answer wad i ≡ At (entry_offset dir i) (entry_size dir i) = λ i h. sym (entry_at wad i file h) in
+      let at : (i : ℕ) → i < count → entry_answer wad i ≡ Ok (record { offset = entry_offset dir i; size = entry_size dir i }) = λ i h. sym (entry_at wad i file h) in
       let sized : (i : ℕ) → i < count → entry_size dir i ≡ length (lump_at wad dir i) =
-      λ i h. sym (handed-whole wad i (entry_offset dir i) (entry_size dir i) (at i h)).sized ∙ ap (λ (a : Entries). length (part_of wad a)) (at i h) in
+      λ i h. sym (handed-whole wad i (entry_offset dir i) (entry_size dir i) (at i h)).sized ∙ ap (λ (a : Result Entry Refusal). length (part_of wad a)) (at i h) in
       let seven : m + NODES < count = omega arith in
       let six : m + SSECTORS < count = omega arith in
       record {
         nodes_offset = entry_offset dir (m + NODES);
-        nodes_entry = at (m + NODES) seven ∙ ap (At (entry_offset dir (m + NODES))) (sized (m + NODES) seven);
+        nodes_entry = at (m + NODES) seven ∙ ap (entry_of (entry_offset dir (m + NODES))) (sized (m + NODES) seven);
         nodes_part = ap (part_of wad) (at (m + NODES) seven);
         ssectors_offset = entry_offset dir (m + SSECTORS);
         ssectors_size = entry_size dir (m + SSECTORS);
@@ -223,14 +234,14 @@ module _ (wad name words : List ℕ) where
       record {
         loop = λ (m : ℕ) (b : Below31 wad name words m).
             let holds = verdict-holds (nodes_at wad m) in (
-              λ (e : verdict wad name words ≡ NotAccepted NodeLoop).
+              λ (e : verdict wad name words ≡ Err NodeLoop).
                   holds.loop.0 (graph_loop (graph_verdict (nodes_at wad m)) m (sym (graphs m b) ∙ e)),
               λ (l : Loop (nodes_at wad m)). graphs m b ∙ ap (λ (g : Graph). graph_answer g m) (holds.loop.1 l),
             );
         loop_only = loop-only;
         shared = λ (m : ℕ) (b : Below31 wad name words m) (none : Loop (nodes_at wad m) → ⊥).
             let holds = (verdict-holds (nodes_at wad m)).shared none in (
-              λ (e : verdict wad name words ≡ NotAccepted NodeShared).
+              λ (e : verdict wad name words ≡ Err NodeShared).
                   holds.0 (graph_shared (graph_verdict (nodes_at wad m)) m (sym (graphs m b) ∙ e)),
               λ (l : Shared (nodes_at wad m)). graphs m b ∙ ap (λ (g : Graph). graph_answer g m) (holds.1 l),
             );
@@ -238,10 +249,10 @@ module _ (wad name words : List ℕ) where
         neither = λ (m : ℕ) (b : Below31 wad name words m) (none : Loop (nodes_at wad m) → ⊥) (alone : Shared (nodes_at wad m) → ⊥).
             let d = (verdict-holds (nodes_at wad m)).neither none alone in
             (d.0, graphs m b ∙ ap (λ (g : Graph). graph_answer g m) d.1);
-        exact = λ (d m : ℕ) (e : verdict wad name words ≡ Accepted d m). (verdict-holds (nodes_at wad m)).deep d (known d m e).deep;
-        one_more = λ (d m : ℕ) (e : verdict wad name words ≡ Accepted d m). one-more_of d m (known d m e);
-        handed = λ (d m : ℕ) (e : verdict wad name words ≡ Accepted d m). handed_over d m (known d m e);
-        descends = λ (d m : ℕ) (e : verdict wad name words ≡ Accepted d m) (x y : ℤ).
+        exact = λ (d m : ℕ) (e : verdict wad name words ≡ accepted d m). (verdict-holds (nodes_at wad m)).deep d (known d m e).deep;
+        one_more = λ (d m : ℕ) (e : verdict wad name words ≡ accepted d m). one-more_of d m (known d m e);
+        handed = λ (d m : ℕ) (e : verdict wad name words ≡ accepted d m). handed_over d m (known d m e);
+        descends = λ (d m : ℕ) (e : verdict wad name words ≡ accepted d m) (x y : ℤ).
             let k = known d m e in
             descent-holds (nodes_at wad m) (subsectors_at wad m) (known_passed d m k) d k.deep x y;
       }

@@ -7,7 +7,7 @@ use mathlib.Core.Path.{◌≡◌, sym, ap, ◌∙◌, subst}
 use lib.Dec.{leb, ltb}
 use Rattle.refusal.specs.declared.Refusal.{Refusal}
 use Rattle.refusal.specs.declared.Refusal.TheVariants.{LinedefReference, SidedefReference, SegReference, SubsectorReference, NodeReference, Blockmap, WorkWords}
-use Rattle.refusal.specs.declared.Check.TheVariants.{Pass, Refused}
+use Rattle.std.specs.Prelude.{Ok, Err}
 use Rattle.refusal.specs.Table.{number_of, record_of}
 use Rattle.refusal.specs.Checks.{unless, ◌and_then◌, each}
 use Rattle.refusal.proofs.Checks.{and_then_pass, and_then_by, each-by, unless-refused, unless-named}
@@ -35,12 +35,12 @@ use Rattle.theorem_map.proofs.Numbers.{run_at_most, sizes_at_most}
 
 -- the run of names has passed
 pub past_run : (dir : List ℕ) (count marker : ℕ) (lumps : List (List ℕ)) (lent : ℕ) {r : Refusal}
-    → map_check dir count marker lumps lent ≡ Refused r → 22 < number_of r
-    → (run_check dir count marker ≡ Pass) × (lumps_check (game_at dir count marker) lumps lent ≡ Refused r)
+    → map_check dir count marker lumps lent ≡ Err r → 22 < number_of r
+    → (run_check dir count marker ≡ Ok tt) × (lumps_check (game_at dir count marker) lumps lent ≡ Err r)
 past_run dir count marker lumps lent e late = and_then_late (run_check dir count marker) _ (run_at_most dir count marker) e late
 
 -- which cell 28 names
-blockmap-named : (lump : List ℕ) (linedefs : ℕ) {r : Refusal} → blockmap_check lump linedefs ≡ Refused r → (i : ℕ) × (Blockmap i ≡ r)
+blockmap-named : (lump : List ℕ) (linedefs : ℕ) {r : Refusal} → blockmap_check lump linedefs ≡ Err r → (i : ℕ) × (Blockmap i ≡ r)
 blockmap-named lump linedefs {r} e =
     and_then_by {X = (i : ℕ) × (Blockmap i ≡ r)} (unless (header_ok lump) (Blockmap 0)) _ e
     (λ q. (0, unless-named (header_ok lump) (Blockmap 0) q))
@@ -48,19 +48,19 @@ blockmap-named lump linedefs {r} e =
     let (i, (h, t)) = each-by (λ i. unless (list_ok lump linedefs (word_at lump (4 + i))) (Blockmap i)) (cells_of lump) q in
     (i, unless-named (list_ok lump linedefs (word_at lump (4 + i))) (Blockmap i) t))
 
-module _ (hexen : Bool) (lumps : List (List ℕ)) (lent : ℕ) {r : Refusal} (e : lumps_check hexen lumps lent ≡ Refused r) (late : 22 < number_of r) where
-  past_sizes : (sizes_check hexen lumps ≡ Pass)
-      × ((references_check hexen lumps and_then (blockmap_check (map_lump lumps BLOCKMAP) (record_count lumps LINEDEFS (linedef_size hexen)) and_then work_check lumps lent)) ≡ Refused r)
+module _ (hexen : Bool) (lumps : List (List ℕ)) (lent : ℕ) {r : Refusal} (e : lumps_check hexen lumps lent ≡ Err r) (late : 22 < number_of r) where
+  past_sizes : (sizes_check hexen lumps ≡ Ok tt)
+      × ((references_check hexen lumps and_then (blockmap_check (map_lump lumps BLOCKMAP) (record_count lumps LINEDEFS (linedef_size hexen)) and_then work_check lumps lent)) ≡ Err r)
   past_sizes = and_then_late (sizes_check hexen lumps) _ (sizes_at_most hexen lumps) e late
 
   -- and sizes and counts
-  pub past-counts : each_place (size_check hexen lumps) 8 ≡ Pass
+  pub past-counts : each_place (size_check hexen lumps) 8 ≡ Ok tt
   past-counts = (and_then_pass (each_place (size_check hexen lumps) 8) (reject_check lumps) past_sizes.0).0
 
   module _ (P : ℕ → ℕ → Type 0) where
     scan : (ok : ℕ → Bool) (name : ℕ → Refusal) (n : ℕ)
         → ((i : ℕ) → i < n → ok i ≡ false → P (number_of (name i)) (record_of (name i)))
-        → each (λ i. unless (ok i) (name i)) n ≡ Refused r → P (number_of r) (record_of r)
+        → each (λ i. unless (ok i) (name i)) n ≡ Err r → P (number_of r) (record_of r)
     scan ok name n p q =
         let (i, (h, t)) = each-by (λ i. unless (ok i) (name i)) n q in
         subst (λ (s : Refusal). P (number_of s) (record_of s)) (unless-named (ok i) (name i) t)
@@ -79,9 +79,9 @@ module _ (hexen : Bool) (lumps : List (List ℕ)) (lent : ℕ) {r : Refusal} (e 
         → subsector_ok (record_count lumps SEGS seg_size) (subsector_of (record_bytes (map_lump lumps SSECTORS) subsector_size i)) ≡ false → P 26 i)
         (node : (i : ℕ) → i < record_count lumps NODES node_size
         → node_ok (map_lump lumps NODES) (record_count lumps SSECTORS subsector_size) i ≡ false → P 27 i)
-        (blockmap : (i : ℕ) → blockmap_check (map_lump lumps BLOCKMAP) (record_count lumps LINEDEFS (linedef_size hexen)) ≡ Refused (Blockmap i) → P 28 i)
+        (blockmap : (i : ℕ) → blockmap_check (map_lump lumps BLOCKMAP) (record_count lumps LINEDEFS (linedef_size hexen)) ≡ Err (Blockmap i) → P 28 i)
         (work : P 30 0) where
-      references : references_check hexen lumps ≡ Refused r → P (number_of r) (record_of r)
+      references : references_check hexen lumps ≡ Err r → P (number_of r) (record_of r)
       references q =
           and_then_by (linedefs_check hexen lumps) _ q
           (scan (λ i. linedef_ok (record_count lumps VERTEXES vertex_size) (record_count lumps SIDEDEFS sidedef_size) (linedef_of hexen (record_bytes (map_lump lumps LINEDEFS) (linedef_size hexen) i))) LinedefReference _ linedef)
@@ -93,10 +93,10 @@ module _ (hexen : Bool) (lumps : List (List ℕ)) (lent : ℕ) {r : Refusal} (e 
           (scan (λ i. subsector_ok (record_count lumps SEGS seg_size) (subsector_of (record_bytes (map_lump lumps SSECTORS) subsector_size i))) SubsectorReference _ subsector)
           (scan (λ i. node_ok (map_lump lumps NODES) (record_count lumps SSECTORS subsector_size) i) NodeReference _ node))))
 
-      blockmaps : blockmap_check (map_lump lumps BLOCKMAP) (record_count lumps LINEDEFS (linedef_size hexen)) ≡ Refused r → P (number_of r) (record_of r)
+      blockmaps : blockmap_check (map_lump lumps BLOCKMAP) (record_count lumps LINEDEFS (linedef_size hexen)) ≡ Err r → P (number_of r) (record_of r)
       blockmaps q =
           let (i, t) = blockmap-named (map_lump lumps BLOCKMAP) (record_count lumps LINEDEFS (linedef_size hexen)) q in
-          subst (λ (s : Refusal). P (number_of s) (record_of s)) t (blockmap i (q ∙ ap Refused (sym t)))
+          subst (λ (s : Refusal). P (number_of s) (record_of s)) t (blockmap i (q ∙ ap Err (sym t)))
 
       -- what holds of each record that fails, of a BLOCKMAP that does, and of 30, holds of the refusal
       pub refused-by : P (number_of r) (record_of r)

@@ -1,8 +1,6 @@
 -- The theorems of the pair (W-207), of any files, names and words. The proofs are in proofs/Changing.antt. Assumes nothing.
-use Rattle.std.specs.Prelude.{ℕ, ◌<◌, true, List, ◌≡◌, length}
-use Rattle.refusal.specs.declared.Check.TheVariants.{Pass}
+use Rattle.std.specs.Prelude.{ℕ, ◌<◌, true, List, ◌≡◌, length, Ok}
 use Rattle.name.specs.Names.{same_name}
-use Rattle.wad.specs.declared.lumps.Entry.TheVariants.{At}
 use Rattle.wad.specs.Header.{head_of, entry_count}
 use Rattle.wad.specs.Entries.{directory_of, entry_name, file_check}
 use Rattle.wad.specs.Lump.{Whole}
@@ -11,7 +9,7 @@ use Rattle.pair.specs.Answers.{pair_entry, pair_lump, pair_verdict, pair_words}
 
 -- a file that 1 to 6 pass
 abbrev pub Valid : List ℕ → Type 0
-Valid wad = file_check wad ≡ Pass
+Valid wad = file_check wad ≡ Ok tt
 
 -- some entry of the file has the name, of eight bytes
 pub record Has (wad name : List ℕ) : Type 0 where
@@ -45,5 +43,5 @@ PatchChanged =
 -- a lump that is not refused is handed back whole, out of the file that the answer notes
 abbrev pub PickedWhole : Type 0
 PickedWhole =
-    (base patch name : List ℕ) (offset size : ℕ) → (pair_entry base patch name).entry ≡ At offset size
+    (base patch name : List ℕ) (offset size : ℕ) → (pair_entry base patch name).entry ≡ Ok (record { offset = offset; size = size })
     → Whole (file_of base patch (pair_entry base patch name).file) (pair_lump base patch name) offset size

@@ -9,7 +9,7 @@ use native.Mathlib.Omega.{arith}
 use borrow.Author.Tests.{le-leb, leb-true}
 use lib.Dec.{leb}
 use lib.ListN.{length}
-use Rattle.refusal.specs.declared.Check.TheVariants.{Pass}
+use Rattle.std.specs.Prelude.{Ok}
 use Rattle.refusal.proofs.Checks.{both, each_all}
 use Rattle.picture_header.specs.Layout.{width_of, height_of, table_end, column_offset}
 use Rattle.picture_header.specs.Headers.{size_ok}
@@ -37,11 +37,11 @@ module _ (lump : List ℕ) (width height : ℕ) (covered : ℕ → ℕ → Bool)
         → Reads lump height column (covered column) (colour column) (column_offset lump column) 0
 
   module _ (g : Given) where
-    one_passes : (column : ℕ) → column < width → column_check lump width height column ≡ Pass
+    one_passes : (column : ℕ) → column < width → column_check lump width height column ≡ Ok tt
     one_passes column h =
         simp (le-leb _ _ (g.offset column h)) ((g.column column h).passes (length lump) 0 (omega arith) (omega arith))
 
-    pub accepted : picture_check lump ≡ Pass
+    pub accepted : picture_check lump ≡ Ok tt
     accepted =
         let long : 8 ≤ length lump = (let t = g.table in omega arith) in
         simp (le-leb 8 (length lump) long, g.wide, g.tall, g.size, le-leb _ _ g.table)

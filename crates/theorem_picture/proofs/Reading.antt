@@ -8,7 +8,7 @@ use native.Mathlib.Omega.{arith}
 use borrow.Author.Tests.{eq-eqb, ne_eqb, le-leb, lt-leb, leb-true, leb-false, lt-ltb, le-ltb}
 use lib.Dec.{leb}
 use lib.ListN.{length, get_or}
-use Rattle.refusal.specs.declared.Check.TheVariants.{Pass}
+use Rattle.std.specs.Prelude.{Ok}
 use Rattle.picture_header.specs.Layout.{start_at, length_at, end_row, post_end}
 use Rattle.picture.specs.Judging.{posts_check}
 use Rattle.picture_paint.specs.Pixels.{over_post, over_posts}
@@ -21,14 +21,14 @@ module _ (lump : List ℕ) (height column : ℕ) (covered : ℕ → Bool) (colou
 
   -- the posts at `at` are those of the covered rows from `row` on
   pub record Reads (at row : ℕ) : Type 0 where
-    pub passes : (most from : ℕ) → length lump ≤ at + most → from ≤ row → posts_check most lump height column at from ≡ Pass
+    pub passes : (most from : ℕ) → length lump ≤ at + most → from ≤ row → posts_check most lump height column at from ≡ Ok tt
     pub shows : (by : ℕ → ℕ) (most r under : ℕ) → length lump ≤ at + most → r < height
         → over_posts by most lump at r under ≡ rows_from by row r under
 
   -- ---- the end byte
 
   ended-passes : (at most from : ℕ) → at < length lump → start_at lump at ≡ 255 → length lump ≤ at + most
-      → posts_check most lump height column at from ≡ Pass
+      → posts_check most lump height column at from ≡ Ok tt
   unfolding posts_check
   ended-passes at zero from h e k = absurd (omega arith)
   ended-passes at (suc most) from h e k = simp (eq-eqb _ _ e)
@@ -126,7 +126,7 @@ module _ (lump : List ℕ) (height column : ℕ) (covered : ℕ → Bool) (colou
     row_shows by r under false false e f = rw (before by r under (leb-false row r e), f, e)
 
     module _ (rest : Reads (at + 4 + count) (row + count)) where
-      post-passes : (most from : ℕ) → length lump ≤ at + most → from ≤ row → posts_check most lump height column at from ≡ Pass
+      post-passes : (most from : ℕ) → length lump ≤ at + most → from ≤ row → posts_check most lump height column at from ≡ Ok tt
       unfolding posts_check
       post-passes zero from l m = let i = p.inside in absurd (omega arith)
       post-passes (suc most) from l m =

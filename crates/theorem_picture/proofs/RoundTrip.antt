@@ -16,11 +16,10 @@ use Rattle.endian.specs.Unsigned.{u32_at, u32_bytes}
 use Rattle.endian.specs.Signed.{signed, bits_of}
 use Rattle.endian.proofs.Unsigned.{u16_whole}
 use Rattle.endian.proofs.Signed.{signed-bits}
-use Rattle.refusal.specs.declared.Check.{Check}
-use Rattle.refusal.specs.declared.Check.TheVariants.{Pass, Refused}
+use Rattle.refusal.specs.Checks.{Check}
+use Rattle.std.specs.Prelude.{Ok, Err}
 use Rattle.refusal.proofs.Checks.{pass_then, and_then_pass}
 use Rattle.picture_header.specs.declared.Picture.{Picture}
-use Rattle.picture.specs.declared.PictureVerdict.TheVariants.{Accepted}
 use Rattle.picture_header.specs.Layout.{picture_of, area_of, table_end, column_offset}
 use Rattle.picture_header.specs.Headers.{picture_header_check}
 use Rattle.picture.specs.Judging.{columns_check, picture_answer as picture_answer}
@@ -31,7 +30,6 @@ use Rattle.picture_paint.proofs.Checks.{room_passed}
 use Rattle.picture_paint.proofs.Planes.{length-list_of, get_d_list_of}
 use Rattle.picture_write.specs.Lump.{pixels_of, column_of, column_start, header_bytes, written_of}
 use Rattle.picture_write.specs.Pixels.{pixel_at, covered_at}
-use Rattle.picture_write.specs.declared.Encoding.TheVariants.{Written}
 use Rattle.picture_write.specs.Encoding.{encoding_of, encode_check, given_check}
 use Rattle.theorem_picture.specs.RoundTrip.{ReadBack, RoundTrip, OutputRoundTrip, PaintedRoundTrip}
 use Rattle.picture_write.proofs.Lump.{offsets, columns, length_offsets, length-columns, length-written}
@@ -155,9 +153,9 @@ round_trip picture colour cover l t e =
 
 -- ---- the same of an output
 
-written_pass : (k : Check) {length count : ℕ} → Written count ≡ encoding_of k length → (k ≡ Pass) × (count ≡ length)
-written_pass Pass e = (refl, cc)
-written_pass (Refused r) e = let z : ◌≡◌ {A = ℕ} 0 1 = cc in absurd (omega arith)
+written_pass : (k : Check) {length count : ℕ} → Ok count ≡ encoding_of k length → (k ≡ Ok tt) × (count ≡ length)
+written_pass (Ok _) e = (refl, cc)
+written_pass (Err r) e = let z : ◌≡◌ {A = ℕ} 0 1 = cc in absurd (omega arith)
 
 pub output_round_trip : OutputRoundTrip
 output_round_trip picture colour cover out count out' l t w =
@@ -183,12 +181,12 @@ painted_round_trip picture colour cover lump colour₁ cover₁ answer colour₂
     let area : area_of lump ≡ n = ap (λ (p : Picture). p.height * p.width) r.header in
     let colour-room : area_of lump ≤ length colour₁ = rw area h in
     let cover-room : area_of lump ≤ length cover₁ = rw area k in
-    let room : room_check lump (length colour₁) (length cover₁) ≡ Pass = simp (le-leb _ _ colour-room, le-leb _ _ cover-room) in
+    let room : room_check lump (length colour₁) (length cover₁) ≡ Ok tt = simp (le-leb _ _ colour-room, le-leb _ _ cover-room) in
     let parts = and_then_pass (picture_header_check lump) (columns_check lump) r.accepted in
-    let pass : paint_check lump (length colour₁) (length cover₁) ≡ Pass =
+    let pass : paint_check lump (length colour₁) (length cover₁) ≡ Ok tt =
     room_passed lump (length colour₁) (length cover₁) (sym (pass_then parts.0 (sym room))) ∙ r.accepted in
     record {
-      answered = p.answered ∙ ap (λ (k : Check). picture_answer k lump) pass ∙ ap Accepted r.header;
+      answered = p.answered ∙ ap (λ (k : Check). picture_answer k lump) pass ∙ ap Ok r.header;
       colours = p.colours
           ∙ ap (λ (k : Check). buffer_after k (plane_of by_colour lump) colour₁) pass
           ∙ over n colour₁ (length-list_of _ 0 (area_of lump) ∙ area) r.colours;

@@ -7,8 +7,8 @@ use borrow.Author.Tests.{leb-true}
 use lib.Dec.{leb}
 use lib.ListN.{length, drop, take, length-map}
 use lib.Seq.{take_at, drop_at}
-use Rattle.refusal.specs.declared.Check.{Check}
-use Rattle.refusal.specs.declared.Check.TheVariants.{Pass, Refused}
+use Rattle.refusal.specs.Checks.{Check}
+use Rattle.std.specs.Prelude.{Ok, Err}
 use Rattle.refusal.specs.Table.{number_of, record_of}
 use Rattle.reason_range.specs.declared.Field.{Field}
 use Rattle.reason_range.specs.Fields.{put_field}
@@ -69,11 +69,11 @@ module _ (out : List ℕ) (cs : List Choice) where
 module _ (hexen : Bool) (lumps : List (List ℕ)) (nodes out : List ℕ) where
   -- without room the output is as found
   pub out_by-short : (c : Check) → leb (length_by c nodes) (length out) ≡ false → out_by c hexen lumps nodes out ≡ out
-  out_by-short Pass e = printed-short out (way_of nodes (graph_verdict nodes)) e
-  out_by-short (Refused r) e = put_short (field_ok (number_of r)) out (put_field out (named_field hexen lumps (number_of r) (record_of r))) e
+  out_by-short (Ok _) e = printed-short out (way_of nodes (graph_verdict nodes)) e
+  out_by-short (Err r) e = put_short (field_ok (number_of r)) out (put_field out (named_field hexen lumps (number_of r) (record_of r))) e
 
   -- with room what is behind the printed bytes is
   pub out_by-rest : (c : Check) → leb (length_by c nodes) (length out) ≡ true
       → drop (length_by c nodes) (out_by c hexen lumps nodes out) ≡ drop (length_by c nodes) out
-  out_by-rest Pass e = printed-rest out (way_of nodes (graph_verdict nodes)) e
-  out_by-rest (Refused r) e = put_rest (field_ok (number_of r)) out (named_field hexen lumps (number_of r) (record_of r)) e
+  out_by-rest (Ok _) e = printed-rest out (way_of nodes (graph_verdict nodes)) e
+  out_by-rest (Err r) e = put_rest (field_ok (number_of r)) out (named_field hexen lumps (number_of r) (record_of r)) e

@@ -1,14 +1,13 @@
 -- What holds of a reason as a caller is handed it: the answer of `reason::judge_map` and the lent output afterwards,
 -- for any file, name, work words and output (02, W-211: "Prove that each printed reason holds of the map's bytes").
 -- Assumes nothing.
-use Rattle.std.specs.Prelude.{ℕ, Bool, true, false, List, ◌⊎◌, ◌≡◌, take, drop, length as size}
+use Rattle.std.specs.Prelude.{ℕ, Bool, true, false, List, ◌⊎◌, ◌≡◌, take, drop, length as size, Ok, Err}
 use Rattle.endian.specs.Unsigned.{u32_at}
 use Rattle.refusal.specs.declared.Refusal.{Refusal}
 use Rattle.refusal.specs.declared.Refusal.TheVariants.{ReasonRoom, NodeLoop}
 use Rattle.refusal.specs.Table.{number_of, record_of}
 use Rattle.reason_range.specs.declared.Field.{Field}
 use Rattle.reason_range.specs.Fields.{FirstOut}
-use Rattle.wad.specs.declared.map.Marker.TheVariants.{Entry}
 use Rattle.wad.specs.Header.{head_of, entry_count}
 use Rattle.wad.specs.Entries.{directory_of}
 use Rattle.wad.specs.Map.{marker_answer}
@@ -16,8 +15,7 @@ use Rattle.reason_blockmap.specs.Reasons.{SizeTold, WordTold}
 use Rattle.node.specs.declared.Choice.{Choice}
 use Rattle.map_lumps.specs.Lumps.{map_lumps}
 use Rattle.map_lumps.specs.Games.{game_at}
-use Rattle.map_check.specs.declared.Verdict.TheVariants.{Accepted, Refused}
-use Rattle.map_check.specs.Verdict.{nodes_at, verdict}
+use Rattle.map_check.specs.Verdict.{accepted, nodes_at, verdict}
 use Rattle.node_path.specs.Ways.{bytes_of}
 use Rattle.node_path.specs.Promises.{LoopTold, RouteTold}
 use Rattle.reason_record.specs.Reasons.{InOrder}
@@ -53,19 +51,19 @@ pub record ChoicesIn (out : List ℕ) (n : ℕ) (cs : List Choice) : Type 0 wher
 -- `answer` was given, and the lent output held `before` and now holds `after`
 pub record ReasonHolds (wad name words before : List ℕ) (answer : Reason) (after : List ℕ) : Type 0 where
   -- the verdict is the map check's own, unless the output is too short (85)
-  pub own : (answer.verdict ≡ Refused ReasonRoom → ⊥) → answer.verdict ≡ verdict wad name words
+  pub own : (answer.verdict ≡ Err ReasonRoom → ⊥) → answer.verdict ≡ verdict wad name words
   -- 23 to 28: the output says a field that holds of the map
-  pub field : (r : Refusal) → answer.verdict ≡ Refused r → field_ok (number_of r) ≡ true
-      → (marker : ℕ) × ((marker_answer wad name ≡ Entry marker) × ((answer.length ≡ 16) × FieldToldAt wad marker r (field_in after)))
+  pub field : (r : Refusal) → answer.verdict ≡ Err r → field_ok (number_of r) ≡ true
+      → (marker : ℕ) × ((marker_answer wad name ≡ Ok marker) × ((answer.length ≡ 16) × FieldToldAt wad marker r (field_in after)))
   -- 31 (loop): the output lists choices that lead from the root into the loop
-  pub loop : answer.verdict ≡ Refused NodeLoop
-      → (marker : ℕ) × ((marker_answer wad name ≡ Entry marker)
+  pub loop : answer.verdict ≡ Err NodeLoop
+      → (marker : ℕ) × ((marker_answer wad name ≡ Ok marker)
       × ((cs : List Choice) × (ChoicesIn after answer.length cs × LoopTold (nodes_at wad marker) cs)))
   -- an accepted map: the output lists a route as long as the depth
-  pub route : (depth marker : ℕ) → answer.verdict ≡ Accepted depth marker
+  pub route : (depth marker : ℕ) → answer.verdict ≡ accepted depth marker
       → (cs : List Choice) × (ChoicesIn after answer.length cs × RouteTold (nodes_at wad marker) depth cs)
   -- every other refusal prints nothing
-  pub nothing : (r : Refusal) → answer.verdict ≡ Refused r → field_ok (number_of r) ≡ false → (r ≡ NodeLoop → ⊥) → answer.length ≡ 0
+  pub nothing : (r : Refusal) → answer.verdict ≡ Err r → field_ok (number_of r) ≡ false → (r ≡ NodeLoop → ⊥) → answer.length ≡ 0
   -- the bytes behind what is printed are as found
   pub rest : drop answer.length after ≡ drop answer.length before
 

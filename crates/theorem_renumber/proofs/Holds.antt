@@ -6,8 +6,7 @@ use Rattle.node_route.specs.Reach.{reached_nodes, HoldsOnce}
 use Rattle.node.proofs.Nodes.{nodes_in_range}
 use Rattle.node_route.proofs.Reach.{nodes_held}
 use Rattle.node_route.proofs.Verdict.{depth_verdict}
-use Rattle.map_check.specs.declared.Verdict.TheVariants.{Accepted}
-use Rattle.map_check.specs.Verdict.{nodes_at, subsectors_at, verdict}
+use Rattle.map_check.specs.Verdict.{accepted, nodes_at, subsectors_at, verdict}
 use Rattle.theorem_map.proofs.Demands.{known, known_passed}
 use Rattle.theorem_renumber.specs.Promises.{ReachedNode, RenumberHolds}
 use Rattle.theorem_renumber.proofs.Orders.{exactly-good}
@@ -15,7 +14,7 @@ use Rattle.theorem_renumber.proofs.Same.{same_nodes}
 
 module _ (wad name words : List ℕ) where
   -- the reached nodes of an accepted map, each once
-  pub accepted_held : (depth marker : ℕ) → verdict wad name words ≡ Accepted depth marker
+  pub accepted_held : (depth marker : ℕ) → verdict wad name words ≡ accepted depth marker
       → HoldsOnce (ReachedNode (nodes_at wad marker)) (reached_nodes (nodes_at wad marker))
   accepted_held depth marker e =
       let k = known wad name words depth marker e in

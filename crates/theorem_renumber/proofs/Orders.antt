@@ -7,7 +7,7 @@ use mathlib.Core.Path.{◌≡◌, ◌∙◌}
 use native.Mathlib.Omega.{arith}
 use borrow.Author.Tests.{ltb-true, lt-ltb, le-ltb, leb-true, le-leb, eqb-true, eq-eqb, not-true}
 use lib.ListN.{length}
-use Rattle.refusal.specs.declared.Check.TheVariants.{Pass}
+use Rattle.std.specs.Prelude.{Ok}
 use Rattle.refusal.specs.declared.Refusal.TheVariants.{RenumberNodes, RenumberChild, RenumberRoot, RenumberLength}
 use Rattle.refusal.specs.Checks.{unless}
 use Rattle.refusal.proofs.Checks.{both, unless_pass, and_then_pass}
@@ -100,9 +100,9 @@ module _ (nodes order : List ℕ) where
         let here : index_in order (child_of nodes (old_at order i) c) ≤ p.0 = rw p.1.1 at least in
         omega (arith, p.1.0, here)))
 
-    pub exactly-good : (room : ℕ) → renumber_check nodes order room ≡ Pass ↔ (GoodOrder nodes order × (node_size * length order ≤ room))
+    pub exactly-good : (room : ℕ) → renumber_check nodes order room ≡ Ok tt ↔ (GoodOrder nodes order × (node_size * length order ≤ room))
     exactly-good room = (
-      λ (e : renumber_check nodes order room ≡ Pass).
+      λ (e : renumber_check nodes order room ≡ Ok tt).
           let a = and_then_pass (unless (many_ok nodes order) RenumberLength) _ e in
           let b = and_then_pass (unless (once_ok nodes order) RenumberNodes) _ a.1 in
           let c = and_then_pass (unless (root_ok nodes order) RenumberRoot) _ b.1 in

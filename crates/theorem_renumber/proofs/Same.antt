@@ -1,5 +1,6 @@
 -- The new lump is the same tree: every list of choices, and every point's walk, goes from renamed word to renamed word. Assumes
 -- nothing.
+use Rattle.std.specs.Prelude.{Ok}
 use Prim.Native.Nat.{ℕ, zero, suc, ◌+◌, ◌-◌, ◌*◌, ◌≤◌, ◌<◌}
 use mathlib.Core.List.{List, [], ◌∷◌, ◌++◌}
 use mathlib.Core.Logic.{⊎_elim, ◌↔◌}
@@ -13,8 +14,6 @@ use lib.Seq.{get_or-append_seam}
 use Rattle.record.specs.Nodes.{node_size}
 use Rattle.node.specs.declared.Choice.{Choice}
 use Rattle.node.specs.declared.Choice.TheVariants.{Right, Left}
-use Rattle.node_descent.specs.declared.Descent.TheVariants.{Found}
-use Rattle.node_route.specs.declared.Graph.{Graph}
 use Rattle.node.specs.Nodes.{nodes_of, subsector_bit, child_of, root}
 use Rattle.node_route.specs.Routes.{Follow, Reached, Loop, Shared, Depth}
 use Rattle.node_route.specs.Heights.{graph_verdict}
@@ -235,14 +234,14 @@ module _ (nodes order : List ℕ) (subsectors : ℕ) (passed : Passed nodes subs
       let l = a.most b.choices (record { stand = k.stand; leads = k.leads; ends = name-end k.stand k.reached (rw k.named at r.ends) }) in
       rw b.many at l
 
-  pub new_deep : (depth : ℕ) → graph_verdict nodes ≡ Graph.HasDepth depth → graph_verdict new ≡ Graph.HasDepth depth
+  pub new_deep : (depth : ℕ) → graph_verdict nodes ≡ Ok depth → graph_verdict new ≡ Ok depth
   new_deep depth deep =
       let (off, alone, is) = depth_verdict nodes deep in
       let none : Shared new → ⊥ = λ s. clash (shared-repeats nodes (nodes_of nodes) off (shared-old s)) alone in
       let (d, e) = (verdict-holds new).neither no_loop none in
       let old = (verdict-holds nodes).deep depth deep in
       let there' = (verdict-holds new).deep d e in
-      e ∙ ap Graph.HasDepth (le_antisymm (shallower depth d old there') (deeper depth d old there'))
+      e ∙ ap Ok (le_antisymm (shallower depth d old there') (deeper depth d old there'))
 
   -- ---- children in range
 
@@ -306,14 +305,14 @@ module _ (nodes order : List ℕ) (subsectors : ℕ) (passed : Passed nodes subs
       λ (w : Walk new x y (root (nodes_of new)) s k). walk-back w (root (nodes_of nodes)) reached-root root-name,
     )
 
-    pub new-descends : (depth : ℕ) → graph_verdict nodes ≡ Graph.HasDepth depth → descent new subsectors x y ≡ descent nodes subsectors x y
+    pub new-descends : (depth : ℕ) → graph_verdict nodes ≡ Ok depth → descent new subsectors x y ≡ descent nodes subsectors x y
     new-descends depth deep =
         let a = descent-holds nodes subsectors passed depth deep x y in
         let b = descent-holds new subsectors new_passed depth (new_deep depth deep) x y in
         let (s, k) = b.only a.subsector a.count ((new_walks a.subsector a.count).0 a.walk) in
-        b.found ∙ (λ i. Found (sym s i) (sym k i)) ∙ sym a.found
+        b.found ∙ (λ i. Ok (record { subsector = sym s i; count = sym k i })) ∙ sym a.found
 
-  pub same_nodes : (depth : ℕ) → graph_verdict nodes ≡ Graph.HasDepth depth → SameNodes nodes order subsectors depth
+  pub same_nodes : (depth : ℕ) → graph_verdict nodes ≡ Ok depth → SameNodes nodes order subsectors depth
   same_nodes depth deep =
       let count = new-count nodes order inside in
       record {

@@ -1,16 +1,13 @@
 -- What holds of a list that is accepted, and of the lump that is written (02, W-212). Assumes nothing.
-use Rattle.std.specs.Prelude.{ℕ, ◌*◌, ◌≤◌, ◌<◌, true, List, [], ◌∷◌, ◌++◌, ◌⊎◌, ◌↔◌, ◌≡◌, ℤ, length}
-use Rattle.refusal.specs.declared.Check.TheVariants.{Pass}
+use Rattle.std.specs.Prelude.{ℕ, ◌*◌, ◌≤◌, ◌<◌, true, List, [], ◌∷◌, ◌++◌, ◌⊎◌, ◌↔◌, ◌≡◌, ℤ, length, Ok}
 use Rattle.record.specs.Nodes.{node_size}
 use Rattle.node.specs.declared.Choice.{Choice}
-use Rattle.node_route.specs.declared.Graph.{Graph}
 use Rattle.node.specs.Nodes.{nodes_of, subsector_bit, child_of, root, node_ok}
 use Rattle.node_route.specs.Routes.{Reached}
 use Rattle.node_route.specs.Heights.{graph_verdict}
 use Rattle.node_route.specs.Reach.{HoldsOnce}
 use Rattle.node_descent.specs.Walks.{Walk, descent}
-use Rattle.map_check.specs.declared.Verdict.TheVariants.{Accepted}
-use Rattle.map_check.specs.Verdict.{nodes_at, subsectors_at, verdict}
+use Rattle.map_check.specs.Verdict.{accepted, nodes_at, subsectors_at, verdict}
 use Rattle.renumber_order.specs.Orders.{old_at}
 use Rattle.renumber_order.specs.Orders.{renumber_check}
 use Rattle.renumber.specs.Renumbering.{renumbered}
@@ -32,7 +29,7 @@ pub record SameNodes (nodes order : List ℕ) (subsectors depth : ℕ) : Type 0 
   -- as many nodes as are reached, and no byte more
   pub long : length (renumbered nodes order) ≡ node_size * length order
   -- the graph check passes, with the same depth
-  pub deep : graph_verdict (renumbered nodes order) ≡ Graph.HasDepth depth
+  pub deep : graph_verdict (renumbered nodes order) ≡ Ok depth
   -- the children are in range
   pub in_range : (i : ℕ) → i < nodes_of (renumbered nodes order) → node_ok (renumbered nodes order) subsectors i ≡ true
   -- a child that is a node has a smaller number than its parent
@@ -46,8 +43,8 @@ pub record SameNodes (nodes order : List ℕ) (subsectors depth : ℕ) : Type 0 
 -- of every accepted map
 pub record RenumberHolds (wad name words order : List ℕ) : Type 0 where
   -- a list is accepted exactly if it is good and there is room
-  pub exactly : (depth marker room : ℕ) → verdict wad name words ≡ Accepted depth marker
-      → renumber_check (nodes_at wad marker) order room ≡ Pass ↔ (GoodOrder (nodes_at wad marker) order × (node_size * length order ≤ room))
+  pub exactly : (depth marker room : ℕ) → verdict wad name words ≡ accepted depth marker
+      → renumber_check (nodes_at wad marker) order room ≡ Ok tt ↔ (GoodOrder (nodes_at wad marker) order × (node_size * length order ≤ room))
   -- what is then written is the same tree
-  pub same : (depth marker : ℕ) → verdict wad name words ≡ Accepted depth marker → GoodOrder (nodes_at wad marker) order
+  pub same : (depth marker : ℕ) → verdict wad name words ≡ accepted depth marker → GoodOrder (nodes_at wad marker) order
       → SameNodes (nodes_at wad marker) order (subsectors_at wad marker) depth

@@ -14,7 +14,7 @@ use Rattle.text_token.specs.declared.Token.{Token}
 use Rattle.text_gap.specs.declared.Mode.TheVariants.{Between}
 use Rattle.text_byte.specs.Bytes.{star, slash}
 use Rattle.text_gap.specs.Gaps.{between, is_stop, gap_from}
-use Rattle.text_token.specs.Tokens.{word_form, token_behind, token_at, bytes_of, word_of}
+use Rattle.text_token.specs.Tokens.{form_of, word_form, token_behind, token_at, bytes_of, word_of}
 use Rattle.text_byte.specs.Spans.{span_end}
 use Rattle.text_token.proofs.Tokens.{token_at-placed}
 use Rattle.text_table.specs.Table.{bytes}
@@ -141,7 +141,7 @@ module _ (front old new rest : List ℕ) (at n : ℕ) (h : GapChanged front old 
         let i = d.inside in
         let m = next_below k l in
         record {
-          form = sym (ap (λ (u : Token). u.form) e);
+          form = sym (ap (λ (u : Token). (form_of u)) e);
           bytes = inl (front_word front (old ++ rest) t.start t.end o (omega (arith, i, m))
               ∙ sym (front_word front (new ++ rest) t.start t.end o (omega (arith, i, m))) ∙ sym (ap (word_of b) e));
         }
@@ -156,7 +156,7 @@ module _ (front old new rest : List ℕ) (at n : ℕ) (h : GapChanged front old 
       let e = token-behind front old rest h.old_gap j in
       let f = token-behind front new rest h.new_gap j in
       record {
-        form = ap (λ (u : Token). u.form) e ∙ sym (ap (λ (u : Token). u.form) f);
+        form = ap (λ (u : Token). (form_of u)) e ∙ sym (ap (λ (u : Token). (form_of u)) f);
         bytes = inl (ap (word_of a) e ∙ word-behind front old rest h.old_gap t
             ∙ sym (ap (word_of b) f ∙ word-behind front new rest h.new_gap t));
       }
@@ -233,6 +233,6 @@ comment_put_in = record {
   boundary = refl;
 }
   where
-    word : (k : ℕ) → k < 1 → word_form ≤ (token_at (gapped (bytes " x") [] (bytes " = 1;")) (token_place (gapped (bytes " x") [] (bytes " = 1;")) 0 k)).form
+    word : (k : ℕ) → k < 1 → word_form ≤ (form_of (token_at (gapped (bytes " x") [] (bytes " = 1;")) (token_place (gapped (bytes " x") [] (bytes " = 1;")) 0 k)))
     word zero h = omega arith
     word (suc k) h = absurd (omega (arith, h))

@@ -8,14 +8,14 @@ use native.Mathlib.Omega.{arith}
 use borrow.Author.Tests.{eqb-true, eqb-false, ltb-true, ltb-false, lt-ltb, le-ltb}
 use lib.Dec.{eqb, ltb}
 use lib.ListN.{length}
-use Rattle.refusal.specs.declared.Check.{Check}
-use Rattle.refusal.specs.declared.Check.TheVariants.{Pass, Refused}
+use Rattle.std.specs.Prelude.{Option, Ok, Err}
+use Rattle.refusal.specs.Checks.{Check}
 use Rattle.refusal.specs.declared.Refusal.TheVariants.{TextMissing}
 use Rattle.refusal.specs.Checks.{unless, ◌and_then◌}
 use Rattle.text_byte.proofs.Spans.{cond_on}
 use Rattle.text_byte.specs.Bytes.{equals_sign, semicolon, open_brace, close_brace}
 use Rattle.text_token.specs.declared.Token.{Token}
-use Rattle.text_token.specs.Tokens.{end_form, token_at, bytes_of}
+use Rattle.text_token.specs.Tokens.{form_of, end_form, token_at, bytes_of}
 use Rattle.text_value.specs.Values.{token_read}
 use Rattle.text_table.specs.declared.scope.Scope.{Scope}
 use Rattle.text_table.specs.declared.scope.Scope.TheVariants.{Top, Vertex, Linedef, Sidedef, Sector, Thing, Unknown}
@@ -61,25 +61,25 @@ module _ (text : List ℕ) (kind : Scope) (number : ℕ) where
         cond_on (λ (n : Notes). plain_notes n ≡ notes_after Nothing (plain p) next) (is_found (Numbered kind number) p)
         (λ _. refl) (λ _. refl)
 
-    judged-plain : (field : ℕ) (c : Check) → Plain (judged p t field c) (judged (plain p) t field c)
-    judged-plain field Pass = unchanged
-    judged-plain field (Refused r) = unchanged
+    judged-plain : (field : Option ℕ) (c : Check) → Plain (judged p t field c) (judged (plain p) t field c)
+    judged-plain field (Ok _) = unchanged
+    judged-plain field (Err r) = unchanged
 
     -- one token more: asked for a block or not, the rest of what was read is the same
     step-plain : (w : Wanted) → Plain (step_by text (Numbered kind number) places p t w) (step_by text Nothing places (plain p) t w)
     step-plain Statement =
         cond_both Plain {b = is_identifier text t} refl unchanged
-        (cond_both Plain {b = not (is_top p.scope) && eqb t.form close_brace} refl
+        (cond_both Plain {b = not (is_top p.scope) && eqb (form_of t) close_brace} refl
         (cond_both Plain {b = all_given p.scope places} refl
-        (record { same = ap (parse Statement Top 0 t.next Pass) (closed-plain t.next) }) unchanged)
-        (cond_both Plain {b = is_top p.scope && eqb t.form end_form} refl unchanged unchanged))
+        (record { same = ap (parse Statement Top 0 t.next (Ok tt)) (closed-plain t.next) }) unchanged)
+        (cond_both Plain {b = is_top p.scope && eqb (form_of t) end_form} refl unchanged unchanged))
     step-plain (Equals start end) =
-        cond_both Plain {b = eqb t.form equals_sign} refl unchanged
-        (cond_both Plain {b = is_top p.scope && eqb t.form open_brace} refl
+        cond_both Plain {b = eqb (form_of t) equals_sign} refl unchanged
+        (cond_both Plain {b = is_top p.scope && eqb (form_of t) open_brace} refl
         (cond_both Plain {b = is_full p.notes.counts (kind_named (bytes_of text start end))} refl unchanged unchanged)
         unchanged)
     step-plain (Value field) = judged-plain field (value_check (held_by p.scope field) (token_read text t) t.start)
-    step-plain (Semicolon field place) = cond_both Plain {b = eqb t.form semicolon} refl unchanged unchanged
+    step-plain (Semicolon field place) = cond_both Plain {b = eqb (form_of t) semicolon} refl unchanged unchanged
     step-plain NoMore = unchanged
 
   more-plain : (s : Stand) → plain_stand (token_more text (Numbered kind number) s) ≡ token_more text Nothing (plain_stand s)
@@ -205,13 +205,13 @@ module _ (text : List ℕ) (kind : Scope) (number : ℕ) (known : is_kind kind �
           (passed_after s.parse t.next h) (λ _ _ _ _. h)
 
 fields-check : (text : List ℕ) (p : Parse) (c : Check) → (fields_by text p c).check ≡ c
-fields-check text p Pass = refl
-fields-check text p (Refused r) = refl
+fields-check text p (Ok _) = refl
+fields-check text p (Err r) = refl
 
 below : (text : List ℕ) (kind : Scope) (number : ℕ) (p : Parse) (c : Check)
     → (c and_then unless (ltb number (count_of p.notes.counts kind)) TextMissing) ≡ check_below kind number (summary_by text p c)
-below text kind number p Pass = refl
-below text kind number p (Refused r) = refl
+below text kind number p (Ok _) = refl
+below text kind number p (Err r) = refl
 
 pub found-below_the_count : FoundBelowTheCount
 found-below_the_count text kind number known =

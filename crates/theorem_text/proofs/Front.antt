@@ -7,13 +7,14 @@ use native.Mathlib.Omega.{arith}
 use borrow.Author.Tests.{lt-ltb}
 use lib.Dec.{eqb, ltb}
 use lib.ListN.{get_or, length}
+use Rattle.text_token.specs.declared.Form.TheVariants.{Unclosed, String}
 use Rattle.text_token.specs.declared.Token.{Token}
 use Rattle.text_gap.specs.declared.Mode.{Mode}
 use Rattle.text_gap.specs.declared.Mode.TheVariants.{Between, Line, Opening, Comment, Star, Stop}
 use Rattle.text_gap.specs.declared.Gap.{Gap}
 use Rattle.text_byte.specs.Bytes.{newline, star, slash, double_quote, backslash, is_mark}
 use Rattle.text_gap.specs.Gaps.{between, mode_after, is_stop, gap, gap_from}
-use Rattle.text_token.specs.Tokens.{unclosed_form, word_form, string_form, token, in_word, quote_end, ended, string_to, word_to, token_here, token_behind, token_at}
+use Rattle.text_token.specs.Tokens.{mark_form, form_of, word_form, token, in_word, quote_end, ended, string_to, word_to, token_here, token_behind, token_at}
 use Rattle.text_byte.specs.Spans.{span_end}
 use Rattle.text_byte.proofs.Spans.{span_reach}
 use Rattle.text_token.proofs.Tokens.{quote_reach, token_at-placed}
@@ -82,7 +83,7 @@ module _ {a b : List ℕ} {p : ℕ} (s : SameFront a b p) where
 
   -- a token that ends before `p`
   Ends : Token → Type 0
-  Ends t = (word_form ≤ t.form) × (t.next ≤ p)
+  Ends t = (word_form ≤ (form_of t)) × (t.next ≤ p)
 
   string_front : (i : ℕ) → i < p
       → Ends (string_to a i (quote_end a false (i + 1) (length a - (i + 1))))
@@ -93,15 +94,15 @@ module _ {a b : List ℕ} {p : ℕ} (s : SameFront a b p) where
       qa : ℕ
       qa = quote_end a false (i + 1) (length a - (i + 1))
 
-      by : (x : Bool) → ltb qa (length a) ≡ x → Ends (cond x (token string_form i qa (qa + 1)) (ended a unclosed_form))
-          → string_to b i (quote_end b false (i + 1) (length b - (i + 1))) ≡ cond x (token string_form i qa (qa + 1)) (ended a unclosed_form)
+      by : (x : Bool) → ltb qa (length a) ≡ x → Ends (cond x (token String i qa (qa + 1)) (ended a Unclosed))
+          → string_to b i (quote_end b false (i + 1) (length b - (i + 1))) ≡ cond x (token String i qa (qa + 1)) (ended a Unclosed)
       by true e f =
           let m = s.inside in
           let n = s.within in
           ap (string_to b i)
           (quote_front (p - (i + 1)) (i + 1) false (length a - (i + 1)) (length b - (i + 1)) (omega (arith, l)) (omega (arith, m))
           (omega (arith, n)) (omega (arith, f.1)))
-          ∙ ap (λ (x : Bool). cond x (token string_form i qa (qa + 1)) (ended b unclosed_form)) (lt-ltb qa (length b) (omega (arith, f.1, n)))
+          ∙ ap (λ (x : Bool). cond x (token String i qa (qa + 1)) (ended b Unclosed)) (lt-ltb qa (length b) (omega (arith, f.1, n)))
       by false e f = absurd (omega (arith, f.0))
 
   word_front : (i : ℕ) → i < p → span_end (in_word a) (i + 1) (length a - (i + 1)) ≤ p
@@ -116,12 +117,12 @@ module _ {a b : List ℕ} {p : ℕ} (s : SameFront a b p) where
   here_front i l =
       let c = get_or a i 0 in
       λ h. ap (λ (x : ℕ). cond (eqb x double_quote) (string_to b i (quote_end b false (i + 1) (length b - (i + 1))))
-      (cond (is_mark x) (token x i (i + 1) (i + 1)) (word_to i (span_end (in_word b) (i + 1) (length b - (i + 1)))))) (s.bytes i l)
+      (cond (is_mark x) (token (mark_form x) i (i + 1) (i + 1)) (word_to i (span_end (in_word b) (i + 1) (length b - (i + 1)))))) (s.bytes i l)
       ∙ choice Ends (eqb c double_quote) (string_front i l)
       (choice Ends (is_mark c) (λ _. refl) (λ k. ap (word_to i) (word_front i l k.1))) h
 
   -- is a token of the other text
-  pub token_front : (q : ℕ) → q ≤ p → word_form ≤ (token_at a q).form → (token_at a q).next ≤ p → token_at b q ≡ token_at a q
+  pub token_front : (q : ℕ) → q ≤ p → word_form ≤ (form_of (token_at a q)) → (token_at a q).next ≤ p → token_at b q ≡ token_at a q
   unfolding Ends
   token_front q l f h =
       let g = gap_from a Between q (length a - q) in
@@ -129,7 +130,7 @@ module _ {a b : List ℕ} {p : ℕ} (s : SameFront a b p) where
       let n = s.within in
       let again = token-again a q f in
       let ahead : (token_at a q).start < (token_at a q).next =
-      subst (λ (t : Token). word_form ≤ t.form → (token_at a q).start < t.next) again (token_at-placed a (token_at a q).start).ahead f in
+      subst (λ (t : Token). word_form ≤ (form_of t) → (token_at a q).start < t.next) again (token_at-placed a (token_at a q).start).ahead f in
       let start = gap_start a q f in
       let before : g.at < p = omega (arith, start, ahead, h) in
       let here : token_at a q ≡ token_here a g.at = behind-inside a g (omega (arith, before, m)) in

@@ -9,17 +9,17 @@ use native.Mathlib.Omega.{arith}
 use borrow.Author.Tests.{ne_eqb, ltb-true, ltb-false}
 use lib.Dec.{eqb, ltb}
 use lib.ListN.{length}
-use Rattle.refusal.specs.declared.Check.{Check}
+use Rattle.std.specs.Prelude.{Ok, Err}
+use Rattle.refusal.specs.Checks.{Check}
 use Rattle.refusal.specs.declared.Refusal.TheVariants.{TextMissing}
 use Rattle.refusal.specs.Checks.{unless, ◌and_then◌}
 use Rattle.text_token.specs.declared.Token.{Token}
-use Rattle.text_token.specs.Tokens.{word_form, string_form, token_at, word_of}
+use Rattle.text_token.specs.Tokens.{form_of, word_form, string_form, token_at, word_of}
 use Rattle.text_byte.proofs.Spans.{cond_on}
 use Rattle.text_token.proofs.Tokens.{token_at-placed}
-use Rattle.text_value.specs.declared.Reading.{Reading}
 use Rattle.text_value.specs.declared.Value.TheVariants.{Text}
-use Rattle.text_value.specs.declared.Reading.TheVariants.{Good, NoValue}
-use Rattle.text_value.specs.Values.{word_read, token_read}
+use Rattle.text_value.specs.declared.Misread.TheVariants.{NoValue}
+use Rattle.text_value.specs.Values.{Reading, word_read, token_read}
 use Rattle.text_table.specs.Names.{field_named, kind_named}
 use Rattle.text_block.specs.declared.Asked.{Asked}
 use Rattle.text_block.specs.declared.Wanted.{Wanted}
@@ -41,12 +41,12 @@ use Rattle.theorem_text.proofs.Related.{SamePlace, SameName, Begun, SameWanted, 
 use Rattle.theorem_text.proofs.Stepping.{step_top, stepped_alike, no_places_lem, SameFields, filed_alike}
 
 -- words with the same letters say the same
-letters-same : (a b : List ℕ) (t u : Token) → t.form ≡ u.form → t.form ≡ word_form → SameLetters (word_of a t) (word_of b u) → SameReading a b (token_read a t) (token_read b u)
+letters-same : (a b : List ℕ) (t u : Token) → (form_of t) ≡ (form_of u) → (form_of t) ≡ word_form → SameLetters (word_of a t) (word_of b u) → SameReading a b (token_read a t) (token_read b u)
 letters-same a b t u e f l =
     subst (λ (r : Reading). SameReading a b r (token_read b u)) (sym (as_word a t f)) (subst (SameReading a b (word_read (word_of a t))) (sym (as_word b u (sym e ∙ f))) (letters_read a b l))
   where
-    as_word : (x : List ℕ) (z : Token) → z.form ≡ word_form → token_read x z ≡ word_read (word_of x z)
-    as_word x z q = ap (λ (n : ℕ). cond (eqb n string_form) (Good (Text (z.start + 1) z.end)) (cond (eqb n word_form) (word_read (word_of x z)) NoValue)) q
+    as_word : (x : List ℕ) (z : Token) → (form_of z) ≡ word_form → token_read x z ≡ word_read (word_of x z)
+    as_word x z q = ap (λ (n : ℕ). cond (eqb n string_form) (Ok (Text (z.start + 1) z.end)) (cond (eqb n word_form) (word_read (word_of x z)) (Err NoValue))) q
 
 module _ (a b : List ℕ) where
   module _ (n at from : ℕ) (h : SameFirst (suc n) a at b from) where
@@ -60,14 +60,14 @@ module _ (a b : List ℕ) where
     unfolding token_place
     here = h 0 (omega arith)
 
-    form_alike : t.form ≡ u.form
+    form_alike : (form_of t) ≡ (form_of u)
     form_alike = here.form
 
     next_alike : SameFirst n a t.next b u.next
     unfolding token_place
     next_alike k i = h (suc k) (omega (arith, i))
 
-    begun_alike : word_form ≤ t.form → Begun a b t.next u.next
+    begun_alike : word_form ≤ (form_of t) → Begun a b t.next u.next
     begun_alike k =
         let p = token_at-placed a at in
         let q = token_at-placed b from in
@@ -105,16 +105,16 @@ module _ (a b : List ℕ) where
         let u-there : eqb u.start 0 ≡ false = ne_eqb u.start 0 (λ e. omega (arith, e, j, g.1.0)) in
         record {
           given = t-there ∙ sym u-there;
-          read = cond_both (SameReading a b) (t-there ∙ sym u-there) same_none (again (ltb t.form word_form) refl);
+          read = cond_both (SameReading a b) (t-there ∙ sym u-there) same_none (again (ltb (form_of t) word_form) refl);
         }
       where
-        again : (x : Bool) → ltb t.form word_form ≡ x → SameReading a b (token_read a (token_at a t.start)) (token_read b (token_at b u.start))
+        again : (x : Bool) → ltb (form_of t) word_form ≡ x → SameReading a b (token_read a (token_at a t.start)) (token_read b (token_at b u.start))
         again true e =
-            let low = ltb-true t.form word_form e in
+            let low = ltb-true (form_of t) word_form e in
             subst (λ (r : Reading). SameReading a b r (token_read b (token_at b u.start))) (sym (token-ended a at low))
-            (subst (SameReading a b NoValue) (sym (token-ended b from (subst (λ (f : ℕ). f < word_form) form_alike low))) same_none)
+            (subst (SameReading a b (Err NoValue)) (sym (token-ended b from (subst (λ (f : ℕ). f < word_form) form_alike low))) same_none)
         again false e =
-            let high = ltb-false t.form word_form e in
+            let high = ltb-false (form_of t) word_form e in
             subst (λ (z : Token). SameReading a b (token_read a z) (token_read b (token_at b u.start))) (sym (token-again a at high))
             (subst (λ (z : Token). SameReading a b (token_read a t) (token_read b z)) (sym (token-again b from (subst (λ (f : ℕ). word_form ≤ f) form_alike high)))
             read_alike)

@@ -1,18 +1,18 @@
 -- The last value counts: behind an assignment the place of its value stays, up to the text's end. Assumes nothing.
-use Prim.Native.Nat.{ℕ, zero, suc, ◌+◌, ◌-◌, ◌<◌}
-use mathlib.Core.Bool.{Bool, true, false, not, ◌&&◌, cond, true≢false}
+use Prim.Native.Nat.{ℕ, zero, suc, ◌+◌, ◌<◌}
+use mathlib.Core.Bool.{Bool, true, false, not, ◌&&◌, cond}
 use mathlib.Core.List.{List}
 use mathlib.Core.Path.{◌≡◌, refl, sym, ap, ◌∙◌}
 use native.Mathlib.Omega.{arith}
-use borrow.Author.Tests.{ne_eqb, eq-eqb, eqb-false}
+use borrow.Author.Tests.{eq-eqb, eqb-false}
 use lib.Dec.{eqb}
 use lib.ListN.{get_or, length, set}
 use lib.Seq.{get_or-set_same, get_or-set_other}
-use Rattle.refusal.specs.declared.Check.{Check}
-use Rattle.refusal.specs.declared.Check.TheVariants.{Pass, Refused}
+use Rattle.std.specs.Prelude.{Option, Some, None, is_some, Ok, Err}
+use Rattle.refusal.specs.Checks.{Check}
 use Rattle.text_token.specs.declared.Token.{Token}
 use Rattle.text_byte.specs.Bytes.{equals_sign, semicolon, open_brace, close_brace}
-use Rattle.text_token.specs.Tokens.{end_form, token_at, bytes_of}
+use Rattle.text_token.specs.Tokens.{form_of, end_form, token_at, bytes_of}
 use Rattle.text_byte.proofs.Spans.{cond_on}
 use Rattle.text_value.specs.Values.{token_read}
 use Rattle.text_table.specs.Names.{kind_named}
@@ -28,30 +28,21 @@ use Rattle.text_reader.specs.Texts.{Stand, token_more, text_from}
 use Rattle.theorem_text.specs.Promises.{after, begins_at, touches, touched_next, EndsAsked, LastValueCounts, LastValueIsRead, assigns, names_next, LastNamespaceCounts}
 use Rattle.theorem_text.proofs.Holds.{text_long, after_add}
 
--- a known field is counted from 1
-field_of : (field i : ℕ) → eqb field 0 ≡ false → i ≡ field - 1 → field ≡ i + 1
-field_of zero i e h = absurd (true≢false e)
-field_of (suc f) i e h = omega (arith, h)
-
-stored_there : (places : List ℕ) (i place : ℕ) → i < length places → get_or (stored places (i + 1) place) i 0 ≡ place
-stored_there places i place h =
-    let known : eqb (i + 1) 0 ≡ false = ne_eqb (i + 1) 0 (λ e. omega (arith, e)) in
-    let back : i + 1 - 1 ≡ i = omega arith in
-    ap (λ (x : Bool). get_or (cond x places (set places (i + 1 - 1) place)) i 0) known ∙ ap (λ (k : ℕ). get_or (set places k place) i 0) back
-    ∙ get_or-set_same places i place 0 h
-
 -- of a repeated field the last value counts
 kept-place : (i : ℕ) (w : Wanted) (t : Token) (places : List ℕ) → touches i w t ≡ false → get_or (filed w t places) i 0 ≡ get_or places i 0
 kept-place i Statement t places e = refl
 kept-place i (Equals start end) t places e = ap (λ (x : Bool). get_or (cond x no_places places) i 0) e
 kept-place i (Value field) t places e = refl
-kept-place i (Semicolon field place) t places e = by (eqb t.form semicolon) (eqb field 0) refl e
+kept-place i (Semicolon None place) t places e = by (eqb (form_of t) semicolon)
   where
-    by : (x y : Bool) → eqb field 0 ≡ y → (x && eqb field (i + 1)) ≡ false
-        → get_or (cond x (cond y places (set places (field - 1) place)) places) i 0 ≡ get_or places i 0
-    by true true q f = refl
-    by true false q f = get_or-set_other places (field - 1) i place 0 (λ h. eqb-false field (i + 1) f (field_of field i q h))
-    by false y q f = refl
+    by : (x : Bool) → get_or (cond x places places) i 0 ≡ get_or places i 0
+    by true = refl
+    by false = refl
+kept-place i (Semicolon (Some k) place) t places e = by (eqb (form_of t) semicolon) e
+  where
+    by : (x : Bool) → (x && eqb k i) ≡ false → get_or (cond x (set places k place) places) i 0 ≡ get_or places i 0
+    by true f = get_or-set_other places k i place 0 (λ h. eqb-false k i f (sym h))
+    by false f = refl
 kept-place i NoMore t places e = refl
 
 after_kept : (text : List ℕ) (asked : Asked) (i n : ℕ) (s : Stand) → ((k : ℕ) → k < n → touched_next text i (after text asked k s) ≡ false)
@@ -67,26 +58,26 @@ module _ (text : List ℕ) (asked : Asked) (places : List ℕ) (p : Parse) (t : 
   abbrev pub Noted : Parse → Type 0
   Noted q = P q.notes
 
-  judged-notes : (field : ℕ) (c : Check) → P p.notes → Noted (judged p t field c)
-  judged-notes field Pass h = h
-  judged-notes field (Refused r) h = h
+  judged-notes : (field : Option ℕ) (c : Check) → P p.notes → Noted (judged p t field c)
+  judged-notes field (Ok _) h = h
+  judged-notes field (Err r) h = h
 
   pub step-notes : (w : Wanted) → P p.notes → P (notes_after asked p t.next)
-      → ((field place : ℕ) → w ≡ Semicolon field place → eqb t.form semicolon ≡ true → P (notes_assigned p field place))
+      → ((field : Option ℕ) (place : ℕ) → w ≡ Semicolon field place → eqb (form_of t) semicolon ≡ true → P (notes_assigned p field place))
       → Noted (step_by text asked places p t w)
   step-notes Statement h closed assigned =
       cond_on Noted (is_identifier text t) (λ _. h)
-      (λ _. cond_on Noted (not (is_top p.scope) && eqb t.form close_brace)
+      (λ _. cond_on Noted (not (is_top p.scope) && eqb (form_of t) close_brace)
       (λ _. cond_on Noted (all_given p.scope places) (λ _. closed) (λ _. h))
-      (λ _. cond_on Noted (is_top p.scope && eqb t.form end_form) (λ _. h) (λ _. h)))
+      (λ _. cond_on Noted (is_top p.scope && eqb (form_of t) end_form) (λ _. h) (λ _. h)))
   step-notes (Equals start end) h closed assigned =
-      cond_on Noted (eqb t.form equals_sign) (λ _. h)
-      (λ _. cond_on Noted (is_top p.scope && eqb t.form open_brace)
+      cond_on Noted (eqb (form_of t) equals_sign) (λ _. h)
+      (λ _. cond_on Noted (is_top p.scope && eqb (form_of t) open_brace)
       (λ _. cond_on Noted (is_full p.notes.counts (kind_named (bytes_of text start end))) (λ _. h) (λ _. h)) (λ _. h))
   step-notes (Value field) h closed assigned =
       judged-notes field (value_check (held_by p.scope field) (token_read text t) t.start) h
   step-notes (Semicolon field place) h closed assigned =
-      cond_on Noted (eqb t.form semicolon) (assigned field place refl) (λ _. h)
+      cond_on Noted (eqb (form_of t) semicolon) (assigned field place refl) (λ _. h)
   step-notes NoMore h closed assigned = h
 
 module _ (text : List ℕ) (asked : Asked) where
@@ -120,8 +111,8 @@ last-value-counts text asked s i place n long w f h =
     let here =
     after_kept text asked i n (token_more text asked s) h
     ∙ ap (λ (v : Wanted). get_or (filed v (token_at text s.parse.at) s.places) i 0) w
-    ∙ ap (λ (x : Bool). get_or (cond x (stored s.places (i + 1) place) s.places) i 0) (eq-eqb _ _ f)
-    ∙ stored_there s.places i place long in
+    ∙ ap (λ (x : Bool). get_or (cond x (stored s.places (Some i) place) s.places) i 0) (eq-eqb _ _ f)
+    ∙ get_or-set_same s.places i place 0 long in
     record {
       here = here;
       kept = λ e m. ap (λ (l : List ℕ). get_or l i 0) (asked-kept text asked (after text asked n (token_more text asked s)) e m) ∙ here;
@@ -144,10 +135,10 @@ module _ (text : List ℕ) (asked : Asked) where
       (cond_on (λ (n : Notes). n.namespace ≡ p.notes.namespace) (is_found asked p) (λ _. refl) (λ _. refl))
       (λ field place w f. ap (λ (x : Bool). cond x place p.notes.namespace) (other field place w f))
     where
-      other : (field place : ℕ) → s.parse.wanted ≡ Semicolon field place → eqb (token_at text s.parse.at).form semicolon ≡ true
-          → (is_top s.parse.scope && not (eqb field 0)) ≡ false
+      other : (field : Option ℕ) (place : ℕ) → s.parse.wanted ≡ Semicolon field place → eqb (form_of (token_at text s.parse.at)) semicolon ≡ true
+          → (is_top s.parse.scope && is_some field) ≡ false
       other field place w f =
-          (λ i. is_top s.parse.scope && (sym f i && not (eqb field 0)))
+          (λ i. is_top s.parse.scope && (sym f i && is_some field))
           ∙ ap (λ (v : Wanted). is_top s.parse.scope && assigns v (token_at text s.parse.at)) (sym w) ∙ h
 
   namespace_on : (n : ℕ) (s : Stand) → ((k : ℕ) → names_next text (after text asked k s) ≡ false)
@@ -157,13 +148,13 @@ module _ (text : List ℕ) (asked : Asked) where
   namespace_on (suc n) s h = namespace_on n (token_more text asked s) (λ k. h (suc k)) ∙ namespace_still s (h 0)
 
   -- an assignment at the top
-  namespace_there : (s : Stand) (place : ℕ) → s.parse.wanted ≡ Semicolon 1 place → is_top s.parse.scope ≡ true
-      → (token_at text s.parse.at).form ≡ semicolon → (token_more text asked s).parse.notes.namespace ≡ place
+  namespace_there : (s : Stand) (place : ℕ) → s.parse.wanted ≡ Semicolon (Some 0) place → is_top s.parse.scope ≡ true
+      → (form_of (token_at text s.parse.at)) ≡ semicolon → (token_more text asked s).parse.notes.namespace ≡ place
   namespace_there s place w top f =
       let p = s.parse in
       let t = token_at text p.at in
       ap (λ (v : Wanted). (step_by text asked s.places p t v).notes.namespace) w
-      ∙ ap (λ (x : Bool). (cond x (parse Statement p.scope p.block t.next Pass (notes_assigned p 1 place)) (misfit p t)).notes.namespace)
+      ∙ ap (λ (x : Bool). (cond x (parse Statement p.scope p.block t.next (Ok tt) (notes_assigned p (Some 0) place)) (misfit p t)).notes.namespace)
       (eq-eqb _ _ f)
       ∙ ap (λ (x : Bool). cond (x && true) place p.notes.namespace) top
 

@@ -1,23 +1,23 @@
 -- The case of letters in identifiers and keywords changes nothing. Assumes nothing.
-use Prim.Native.Nat.{ℕ, zero, suc, ◌+◌, ◌-◌, ◌<◌}
+use Prim.Native.Nat.{ℕ, zero, suc, ◌-◌, ◌<◌}
 use mathlib.Core.Bool.{Bool, true, false, not, ◌&&◌, ◌||◌, cond, and-false, and-eq-true_iff}
-use mathlib.Core.List.{List, [], ◌∷◌}
+use mathlib.Core.List.{List}
 use mathlib.Core.Path.{◌≡◌, refl, sym, ap, ◌∙◌, subst}
 use native.Mathlib.Omega.{arith}
 use borrow.Author.Tests.{eqb-true, ne_eqb, lt-leb, ltb-true, ltb-false}
 use lib.Dec.{eqb, ltb, leb}
 use lib.ListN.{get_or, length}
+use Rattle.std.specs.Prelude.{Err, position}
 use Rattle.text_byte.specs.Bytes.{within, is_digit, is_letter, is_name_byte}
 use Rattle.text_byte.specs.Spans.{span_end}
 use Rattle.text_byte.proofs.Bytes.{within-true, either}
 use Rattle.text_byte.proofs.Spans.{span_stop, span_done}
-use Rattle.text_value.specs.declared.Reading.{Reading}
-use Rattle.text_value.specs.declared.Reading.TheVariants.{NoValue}
+use Rattle.text_value.specs.declared.Misread.TheVariants.{NoValue}
 use Rattle.text_value.specs.Numbers.{zero_digit, plus_sign, minus_sign, digits_from, digits_end, hex_ok, hex_end, small_x, behind_sign}
-use Rattle.text_value.specs.Values.{is_true, is_false, whole_read, digits_read, number_read, word_read}
+use Rattle.text_value.specs.Values.{Reading, is_true, is_false, whole_read, digits_read, number_read, word_read}
 use Rattle.text_table.specs.declared.scope.Scope.{Scope}
 use Rattle.text_table.specs.Table.{Row, kind_names, fields_of}
-use Rattle.text_table.specs.Names.{every, is_name, name_in, field_named, kind_named}
+use Rattle.text_table.specs.Names.{every, is_name, field_named, kind_named}
 use Rattle.text_table.specs.Scopes.{scope_of}
 use Rattle.text_name.specs.Identifiers.{identifier_ok}
 use Rattle.theorem_text.specs.Tokens.{SameLetters}
@@ -28,16 +28,11 @@ module _ {v w : List ℕ} (s : SameLetters v w) where
   is_name_lem : (name : List ℕ) → is_name v false name ≡ is_name w false name
   is_name_lem name = λ j. eqb (s.long j) (length name) && every (λ k. eqb (s.letters k j) (get_or name k 0)) (s.long j)
 
-  name_in_lem : (rows : List Row) (passed : ℕ) → name_in v false passed rows ≡ name_in w false passed rows
-  unfolding name_in
-  name_in_lem [] passed = refl
-  name_in_lem (r ∷ rows) passed = λ j. cond (is_name_lem r.name j) (passed + 1) (name_in_lem rows (passed + 1) j)
-
   pub field-named : (scope : Scope) → field_named scope v ≡ field_named scope w
-  field-named scope = name_in_lem (fields_of scope) 0
+  field-named scope = λ j. position (λ (r : Row). is_name_lem r.name j) (fields_of scope)
 
   pub kind-named : kind_named v ≡ kind_named w
-  kind-named = ap scope_of (name_in_lem kind_names 0)
+  kind-named = λ j. scope_of (position (λ (n : List ℕ). is_name_lem n j) kind_names)
 
   pub true_same : is_true v ≡ is_true w
   true_same = λ j. (eqb (s.long j) 4 && eqb (s.letters 0 j) 116) && (eqb (s.letters 1 j) 114 && (eqb (s.letters 2 j) 117 && eqb (s.letters 3 j) 101))
@@ -78,24 +73,24 @@ module _ (v : List ℕ) (h : 64 < get_or v 0 0) where
       by true e = span_stop (λ i. is_digit (get_or v i 0)) 0 (length v) (ltb-true 0 (length v) e) refl no_digit
       by false e = span_done (λ i. is_digit (get_or v i 0)) 0 (length v) (ltb-false 0 (length v) e)
 
-  no_number : number_read v ≡ NoValue
+  no_number : number_read v ≡ Err NoValue
   no_number =
       let minus = eqb (get_or v 0 0) minus_sign in
       ap (λ (at : ℕ). digits_read v minus at (digits_end v at)) no_sign
       ∙ ap (λ (behind : ℕ). digits_read v minus 0 behind) no_digits
-      ∙ ap (λ (x : Bool). cond x (whole_read minus (digits_from v 10 0 0 (length v - 0))) NoValue) (none-whole (length v) (not (eqb (get_or v 0 0) zero_digit) || eqb (length v) 1))
+      ∙ ap (λ (x : Bool). cond x (whole_read minus (digits_from v 10 0 0 (length v - 0))) (Err NoValue)) (none-whole (length v) (not (eqb (get_or v 0 0) zero_digit) || eqb (length v) 1))
 
 -- so is what it says, if it is an identifier
 pub letters_read : (a b : List ℕ) {v w : List ℕ} → SameLetters v w → SameReading a b (word_read v) (word_read w)
 letters_read a b {v} {w} s =
     cond_both (SameReading a b) (true_same s) (same_flag true)
     (cond_both (SameReading a b) (false_same s) (same_flag false) (subst (λ (r : Reading). SameReading a b r (rest w)) (sym (no_value v s.first))
-    (subst (SameReading a b NoValue) (sym (no_value w s.second)) same_none)))
+    (subst (SameReading a b (Err NoValue)) (sym (no_value w s.second)) same_none)))
   where
     rest : List ℕ → Reading
     rest x = cond (hex_ok x) (whole_read false (digits_from x 16 0 2 (length x - 2))) (number_read x)
 
-    no_value : (x : List ℕ) → identifier_ok x ≡ true → rest x ≡ NoValue
+    no_value : (x : List ℕ) → identifier_ok x ≡ true → rest x ≡ Err NoValue
     no_value x e =
         let h = letter_high (get_or x 0 0) ((and-eq-true_iff (is_letter (get_or x 0 0)) (eqb (span_end (λ i. is_name_byte (get_or x i 0)) 0 (length x)) (length x))).0 e).0 in
         ap (λ (y : Bool). cond y (whole_read false (digits_from x 16 0 2 (length x - 2))) (number_read x)) (no_hex x h) ∙ no_number x h

@@ -8,13 +8,15 @@ use borrow.Author.Tests.{ltb-true, ltb-false, lt-ltb, le-ltb}
 use lib.Dec.{eqb, ltb}
 use lib.ListN.{get_or, length, length-append, take}
 use lib.Seq.{get_or-append-add, drop-append-add}
+use Rattle.text_token.specs.declared.Form.{Form}
+use Rattle.text_token.specs.declared.Form.TheVariants.{End, Unclosed, String}
 use Rattle.text_token.specs.declared.Token.{Token}
 use Rattle.text_gap.specs.declared.Mode.{Mode}
 use Rattle.text_gap.specs.declared.Mode.TheVariants.{Between}
 use Rattle.text_gap.specs.declared.Gap.{Gap}
 use Rattle.text_byte.specs.Bytes.{double_quote, backslash, is_mark, ends_word}
 use Rattle.text_gap.specs.Gaps.{mode_after, is_stop, is_open, gap, gap_from}
-use Rattle.text_token.specs.Tokens.{end_form, unclosed_form, string_form, token, in_word, quote_end, ended, string_to, word_to, token_here, token_behind, token_at, word_of}
+use Rattle.text_token.specs.Tokens.{mark_form, token, in_word, quote_end, ended, string_to, word_to, token_here, token_behind, token_at, word_of}
 use Rattle.text_byte.specs.Spans.{span_end}
 use Rattle.theorem_text.specs.Tokens.{token_place}
 
@@ -84,13 +86,13 @@ module _ (front rest : List ℕ) where
       by true e = let h = ltb-true k (length rest) e in lt-ltb (c + k) (length text) (omega (arith, h, long))
       by false e = let h = ltb-false k (length rest) e in le-ltb (c + k) (length text) (omega (arith, h, long))
 
-  ended-moved : (form : ℕ) → ended text form ≡ moved c (ended rest form)
+  ended-moved : (form : Form) → ended text form ≡ moved c (ended rest form)
   ended-moved form = λ i. token form (long i) (long i) (long i)
 
   string-moved : (j end : ℕ) → string_to text (c + j) (c + end) ≡ moved c (string_to rest j end)
   string-moved j end =
-      ap (λ (x : Bool). cond x (token string_form (c + j) (c + end) (c + end + 1)) (ended text unclosed_form)) (ltb-moved end)
-      ∙ cond-ap (moved c) (ltb end (length rest)) (ap (token string_form (c + j) (c + end)) (later end)) (ended-moved unclosed_form)
+      ap (λ (x : Bool). cond x (token String (c + j) (c + end) (c + end + 1)) (ended text Unclosed)) (ltb-moved end)
+      ∙ cond-ap (moved c) (ltb end (length rest)) (ap (token String (c + j) (c + end)) (later end)) (ended-moved Unclosed)
 
   here-moved : (j : ℕ) → token_here text (c + j) ≡ moved c (token_here rest j)
   here-moved j =
@@ -102,15 +104,15 @@ module _ (front rest : List ℕ) where
       let word : span_end (in_word text) (c + j + 1) (length text - (c + j + 1)) ≡ c + span_end (in_word rest) (j + 1) n =
       (λ i. span_end (in_word text) (later j i) (left-next i)) ∙ span_moved (j + 1) n in
       (λ i. cond (eqb (byte j i) double_quote) (string_to text (c + j) (quote i))
-      (cond (is_mark (byte j i)) (token (byte j i) (c + j) (later j i) (later j i)) (word_to (c + j) (word i))))
+      (cond (is_mark (byte j i)) (token (mark_form (byte j i)) (c + j) (later j i) (later j i)) (word_to (c + j) (word i))))
       ∙ cond-ap (moved c) (eqb b double_quote) (string-moved j (quote_end rest false (j + 1) n)) (cond-ap (moved c) (is_mark b) refl refl)
 
   behind_moved : (g : Gap) → token_behind text (moved_gap c g) ≡ moved c (token_behind rest g)
   behind_moved g =
-      ap (λ (x : Bool). cond x (token_here text (c + g.at)) (cond (is_open g.mode) (ended text unclosed_form) (ended text end_form)))
+      ap (λ (x : Bool). cond x (token_here text (c + g.at)) (cond (is_open g.mode) (ended text Unclosed) (ended text End)))
       (ltb-moved g.at)
       ∙ cond-ap (moved c) (ltb g.at (length rest)) (here-moved g.at)
-      (cond-ap (moved c) (is_open g.mode) (ended-moved unclosed_form) (ended-moved end_form))
+      (cond-ap (moved c) (is_open g.mode) (ended-moved Unclosed) (ended-moved End))
 
   pub token-moved : (j : ℕ) → token_at text (c + j) ≡ moved c (token_at rest j)
   token-moved j =

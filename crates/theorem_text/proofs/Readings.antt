@@ -10,20 +10,22 @@ use lib.IntN.{ℤ}
 use lib.Ieee.{Float}
 use lib.ListN.{get_or, length, take, drop}
 use lib.Seq.{drop-drop}
+use Rattle.std.specs.Prelude.{Ok, Err}
+use Rattle.text_token.specs.declared.Form.{Form}
+use Rattle.text_token.specs.declared.Form.TheVariants.{End, Unclosed}
 use Rattle.text_token.specs.declared.Token.{Token}
 use Rattle.text_gap.specs.declared.Mode.{Mode}
 use Rattle.text_gap.specs.declared.Mode.TheVariants.{Between, Line, Opening, Comment, Star, Stop}
 use Rattle.text_gap.specs.declared.Gap.{Gap}
-use Rattle.text_byte.specs.Bytes.{newline, star, slash, double_quote, is_mark}
+use Rattle.text_byte.specs.Bytes.{newline, star, slash, double_quote, semicolon, equals_sign, open_brace, close_brace, is_mark}
 use Rattle.text_gap.specs.Gaps.{between, mode_after, is_stop, is_open, gap, gap_from}
-use Rattle.text_token.specs.Tokens.{end_form, unclosed_form, word_form, string_form, quote_end, ended, token_here, token_behind, token_at, bytes_of, word_of}
+use Rattle.text_token.specs.Tokens.{mark_form, form_number, form_of, word_form, string_form, quote_end, ended, token_here, token_behind, token_at, bytes_of, word_of}
 use Rattle.text_byte.proofs.Spans.{cond_on}
 use Rattle.text_gap.proofs.Scans.{gap_reach, gap-stop}
 use Rattle.text_value.specs.declared.Value.TheVariants.{Whole, Decimal, Text, Flag}
-use Rattle.text_value.specs.declared.Reading.{Reading}
-use Rattle.text_value.specs.declared.Reading.TheVariants.{Good, WholePast, DecimalPast, NoValue}
+use Rattle.text_value.specs.declared.Misread.TheVariants.{WholePast, DecimalPast, NoValue}
 use Rattle.text_value.specs.Numbers.{digits_from, digits_end, hex_ok, whole_ok, decimal_ok, minus_sign, behind_sign, signed, most_of, decimal_fits, decimal_digits, quotient}
-use Rattle.text_value.specs.Values.{is_true, is_false, whole_read, digits_read, word_read, token_read}
+use Rattle.text_value.specs.Values.{Reading, is_true, is_false, whole_read, digits_read, word_read, token_read}
 use Rattle.text_record.specs.Fields.{whole_or, decimal_or, string_or, flag_or}
 use Rattle.theorem_text.specs.Answers.{string_bytes, is_absent}
 
@@ -67,7 +69,7 @@ module _ (text : List ℕ) where
   -- behind a gap that ends inside the text
   pub behind-inside : (g : Gap) → g.at < length text → token_behind text g ≡ token_here text g.at
   behind-inside g h =
-      ap (λ (b : Bool). cond b (token_here text g.at) (cond (is_open g.mode) (ended text unclosed_form) (ended text end_form)))
+      ap (λ (b : Bool). cond b (token_here text g.at) (cond (is_open g.mode) (ended text Unclosed) (ended text End)))
       (lt-ltb g.at (length text) h)
 
   -- behind a gap that ends at a token's first byte there is no other gap
@@ -77,7 +79,7 @@ module _ (text : List ℕ) where
       ∙ behind-inside (gap (between (get_or text i 0) (get_or text (i + 1) 0)) i) h
 
   -- a token's first byte is where it is read
-  here_start : (i : ℕ) → word_form ≤ (token_here text i).form → (token_here text i).start ≡ i
+  here_start : (i : ℕ) → word_form ≤ (form_of (token_here text i)) → (token_here text i).start ≡ i
   here_start i =
       let quote = quote_end text false (i + 1) (length text - (i + 1)) in
       cond_on First (eqb (get_or text i 0) double_quote)
@@ -85,20 +87,20 @@ module _ (text : List ℕ) where
       (λ _. cond_on First (is_mark (get_or text i 0)) (λ _ _. refl) (λ _ _. refl))
     where
       First : Token → Type 0
-      First t = word_form ≤ t.form → t.start ≡ i
+      First t = word_form ≤ (form_of t) → t.start ≡ i
 
   -- and that is where the gap in front of it ends
-  pub gap_start : (at : ℕ) → word_form ≤ (token_at text at).form → (token_at text at).start ≡ (gap_from text Between at (length text - at)).at
+  pub gap_start : (at : ℕ) → word_form ≤ (form_of (token_at text at)) → (token_at text at).start ≡ (gap_from text Between at (length text - at)).at
   gap_start at =
       let g = gap_from text Between at (length text - at) in
       cond_on (First g.at) (ltb g.at (length text)) (λ _. here_start g.at)
       (λ _. cond_on (First g.at) (is_open g.mode) (λ _ f. absurd (omega (arith, f))) (λ _ f. absurd (omega (arith, f))))
     where
       First : ℕ → Token → Type 0
-      First i t = word_form ≤ t.form → t.start ≡ i
+      First i t = word_form ≤ (form_of t) → t.start ≡ i
 
   -- a token is found again from its first byte on
-  pub token-again : (at : ℕ) → word_form ≤ (token_at text at).form → token_at text (token_at text at).start ≡ token_at text at
+  pub token-again : (at : ℕ) → word_form ≤ (form_of (token_at text at)) → token_at text (token_at text at).start ≡ token_at text at
   token-again at =
       let g = gap_from text Between at (length text - at) in
       let r = gap_reach text Between at (length text - at) in
@@ -108,7 +110,7 @@ module _ (text : List ℕ) where
       (λ _. cond_on Again (is_open g.mode) (λ _ f. absurd (omega (arith, f))) (λ _ f. absurd (omega (arith, f))))
     where
       Again : Token → Type 0
-      Again t = word_form ≤ t.form → token_at text t.start ≡ t
+      Again t = word_form ≤ (form_of t) → token_at text t.start ≡ t
 
   -- and begins no earlier than it was looked for
   pub token_start : (at : ℕ) → at ≤ length text → at ≤ (token_at text at).start
@@ -125,33 +127,40 @@ module _ (text : List ℕ) where
       Behind t = at ≤ t.start
 
   -- no mark is as low a form as the text's end
-  mark_high : (c : ℕ) → is_mark c ≡ true → c < word_form → ⊥
-  mark_high zero e h = true≢false (sym e)
-  mark_high (suc zero) e h = true≢false (sym e)
-  mark_high (suc (suc c)) e h = absurd (omega (arith, h))
+  mark_high : (c : ℕ) → form_number (mark_form c) < word_form → ⊥
+  mark_high c =
+      cond_on High (eqb c open_brace) (λ _ h. absurd (omega (arith, h)))
+      (λ _. cond_on High (eqb c close_brace) (λ _ h. absurd (omega (arith, h)))
+      (λ _. cond_on High (eqb c 40) (λ _ h. absurd (omega (arith, h)))
+      (λ _. cond_on High (eqb c 41) (λ _ h. absurd (omega (arith, h)))
+      (λ _. cond_on High (eqb c semicolon) (λ _ h. absurd (omega (arith, h)))
+      (λ _. cond_on High (eqb c equals_sign) (λ _ h. absurd (omega (arith, h))) (λ _ h. absurd (omega (arith, h))))))))
+    where
+      High : Form → Type 0
+      High f = form_number f < word_form → ⊥
 
   -- the text's end is at its length
-  ended_start : (at : ℕ) → (token_at text at).form < word_form → (token_at text at).start ≡ length text
+  ended_start : (at : ℕ) → (form_of (token_at text at)) < word_form → (token_at text at).start ≡ length text
   ended_start at =
       let g = gap_from text Between at (length text - at) in
       let quote = quote_end text false (g.at + 1) (length text - (g.at + 1)) in
       cond_on Low (ltb g.at (length text))
       (λ _. cond_on Low (eqb (get_or text g.at 0) double_quote) (λ _. cond_on Low (ltb quote (length text)) (λ _ h. absurd (omega (arith, h))) (λ _ _. refl))
-      (λ _. cond_on Low (is_mark (get_or text g.at 0)) (λ e h. absurd (mark_high (get_or text g.at 0) e h)) (λ _ h. absurd (omega (arith, h)))))
+      (λ _. cond_on Low (is_mark (get_or text g.at 0)) (λ _ h. absurd (mark_high (get_or text g.at 0) h)) (λ _ h. absurd (omega (arith, h)))))
       (λ _. cond_on Low (is_open g.mode) (λ _ _. refl) (λ _ _. refl))
     where
       Low : Token → Type 0
-      Low t = t.form < word_form → t.start ≡ length text
+      Low t = (form_of t) < word_form → t.start ≡ length text
 
-  at_end : token_at text (length text) ≡ ended text end_form
+  at_end : token_at text (length text) ≡ ended text End
   unfolding gap_from
   at_end =
       let none : length text - length text ≡ 0 = omega arith in
       ap (λ (n : ℕ). token_behind text (gap_from text Between (length text) n)) none
-      ∙ ap (λ (x : Bool). cond x (token_here text (length text)) (ended text end_form)) (le-ltb (length text) (length text) (omega arith))
+      ∙ ap (λ (x : Bool). cond x (token_here text (length text)) (ended text End)) (le-ltb (length text) (length text) (omega arith))
 
   -- and holds no value
-  pub token-ended : (at : ℕ) → (token_at text at).form < word_form → token_read text (token_at text (token_at text at).start) ≡ NoValue
+  pub token-ended : (at : ℕ) → (form_of (token_at text at)) < word_form → token_read text (token_at text (token_at text at).start) ≡ Err NoValue
   token-ended at h = ap (token_read text) (ap (token_at text) (ended_start at h) ∙ at_end)
 
 -- what holds of both pairs, the first under the test, holds of two choices by one test
@@ -167,13 +176,13 @@ cond_both P e f g = cond_both_on P e (λ _. f) g
 
 -- the same reading in two texts: strings by their bytes, behind their opening quotes
 pub data SameReading (a b : List ℕ) : Reading → Reading → Type 0 where
-  same_whole : (z : ℤ) → SameReading a b (Good (Whole z)) (Good (Whole z))
-  same-decimal : (x : Float) → SameReading a b (Good (Decimal x)) (Good (Decimal x))
-  same_flag : (f : Bool) → SameReading a b (Good (Flag f)) (Good (Flag f))
-  same-string : (s e p q : ℕ) → bytes_of a (s + 1) e ≡ bytes_of b (p + 1) q → SameReading a b (Good (Text (s + 1) e)) (Good (Text (p + 1) q))
-  same-whole-past : SameReading a b WholePast WholePast
-  same-decimal-past : SameReading a b DecimalPast DecimalPast
-  same_none : SameReading a b NoValue NoValue
+  same_whole : (z : ℤ) → SameReading a b (Ok (Whole z)) (Ok (Whole z))
+  same-decimal : (x : Float) → SameReading a b (Ok (Decimal x)) (Ok (Decimal x))
+  same_flag : (f : Bool) → SameReading a b (Ok (Flag f)) (Ok (Flag f))
+  same-string : (s e p q : ℕ) → bytes_of a (s + 1) e ≡ bytes_of b (p + 1) q → SameReading a b (Ok (Text (s + 1) e)) (Ok (Text (p + 1) q))
+  same-whole-past : SameReading a b (Err WholePast) (Err WholePast)
+  same-decimal-past : SameReading a b (Err DecimalPast) (Err DecimalPast)
+  same_none : SameReading a b (Err NoValue) (Err NoValue)
 
 module _ {a b : List ℕ} where
   pub whole_same : {r q : Reading} → SameReading a b r q → (default : ℤ) → whole_or default r ≡ whole_or default q
@@ -264,7 +273,7 @@ module _ (a b : List ℕ) where
       (λ _. let at = behind_sign (get_or word 0 0) in digits_self word (eqb (get_or word 0 0) minus_sign) at (digits_end word at))))
 
   -- tokens of one form with the same bytes
-  pub token-same : (t u : Token) → t.form ≡ u.form → word_of a t ≡ word_of b u → SameReading a b (token_read a t) (token_read b u)
+  pub token-same : (t u : Token) → (form_of t) ≡ (form_of u) → word_of a t ≡ word_of b u → SameReading a b (token_read a t) (token_read b u)
   token-same t u e h =
       cond_both (SameReading a b) (ap (λ (f : ℕ). eqb f string_form) e)
       (same-string t.start t.end u.start u.end (inside-string a t.start t.end ∙ ap (drop 1) h ∙ sym (inside-string b u.start u.end)))

@@ -4,8 +4,9 @@ use mathlib.Core.List.{List}
 use mathlib.Core.Path.{◌≡◌}
 use lib.Dec.{eqb}
 use lib.ListN.{length}
+use Rattle.std.specs.Prelude.{Option}
 use Rattle.text_token.specs.declared.Token.{Token}
-use Rattle.text_token.specs.Tokens.{word_form, bytes_of}
+use Rattle.text_token.specs.Tokens.{form_of, word_form, bytes_of}
 use Rattle.text_value.specs.Values.{token_read}
 use Rattle.text_table.specs.declared.scope.Scope.{Scope}
 use Rattle.text_table.specs.Names.{field_named, kind_named}
@@ -38,8 +39,8 @@ module _ (a b : List ℕ) where
   pub data SameWanted (at from : ℕ) : Wanted → Wanted → Type 0 where
     want_statement : SameWanted at from Statement Statement
     want_equals : (s e p q : ℕ) → SameName s e p q → SameWanted at from (Equals s e) (Equals p q)
-    want_value : (f : ℕ) → Begun at from → SameWanted at from (Value f) (Value f)
-    want_semicolon : (f p q : ℕ) → SamePlace p q → SameWanted at from (Semicolon f p) (Semicolon f q)
+    want_value : (f : Option ℕ) → Begun at from → SameWanted at from (Value f) (Value f)
+    want_semicolon : (f : Option ℕ) (p q : ℕ) → SamePlace p q → SameWanted at from (Semicolon f p) (Semicolon f q)
     want_none : SameWanted at from NoMore NoMore
 
   -- the same was noted
@@ -62,9 +63,9 @@ module _ (a b : List ℕ) where
 
   -- two tokens that do the same, and `n` behind them
   pub record SameToken (n : ℕ) (t u : Token) : Type 0 where
-    pub form : t.form ≡ u.form
+    pub form : (form_of t) ≡ (form_of u)
     pub named : is_identifier a t ≡ is_identifier b u
     pub name : SameName t.start t.end u.start u.end
     pub read : SameReading a b (token_read a t) (token_read b u)
-    pub begun : word_form ≤ t.form → Begun t.next u.next
+    pub begun : word_form ≤ (form_of t) → Begun t.next u.next
     pub next : SameFirst n a t.next b u.next

@@ -11,7 +11,7 @@ use Rattle.text_token.specs.declared.Token.{Token}
 use Rattle.text_gap.specs.declared.Mode.TheVariants.{Between, Line, Opening, Stop}
 use Rattle.text_byte.specs.Bytes.{double_quote, backslash, is_blank, is_mark, opens_line, opens_comment, ends_word}
 use Rattle.text_gap.specs.Gaps.{between, is_stop, is_open, gap_from}
-use Rattle.text_token.specs.Tokens.{word_form, in_word, quote_end, token_here, token_at}
+use Rattle.text_token.specs.Tokens.{form_of, word_form, in_word, quote_end, token_here, token_at}
 use Rattle.text_byte.specs.Spans.{span_end}
 use Rattle.text_byte.proofs.Spans.{cond_on, span_reach}
 use Rattle.text_gap.proofs.Scans.{gap_reach}
@@ -87,7 +87,7 @@ module _ (text : List ℕ) where
 
   -- a token that ends behind place `k`
   abbrev Last : ℕ → Token → Type 0
-  Last k t = word_form ≤ t.form → t.next ≡ k + 1 → Quiet k
+  Last k t = word_form ≤ (form_of t) → t.next ≡ k + 1 → Quiet k
 
   quote_quiet : (k : ℕ) → eqb (get_or text k 0) double_quote ≡ true → Quiet k
   quote_quiet k e = ap (λ (b : ℕ). opens b (get_or text (k + 1) 0)) (eqb-true (get_or text k 0) double_quote e)

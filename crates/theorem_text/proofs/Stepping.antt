@@ -1,5 +1,5 @@
 -- One token more leads to the same point in both texts. Assumes nothing.
-use Prim.Native.Nat.{ℕ, zero, suc, ◌-◌}
+use Prim.Native.Nat.{ℕ, zero, suc}
 use mathlib.Core.Bool.{Bool, true, false, not, ◌&&◌, cond, and-eq-true_iff, true≢false}
 use mathlib.Core.List.{List, [], ◌∷◌}
 use mathlib.Core.Path.{◌≡◌, refl, sym, ap, ◌∙◌, subst}
@@ -7,20 +7,20 @@ use native.Mathlib.Omega.{arith}
 use borrow.Author.Tests.{eqb-true}
 use lib.Dec.{eqb}
 use lib.ListN.{get_or, length, length-set, set, replicate}
+use Rattle.std.specs.Prelude.{Option, Some, None, is_some, Ok, Err}
 use Rattle.refusal.specs.declared.Refusal.{Refusal}
-use Rattle.refusal.specs.declared.Check.{Check}
-use Rattle.refusal.specs.declared.Check.TheVariants.{Pass, Refused}
+use Rattle.refusal.specs.Checks.{Check}
 use Rattle.refusal.specs.declared.Refusal.TheVariants.{TextGrammar, TextNumber}
 use Rattle.refusal.specs.Table.{number_of}
 use Rattle.refusal.specs.Checks.{unless}
 use Rattle.text_token.specs.declared.Token.{Token}
 use Rattle.text_byte.specs.Bytes.{equals_sign, semicolon, open_brace, close_brace}
-use Rattle.text_token.specs.Tokens.{end_form, bytes_of}
+use Rattle.text_token.specs.Tokens.{form_of, end_form, bytes_of}
 use Rattle.text_byte.proofs.Spans.{cond_on}
 use Rattle.text_name.specs.Identifiers.{is_identifier}
-use Rattle.text_value.specs.declared.Reading.{Reading}
-use Rattle.text_value.specs.Values.{token_read}
+use Rattle.text_value.specs.Values.{Reading, token_read}
 use Rattle.text_table.specs.declared.scope.Scope.{Scope}
+use Rattle.text_table.specs.declared.field.Holds.{Holds}
 use Rattle.text_table.specs.Table.{fields_of, is_required, whole, decimal, string, flag}
 use Rattle.text_table.specs.Names.{every, field_named, kind_named}
 use Rattle.text_block.specs.declared.Asked.{Asked}
@@ -35,15 +35,15 @@ use Rattle.theorem_text.proofs.Readings.{cond_both, cond_both_on, SameReading, s
 use Rattle.theorem_text.proofs.Related.{SamePlace, SameName, Begun, SameWanted, want_statement, want_equals, want_value, want_semicolon, want_none, SameNotes, SameBase, SameParse, SameToken}
 
 -- a value is judged alike
-module _ (held : ℕ) (at from : ℕ) where
-  past : (kind : ℕ) → SameCheck (Refused (cond (serves held kind) (TextNumber at) (TextGrammar at))) (Refused (cond (serves held kind) (TextNumber from) (TextGrammar from)))
+module _ (held : Option Holds) (at from : ℕ) where
+  past : (kind : Holds) → SameCheck (Err (cond (serves held kind) (TextNumber at) (TextGrammar at))) (Err (cond (serves held kind) (TextNumber from) (TextGrammar from)))
   past kind = both_refused _ _ (by (serves held kind))
     where
       by : (x : Bool) → number_of (cond x (TextNumber at) (TextGrammar at)) ≡ number_of (cond x (TextNumber from) (TextGrammar from))
       by true = refl
       by false = refl
 
-  good : (kind : ℕ) → SameCheck (unless (serves held kind) (TextGrammar at)) (unless (serves held kind) (TextGrammar from))
+  good : (kind : Holds) → SameCheck (unless (serves held kind) (TextGrammar at)) (unless (serves held kind) (TextGrammar from))
   good kind = by (serves held kind)
     where
       by : (x : Bool) → SameCheck (unless x (TextGrammar at)) (unless x (TextGrammar from))
@@ -74,29 +74,29 @@ module _ (text : List ℕ) (asked : Asked) (places : List ℕ) (p : Parse) (t : 
   stays : (w : Wanted) (q : Parse) → q.scope ≡ p.scope → q.notes.found ≡ p.notes.found → AtTop w q
   stays w q e f = record { cleared = λ h. absurd (true≢false (sym (ap is_top e ∙ top) ∙ h)); found = f }
 
-  judged_top : (w : Wanted) (field : ℕ) (c : Check) → AtTop w (judged p t field c)
-  judged_top w field Pass = stays w _ refl refl
-  judged_top w field (Refused r) = stays w _ refl refl
+  judged_top : (w : Wanted) (field : Option ℕ) (c : Check) → AtTop w (judged p t field c)
+  judged_top w field (Ok _) = stays w _ refl refl
+  judged_top w field (Err r) = stays w _ refl refl
 
   pub step_top : (w : Wanted) → AtTop w (step_by text asked places p t w)
   step_top Statement =
       cond_on (AtTop Statement) (is_identifier text t) (λ _. stays _ _ refl refl)
-      (λ _. cond_on (AtTop Statement) (not (is_top p.scope) && eqb t.form close_brace)
-      (λ e. absurd (true≢false (sym top ∙ inside (is_top p.scope) (eqb t.form close_brace) e)))
-      (λ _. cond_on (AtTop Statement) (is_top p.scope && eqb t.form end_form)
+      (λ _. cond_on (AtTop Statement) (not (is_top p.scope) && eqb (form_of t) close_brace)
+      (λ e. absurd (true≢false (sym top ∙ inside (is_top p.scope) (eqb (form_of t) close_brace) e)))
+      (λ _. cond_on (AtTop Statement) (is_top p.scope && eqb (form_of t) end_form)
       (λ _. stays _ _ refl refl) (λ _. stays _ _ refl refl)))
   step_top (Equals start end) =
       let w = Equals start end in
       let kind = kind_named (bytes_of text start end) in
-      cond_on (AtTop w) (eqb t.form equals_sign) (λ _. stays w _ refl refl)
-      (λ _. cond_on (AtTop w) (is_top p.scope && eqb t.form open_brace)
-      (λ e. let brace = ((and-eq-true_iff (is_top p.scope) (eqb t.form open_brace)).0 e).1 in
+      cond_on (AtTop w) (eqb (form_of t) equals_sign) (λ _. stays w _ refl refl)
+      (λ _. cond_on (AtTop w) (is_top p.scope && eqb (form_of t) open_brace)
+      (λ e. let brace = ((and-eq-true_iff (is_top p.scope) (eqb (form_of t) open_brace)).0 e).1 in
       cond_on (AtTop w) (is_full p.notes.counts kind) (λ _. stays w _ refl refl)
       (λ _. record { cleared = λ _. ap (λ (x : Bool). cond x no_places places) brace; found = refl }))
       (λ _. stays w _ refl refl))
   step_top (Value field) = judged_top (Value field) field (value_check (held_by p.scope field) (token_read text t) t.start)
   step_top (Semicolon field place) =
-      cond_on (AtTop (Semicolon field place)) (eqb t.form semicolon) (λ _. stays _ _ refl refl) (λ _. stays _ _ refl refl)
+      cond_on (AtTop (Semicolon field place)) (eqb (form_of t) semicolon) (λ _. stays _ _ refl refl) (λ _. stays _ _ refl refl)
   step_top NoMore = stays _ _ refl refl
 
 module _ (a b : List ℕ) where
@@ -122,7 +122,7 @@ module _ (a b : List ℕ) where
     unfit : SameParse a b n (misfit p t) (misfit q u)
     unfit = off refl
 
-    has : (f : ℕ) → eqb t.form f ≡ eqb u.form f
+    has : (f : ℕ) → eqb (form_of t) f ≡ eqb (form_of u) f
     has f = ap (λ (x : ℕ). eqb x f) l.form
 
     top : is_top p.scope ≡ is_top q.scope
@@ -155,7 +155,7 @@ module _ (a b : List ℕ) where
     on_statement_lem asked ps qs h =
         cond_both (SameParse a b n) l.named (on (want_equals t.start t.end u.start u.end l.name))
         (cond_both_on (SameParse a b n) (λ i. not (top i) && has close_brace i)
-        (λ e. closed asked ps qs (h (inside (is_top p.scope) (eqb t.form close_brace) e)))
+        (λ e. closed asked ps qs (h (inside (is_top p.scope) (eqb (form_of t) close_brace) e)))
         (cond_both (SameParse a b n) (λ i. top i && has end_form i) (on want_none) unfit))
 
     opened : (asked : Asked) (s₀ p₀ : ℕ) {x y : Scope} → x ≡ y → SameParse a b n (opened_block asked p t s₀ x) (opened_block asked q u p₀ y)
@@ -171,29 +171,29 @@ module _ (a b : List ℕ) where
     on_equals_lem : (asked : Asked) (s₀ e₀ p₀ q₀ : ℕ) → SameName a b s₀ e₀ p₀ q₀ → SameParse a b n (on_equals a asked p t s₀ e₀) (on_equals b asked q u p₀ q₀)
     on_equals_lem asked s₀ e₀ p₀ q₀ same =
         cond_both_on (SameParse a b n) (has equals_sign)
-        (λ e. on (subst (λ (f : ℕ). SameWanted a b t.next u.next (Value (field_named p.scope (bytes_of a s₀ e₀))) (Value f))
+        (λ e. on (subst (λ (f : Option ℕ). SameWanted a b t.next u.next (Value (field_named p.scope (bytes_of a s₀ e₀))) (Value f))
         (same.field p.scope ∙ ap (λ (z : Scope). field_named z (bytes_of b p₀ q₀)) s.scope)
-        (want_value (field_named p.scope (bytes_of a s₀ e₀)) (l.begun (let h = eqb-true t.form equals_sign e in omega (arith, h))))))
+        (want_value (field_named p.scope (bytes_of a s₀ e₀)) (l.begun (let h = eqb-true (form_of t) equals_sign e in omega (arith, h))))))
         (cond_both (SameParse a b n) (λ i. top i && has open_brace i) (opened asked s₀ p₀ same.kind) unfit)
 
-    judged_alike : (f : ℕ) {c d : Check} → SamePlace a b t.start u.start → SameCheck c d → SameParse a b n (judged p t f c) (judged q u f d)
+    judged_alike : (f : Option ℕ) {c d : Check} → SamePlace a b t.start u.start → SameCheck c d → SameParse a b n (judged p t f c) (judged q u f d)
     judged_alike f v both_pass = on (want_semicolon f t.start u.start v)
     judged_alike f v (both_refused r z e) = off e
 
-    on_value_lem : (f : ℕ) → SamePlace a b t.start u.start → SameParse a b n (on_value a p t f) (on_value b q u f)
+    on_value_lem : (f : Option ℕ) → SamePlace a b t.start u.start → SameParse a b n (on_value a p t f) (on_value b q u f)
     on_value_lem f v =
         judged_alike f v
-        (subst (λ (h : ℕ). SameCheck (value_check (held_by p.scope f) (token_read a t) t.start) (value_check h (token_read b u) u.start))
+        (subst (λ (h : Option Holds). SameCheck (value_check (held_by p.scope f) (token_read a t) t.start) (value_check h (token_read b u) u.start))
         (ap (λ (z : Scope). held_by z f) s.scope) (value-check (held_by p.scope f) t.start u.start l.read))
 
-    on_semicolon_lem : (f p₀ q₀ : ℕ) → SamePlace a b p₀ q₀ → SameParse a b n (on_semicolon p t f p₀) (on_semicolon q u f q₀)
+    on_semicolon_lem : (f : Option ℕ) (p₀ q₀ : ℕ) → SamePlace a b p₀ q₀ → SameParse a b n (on_semicolon p t f p₀) (on_semicolon q u f q₀)
     on_semicolon_lem f p₀ q₀ v =
         cond_both (SameParse a b n) (has semicolon)
         (record { base = record { scope = s.scope; notes = noted; tokens = l.next }; wanted = want_statement; check = both_pass }) unfit
       where
         noted : SameNotes a b (notes_assigned p f p₀) (notes_assigned q f q₀)
         noted = record {
-          namespace = cond_both (SamePlace a b) (ap (λ (x : Bool). x && not (eqb f 0)) top) v s.notes.namespace;
+          namespace = cond_both (SamePlace a b) (ap (λ (x : Bool). x && is_some f) top) v s.notes.namespace;
           counts = s.notes.counts;
           found = s.notes.found;
           kind = s.notes.kind;
@@ -238,16 +238,14 @@ module _ (a b : List ℕ) where
     pub values : SamePlaces ps qs
     pub long : length ps ≡ length qs
 
-  pub filed_alike : (ps qs : List ℕ) (t u : Token) {at from : ℕ} {w v : Wanted} → SameFields ps qs → t.form ≡ u.form → SameWanted a b at from w v
+  pub filed_alike : (ps qs : List ℕ) (t u : Token) {at from : ℕ} {w v : Wanted} → SameFields ps qs → (form_of t) ≡ (form_of u) → SameWanted a b at from w v
       → SameFields (filed w t ps) (filed v u qs)
   filed_alike ps qs t u h e want_statement = h
   filed_alike ps qs t u h e (want_equals s₀ e₀ p₀ q₀ n) =
       cond_both SameFields (ap (λ (x : ℕ). eqb x open_brace) e) (record { values = no_places_lem; long = refl }) h
   filed_alike ps qs t u h e (want_value f g) = h
-  filed_alike ps qs t u h e (want_semicolon f p₀ q₀ g) =
+  filed_alike ps qs t u h e (want_semicolon None p₀ q₀ g) = cond_both SameFields (ap (λ (x : ℕ). eqb x semicolon) e) h h
+  filed_alike ps qs t u h e (want_semicolon (Some k) p₀ q₀ g) =
       cond_both SameFields (ap (λ (x : ℕ). eqb x semicolon) e)
-      (cond_both SameFields {b = eqb f 0} refl h (record {
-        values = set-places ps qs (f - 1) h.values h.long g;
-        long = length-set ps (f - 1) p₀ ∙ h.long ∙ sym (length-set qs (f - 1) q₀);
-      })) h
+      (record { values = set-places ps qs k h.values h.long g; long = length-set ps k p₀ ∙ h.long ∙ sym (length-set qs k q₀) }) h
   filed_alike ps qs t u h e want_none = h

@@ -7,11 +7,11 @@ use native.Mathlib.Omega.{arith}
 use borrow.Author.Tests.{eqb-true, ne_eqb}
 use lib.Dec.{eqb}
 use lib.ListN.{length}
-use Rattle.refusal.specs.declared.Check.{Check}
-use Rattle.refusal.specs.declared.Check.TheVariants.{Pass}
+use Rattle.std.specs.Prelude.{Option, None, Ok}
+use Rattle.refusal.specs.Checks.{Check}
 use Rattle.text_token.specs.declared.Token.{Token}
 use Rattle.text_byte.specs.Bytes.{equals_sign, semicolon, open_brace, close_brace}
-use Rattle.text_token.specs.Tokens.{end_form, token_at, word_of}
+use Rattle.text_token.specs.Tokens.{form_of, end_form, token_at, word_of}
 use Rattle.text_table.specs.declared.scope.Scope.{Scope}
 use Rattle.text_table.specs.Names.{kind_named}
 use Rattle.text_block.specs.declared.Asked.{Asked}
@@ -79,43 +79,43 @@ module _ (text : List ℕ) (asked : Asked) where
     s₁ = stand (goes_on p t₁ (Equals t₁.start t₁.end)) s.places s.kept
 
     abbrev s₂ : Stand
-    s₂ = stand (goes_on p t₂ (Value 0)) s.places s.kept
+    s₂ = stand (goes_on p t₂ (Value None)) s.places s.kept
 
     abbrev s₃ : Stand
-    s₃ = stand (goes_on p t₃ (Semicolon 0 t₃.start)) s.places s.kept
+    s₃ = stand (goes_on p t₃ (Semicolon None t₃.start)) s.places s.kept
 
     abbrev s₄ : Stand
     s₄ = stand (goes_on p t₄ Statement) s.places s.kept
 
     abbrev other : Parse
     other =
-        cond (not (is_top p.scope) && eqb t₁.form close_brace) (closed_block asked s.places p t₁)
-        (cond (is_top p.scope && eqb t₁.form end_form) (goes_on p t₁ NoMore) (misfit p t₁))
+        cond (not (is_top p.scope) && eqb (form_of t₁) close_brace) (closed_block asked s.places p t₁)
+        (cond (is_top p.scope && eqb (form_of t₁) end_form) (goes_on p t₁ NoMore) (misfit p t₁))
 
     first : token_more text asked s ≡ s₁
     first = plain_step s Statement s₁.parse e (taken (is_identifier text t₁) other u.name) refl refl
 
     abbrev opens : Parse
-    opens = cond (is_top p.scope && eqb t₂.form open_brace) (opened_block asked s₁.parse t₂ t₁.start (kind_named (word_of text t₁))) (misfit s₁.parse t₂)
+    opens = cond (is_top p.scope && eqb (form_of t₂) open_brace) (opened_block asked s₁.parse t₂ t₁.start (kind_named (word_of text t₁))) (misfit s₁.parse t₂)
 
     second : token_more text asked s₁ ≡ s₂
     second =
         plain_step s₁ (Equals t₁.start t₁.end) s₂.parse refl
-        (taken (eqb t₂.form equals_sign) opens u.equals ∙ ap (λ (f : ℕ). goes_on p t₂ (Value f)) u.unknown)
-        (ap (λ (x : Bool). cond x no_places s.places) (not_brace t₂.form u.equals)) refl
+        (taken (eqb (form_of t₂) equals_sign) opens u.equals ∙ ap (λ (f : Option ℕ). goes_on p t₂ (Value f)) u.unknown)
+        (ap (λ (x : Bool). cond x no_places s.places) (not_brace (form_of t₂) u.equals)) refl
       where
         not_brace : (f : ℕ) → eqb f equals_sign ≡ true → eqb f open_brace ≡ false
         not_brace f h = ne_eqb f open_brace (λ q. let k = eqb-true f equals_sign h in omega (arith, q, k))
 
     third : token_more text asked s₂ ≡ s₃
-    third = plain_step s₂ (Value 0) s₃.parse refl (ap (judged s₂.parse t₃ 0) u.value) refl refl
+    third = plain_step s₂ (Value None) s₃.parse refl (ap (judged s₂.parse t₃ None) u.value) refl refl
 
     fourth : token_more text asked s₃ ≡ s₄
     fourth =
-        plain_step s₃ (Semicolon 0 t₃.start) s₄.parse refl
-        (ap (λ (x : Bool). cond x (parse Statement p.scope p.block t₄.next Pass (noted (is_top p.scope && false))) (misfit s₃.parse t₄)) u.ends
-        ∙ ap (λ (x : Bool). parse Statement p.scope p.block t₄.next Pass (noted x)) (and-false (is_top p.scope)))
-        (same (eqb t₄.form semicolon)) refl
+        plain_step s₃ (Semicolon None t₃.start) s₄.parse refl
+        (ap (λ (x : Bool). cond x (parse Statement p.scope p.block t₄.next (Ok tt) (noted (is_top p.scope && false))) (misfit s₃.parse t₄)) u.ends
+        ∙ ap (λ (x : Bool). parse Statement p.scope p.block t₄.next (Ok tt) (noted x)) (and-false (is_top p.scope)))
+        (same (eqb (form_of t₄) semicolon)) refl
       where
         noted : Bool → Notes
         noted x = let n = p.notes in notes (cond x t₃.start n.namespace) n.counts n.found n.kind n.block n.next
@@ -159,7 +159,7 @@ module _ (a b : List ℕ) (asked : Asked) (at from m next : ℕ) (h : PutBetween
             tokens = subst (SameFirst n a s.parse.at b) (sym assigned_too.behind) (h.behind n);
           };
           wanted = subst (λ (w : Wanted). SameWanted a b s.parse.at (next_token b (next_token b (next_token b (token_at b r.parse.at)))).next w Statement) (sym h.between) want_statement;
-          check = subst (λ (c : Check). SameCheck c Pass) (sym h.good) both_pass;
+          check = subst (λ (c : Check). SameCheck c (Ok tt)) (sym h.good) both_pass;
         };
         places = so_far.places;
         kept = so_far.kept;

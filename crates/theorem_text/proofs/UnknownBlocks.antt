@@ -6,19 +6,19 @@ use mathlib.Core.Path.{◌≡◌, refl, sym, ap, ◌∙◌, subst}
 use native.Mathlib.Omega.{arith}
 use borrow.Author.Tests.{eqb-true, ne_eqb}
 use lib.Dec.{eqb}
-use Rattle.refusal.specs.declared.Check.{Check}
-use Rattle.refusal.specs.declared.Check.TheVariants.{Pass}
+use Rattle.refusal.specs.Checks.{Check}
+use Rattle.std.specs.Prelude.{Ok}
 use Rattle.text_token.specs.declared.Token.{Token}
 use Rattle.text_byte.specs.Bytes.{equals_sign, open_brace, close_brace}
 use Rattle.text_gap.specs.Gaps.{gap_from}
 use Rattle.text_byte.specs.Spans.{span_end}
 use Rattle.text_value.specs.Numbers.{digits_from}
-use Rattle.text_token.specs.Tokens.{word_form, token_at, word_of}
+use Rattle.text_token.specs.Tokens.{form_of, word_form, token_at, word_of}
 use Rattle.text_table.specs.declared.scope.Scope.TheVariants.{Top, Unknown}
 use Rattle.text_table.specs.Scopes.{scope_number}
 use Rattle.text_table.proofs.Scopes.{number-tells}
 use Rattle.text_table.specs.Table.{kind_names}
-use Rattle.text_table.specs.Names.{every, name_in, field_named, kind_named}
+use Rattle.text_table.specs.Names.{every, field_named, kind_named}
 use Rattle.text_block.specs.declared.Asked.{Asked}
 use Rattle.text_block.specs.declared.Asked.TheVariants.{Nothing, Numbered, First, Opening}
 use Rattle.text_block.specs.declared.Wanted.{Wanted}
@@ -50,7 +50,7 @@ count (more at mid next u rest) = 4 + count rest
 module _ (text : List ℕ) (asked : Asked) (block : ℕ) (notes₀ : Notes) (kept : List ℕ) where
   -- in the block, before the statements from a place on
   abbrev inside : ℕ → Stand
-  inside at = stand (parse Statement Unknown block at Pass notes₀) no_places kept
+  inside at = stand (parse Statement Unknown block at (Ok tt) notes₀) no_places kept
 
   all_passed : {at next : ℕ} (d : AllUnknown text at next) → after text asked (count d) (inside at) ≡ inside next
   unfolding after count
@@ -60,7 +60,7 @@ module _ (text : List ℕ) (asked : Asked) (block : ℕ) (notes₀ : Notes) (kep
       ∙ ap (after text asked (count rest)) (four-tokens text asked (inside at) mid refl u ∙ ap inside u.behind) ∙ all_passed rest
 
   -- the closing brace
-  module _ (at : ℕ) (closes : eqb (token_at text at).form close_brace ≡ true) (other : is_asked asked Unknown 0 ≡ false) where
+  module _ (at : ℕ) (closes : eqb (form_of (token_at text at)) close_brace ≡ true) (other : is_asked asked Unknown 0 ≡ false) where
     abbrev t : Token
     t = token_at text at
 
@@ -69,24 +69,24 @@ module _ (text : List ℕ) (asked : Asked) (block : ℕ) (notes₀ : Notes) (kep
 
     no_name : is_identifier text t ≡ false
     no_name =
-        let e = eqb-true t.form close_brace closes in
-        ap (λ (x : Bool). x && identifier_ok (word_of text t)) (ne_eqb t.form word_form (λ q. omega (arith, q, e)))
+        let e = eqb-true (form_of t) close_brace closes in
+        ap (λ (x : Bool). x && identifier_ok (word_of text t)) (ne_eqb (form_of t) word_form (λ q. omega (arith, q, e)))
 
     after_brace : Bool → Parse
     after_brace x =
-        parse (cond (stops_there asked && x) NoMore Statement) Top 0 t.next Pass
+        parse (cond (stops_there asked && x) NoMore Statement) Top 0 t.next (Ok tt)
         (cond x (notes notes₀.namespace notes₀.counts true Unknown block t.next) notes₀)
 
-    closed : step_by text asked no_places p t Statement ≡ parse Statement Top 0 t.next Pass notes₀
+    closed : step_by text asked no_places p t Statement ≡ parse Statement Top 0 t.next (Ok tt) notes₀
     unfolding every after_brace
     closed =
         ap (λ (x : Bool). cond x (goes_on p t (Equals t.start t.end)) (on_end asked no_places p t)) no_name
         ∙ ap (λ (x : Bool). cond x (after_brace (is_asked asked Unknown 0)) (misfit p t)) closes
         ∙ ap after_brace other
-        ∙ ap (λ (x : Bool). parse (cond x NoMore Statement) Top 0 t.next Pass notes₀) (and-false (stops_there asked))
+        ∙ ap (λ (x : Bool). parse (cond x NoMore Statement) Top 0 t.next (Ok tt) notes₀) (and-false (stops_there asked))
 
-    brace_passed : token_more text asked (inside at) ≡ stand (parse Statement Top 0 t.next Pass notes₀) no_places kept
-    brace_passed = plain_step text asked (inside at) Statement (parse Statement Top 0 t.next Pass notes₀) refl closed refl refl
+    brace_passed : token_more text asked (inside at) ≡ stand (parse Statement Top 0 t.next (Ok tt) notes₀) no_places kept
+    brace_passed = plain_step text asked (inside at) Statement (parse Statement Top 0 t.next (Ok tt) notes₀) refl closed refl refl
 
 module _ (text : List ℕ) (asked : Asked) (s : Stand) (next : ℕ) (e : s.parse.wanted ≡ Statement) (top : is_top s.parse.scope ≡ true)
     (other : is_asked asked Unknown 0 ≡ false) (u : UnknownBlock text s.parse.at next) where
@@ -106,14 +106,14 @@ module _ (text : List ℕ) (asked : Asked) (s : Stand) (next : ℕ) (e : s.parse
   s₂ = inside text asked t₁.start p₀.notes s.kept t₂.next
 
   abbrev s₃ : Stand
-  s₃ = stand (parse Statement Top 0 next Pass p₀.notes) no_places s.kept
+  s₃ = stand (parse Statement Top 0 next (Ok tt) p₀.notes) no_places s.kept
 
   named : token_more text asked s ≡ s₁
   named =
       plain_step text asked s Statement s₁.parse e (taken (is_identifier text t₁) (on_end asked s.places p₀ t₁) u.name) refl refl
 
-  no_equals : eqb t₂.form equals_sign ≡ false
-  no_equals = let k = eqb-true t₂.form open_brace u.opens in ne_eqb t₂.form equals_sign (λ q. omega (arith, q, k))
+  no_equals : eqb (form_of t₂) equals_sign ≡ false
+  no_equals = let k = eqb-true (form_of t₂) open_brace u.opens in ne_eqb (form_of t₂) equals_sign (λ q. omega (arith, q, k))
 
   -- the opening brace, of a block of any kind that has room and is gone into
   opened : step_by text asked s.places s₁.parse t₂ (Equals t₁.start t₁.end) ≡ s₂.parse
@@ -123,7 +123,7 @@ module _ (text : List ℕ) (asked : Asked) (s : Stand) (next : ℕ) (e : s.parse
       ap (λ (x : Bool). cond x (goes_on s₁.parse t₂ field) (on_brace asked s₁.parse t₂ t₁.start name)) no_equals
       ∙ (λ i. cond (top i && u.opens i) (opened_block asked s₁.parse t₂ t₁.start (kind_named name)) (misfit s₁.parse t₂))
       ∙ ap (opened_block asked s₁.parse t₂ t₁.start) u.unknown
-      ∙ ap (λ (x : Bool). parse (cond x NoMore Statement) Unknown t₁.start t₂.next Pass p₀.notes) (goes_in asked)
+      ∙ ap (λ (x : Bool). parse (cond x NoMore Statement) Unknown t₁.start t₂.next (Ok tt) p₀.notes) (goes_in asked)
 
   entered : token_more text asked s₁ ≡ s₂
   entered =
@@ -143,7 +143,7 @@ module _ (text : List ℕ) (asked : Asked) (s : Stand) (next : ℕ) (e : s.parse
       ∙ after_add text asked (count u.assigned) 1 s₂
       ∙ ap (token_more text asked) (all_passed text asked t₁.start p₀.notes s.kept u.assigned)
       ∙ brace_passed text asked t₁.start p₀.notes s.kept u.close u.closes other
-      ∙ ap (λ (at : ℕ). stand (parse Statement Top 0 at Pass p₀.notes) no_places s.kept) u.behind
+      ∙ ap (λ (at : ℕ). stand (parse Statement Top 0 at (Ok tt) p₀.notes) no_places s.kept) u.behind
 
 module _ (a b : List ℕ) (asked : Asked) (at from m next : ℕ) (h : PutBetween a b asked at from m next)
     (top : is_top (after a asked m (begins_at at)).parse.scope ≡ true) (other : is_asked asked Unknown 0 ≡ false)
@@ -174,7 +174,7 @@ module _ (a b : List ℕ) (asked : Asked) (at from m next : ℕ) (h : PutBetween
         parse = record {
           base = record { scope = at_top; notes = so_far.parse.base.notes; tokens = h.behind n };
           wanted = subst (λ (w : Wanted). SameWanted a b stand-a.parse.at next w Statement) (sym h.between) want_statement;
-          check = subst (λ (c : Check). SameCheck c Pass) (sym h.good) both_pass;
+          check = subst (λ (c : Check). SameCheck c (Ok tt)) (sym h.good) both_pass;
         };
         places = λ e. absurd (true≢false (sym top ∙ e));
         kept = so_far.kept;
@@ -185,7 +185,7 @@ unknown-blocks a b asked at from m next h top other u =
     put_in a b asked at from m _ (behind_block a b asked at from m next h top other u)
 
 pub block_behind : BlockBehind
-unfolding gap_from span_end kind_names name_in every digits_from
+unfolding gap_from span_end kind_names every digits_from
 block_behind = record {
   name = refl;
   unknown = refl;

@@ -1,9 +1,8 @@
 -- Two texts have the same answers but for places (02, W-206): strings have the same bytes and are absent in both or
 -- in neither, and faults have the same number. Assumes nothing.
-use Rattle.std.specs.Prelude.{ℕ, Bool, ◌&&◌, List, ◌≡◌, eqb, ℤ, get_or}
+use Rattle.std.specs.Prelude.{ℕ, Bool, ◌&&◌, List, ◌≡◌, eqb, ℤ, get_or, Ok, Err}
 use Rattle.refusal.specs.declared.Refusal.{Refusal}
-use Rattle.refusal.specs.declared.Check.{Check}
-use Rattle.refusal.specs.declared.Check.TheVariants.{Pass, Refused}
+use Rattle.refusal.specs.Checks.{Check}
 use Rattle.refusal.specs.Table.{number_of}
 use Rattle.text_token.specs.Tokens.{bytes_of}
 use Rattle.text_reader.specs.Texts.{Stand}
@@ -13,8 +12,8 @@ use Rattle.text_map.specs.Answers.{block_check, opened_check, namespace_of}
 
 -- both pass, or both are refused with one number
 pub data SameCheck : Check → Check → Type 0 where
-  both_pass : SameCheck Pass Pass
-  both_refused : (r q : Refusal) → number_of r ≡ number_of q → SameCheck (Refused r) (Refused q)
+  both_pass : SameCheck (Ok tt) (Ok tt)
+  both_refused : (r q : Refusal) → number_of r ≡ number_of q → SameCheck (Err r) (Err q)
 
 -- the bytes of a string
 abbrev pub string_bytes : List ℕ → Places → List ℕ

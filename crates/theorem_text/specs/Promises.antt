@@ -1,9 +1,8 @@
 -- What changes nothing but places, and which of several values counts (02, W-206). Assumes nothing.
-use Rattle.std.specs.Prelude.{ℕ, zero, suc, ◌+◌, ◌-◌, ◌≤◌, ◌<◌, Bool, true, false, not, ◌&&◌, List, [], ◌++◌, ◌≡◌, eqb, get_or, length}
+use Rattle.std.specs.Prelude.{ℕ, zero, suc, ◌-◌, ◌≤◌, ◌<◌, Bool, true, false, not, ◌&&◌, Option, Some, None, is_some, List, [], ◌++◌, ◌≡◌, eqb, get_or, length, Ok}
 use Rattle.text_token.specs.declared.Token.{Token}
-use Rattle.refusal.specs.declared.Check.TheVariants.{Pass}
 use Rattle.text_byte.specs.Bytes.{slash, equals_sign, semicolon, open_brace, close_brace}
-use Rattle.text_token.specs.Tokens.{word_form, token_at, word_of}
+use Rattle.text_token.specs.Tokens.{form_of, word_form, token_at, word_of}
 use Rattle.text_value.specs.Values.{token_read}
 use Rattle.text_table.specs.declared.scope.Scope.{Scope}
 use Rattle.text_table.specs.declared.scope.Scope.TheVariants.{Unknown}
@@ -41,7 +40,7 @@ pub record GapChanged (front old new rest : List ℕ) (at n : ℕ) : Type 0 wher
   pub new_gap : IsGap new
   pub some : 0 < n → 0 < length old → 0 < length new
   pub clean : 0 < n → joins_clean front new ≡ true
-  pub tokens : (k : ℕ) → k < n → word_form ≤ (token_at (gapped front old rest) (token_place (gapped front old rest) at k)).form
+  pub tokens : (k : ℕ) → k < n → word_form ≤ form_of (token_at (gapped front old rest) (token_place (gapped front old rest) at k))
   pub boundary : token_place (gapped front old rest) at n ≡ length front
 
 -- one gap in place of another changes no answer but places, whatever is asked for and from whatever place on; `old`
@@ -67,12 +66,17 @@ begins_at at = stand (start_at at) no_places no_places
 abbrev pub next_token : List ℕ → Token → Token
 next_token text t = token_at text t.next
 
+-- a name of the scope is field `i`
+abbrev pub is_field : ℕ → Option ℕ → Bool
+is_field i None = false
+is_field i (Some k) = eqb k i
+
 -- a token ends an assignment to field `i`, or opens a block
 abbrev pub touches : ℕ → Wanted → Token → Bool
 touches i Statement t = false
-touches i (Equals start end) t = eqb t.form open_brace
+touches i (Equals start end) t = eqb (form_of t) open_brace
 touches i (Value field) t = false
-touches i (Semicolon field place) t = eqb t.form semicolon && eqb field (i + 1)
+touches i (Semicolon field place) t = eqb (form_of t) semicolon && is_field i field
 touches i NoMore t = false
 
 -- the next token does
@@ -94,7 +98,7 @@ pub record ValueCounts (text : List ℕ) (asked : Asked) (i place : ℕ) (s : St
 -- over any number of tokens none of which ends another assignment to it or opens a block
 abbrev pub LastValueCounts : Type 0
 LastValueCounts = (text : List ℕ) (asked : Asked) (s : Stand) (i place n : ℕ) → i < length s.places
-    → s.parse.wanted ≡ Semicolon (i + 1) place → (token_at text s.parse.at).form ≡ semicolon
+    → s.parse.wanted ≡ Semicolon (Some i) place → form_of (token_at text s.parse.at) ≡ semicolon
     → ((k : ℕ) → k < n → touched_next text i (after text asked k (token_more text asked s)) ≡ false)
     → ValueCounts text asked i place (after text asked n (token_more text asked s))
 
@@ -110,7 +114,7 @@ abbrev pub assigns : Wanted → Token → Bool
 assigns Statement t = false
 assigns (Equals start end) t = false
 assigns (Value field) t = false
-assigns (Semicolon field place) t = eqb t.form semicolon && not (eqb field 0)
+assigns (Semicolon field place) t = eqb (form_of t) semicolon && is_some field
 assigns NoMore t = false
 
 -- the next token does at the top, which knows the namespace alone
@@ -121,7 +125,7 @@ names_next text s = is_top s.parse.scope && assigns s.parse.wanted (token_at tex
 -- then the answer is read from that value's place (`namespace_of` of `text_map`)
 abbrev pub LastNamespaceCounts : Type 0
 LastNamespaceCounts = (text : List ℕ) (asked : Asked) (from m place : ℕ) → let s = after text asked m (begins_at from) in
-    s.parse.wanted ≡ Semicolon 1 place → is_top s.parse.scope ≡ true → (token_at text s.parse.at).form ≡ semicolon
+    s.parse.wanted ≡ Semicolon (Some 0) place → is_top s.parse.scope ≡ true → form_of (token_at text s.parse.at) ≡ semicolon
     → ((k : ℕ) → names_next text (after text asked k (token_more text asked s)) ≡ false)
     → (text_from text asked from).parse.notes.namespace ≡ place
 
@@ -129,17 +133,17 @@ LastNamespaceCounts = (text : List ℕ) (asked : Asked) (from m place : ℕ) →
 -- before `next`
 pub record UnknownAssigned (text : List ℕ) (scope : Scope) (at next : ℕ) : Type 0 where
   pub name : is_identifier text (token_at text at) ≡ true
-  pub unknown : field_named scope (word_of text (token_at text at)) ≡ 0
-  pub equals : eqb (next_token text (token_at text at)).form equals_sign ≡ true
-  pub value : let t = next_token text (next_token text (token_at text at)) in value_check 0 (token_read text t) t.start ≡ Pass
-  pub ends : eqb (next_token text (next_token text (next_token text (token_at text at)))).form semicolon ≡ true
+  pub unknown : field_named scope (word_of text (token_at text at)) ≡ None
+  pub equals : eqb (form_of (next_token text (token_at text at))) equals_sign ≡ true
+  pub value : let t = next_token text (next_token text (token_at text at)) in value_check None (token_read text t) t.start ≡ Ok tt
+  pub ends : eqb (form_of (next_token text (next_token text (next_token text (token_at text at))))) semicolon ≡ true
   pub behind : (next_token text (next_token text (next_token text (token_at text at)))).next ≡ next
 
 -- text `b` is text `a` with something put between two statements, behind the first `m` tokens; it ends before `next`
 pub record PutBetween (a b : List ℕ) (asked : Asked) (at from m next : ℕ) : Type 0 where
   pub before : SameFirst m a at b from
   pub between : (after a asked m (begins_at at)).parse.wanted ≡ Statement
-  pub good : (after a asked m (begins_at at)).parse.check ≡ Pass
+  pub good : (after a asked m (begins_at at)).parse.check ≡ Ok tt
   pub behind : SameTokens a (after a asked m (begins_at at)).parse.at b next
 
 -- such an assignment changes no answer but places
@@ -157,10 +161,10 @@ pub data AllUnknown (text : List ℕ) : ℕ → ℕ → Type 0 where
 pub record UnknownBlock (text : List ℕ) (at next : ℕ) : Type 0 where
   pub name : is_identifier text (token_at text at) ≡ true
   pub unknown : kind_named (word_of text (token_at text at)) ≡ Unknown
-  pub opens : eqb (next_token text (token_at text at)).form open_brace ≡ true
+  pub opens : eqb (form_of (next_token text (token_at text at))) open_brace ≡ true
   pub close : ℕ
   pub assigned : AllUnknown text (next_token text (token_at text at)).next close
-  pub closes : eqb (token_at text close).form close_brace ≡ true
+  pub closes : eqb (form_of (token_at text close)) close_brace ≡ true
   pub behind : (token_at text close).next ≡ next
 
 -- for example, behind `x = 1;`

@@ -3,7 +3,7 @@
 use Rattle.std.specs.Prelude.{ℕ, zero, suc, ◌<◌, true, List, ◌⊎◌, ◌≡◌, length}
 use Rattle.text_token.specs.declared.Token.{Token}
 use Rattle.text_byte.specs.Bytes.{lower_at}
-use Rattle.text_token.specs.Tokens.{word_form, token_at, word_of}
+use Rattle.text_token.specs.Tokens.{form_of, word_form, token_at, word_of}
 use Rattle.text_name.specs.Identifiers.{identifier_ok}
 
 -- two identifiers, or keywords, that differ in the case of letters alone
@@ -15,8 +15,8 @@ pub record SameLetters (v w : List ℕ) : Type 0 where
 
 -- two tokens of one form with the same bytes; words may have the same letters
 pub record SameLexeme (a : List ℕ) (t : Token) (b : List ℕ) (u : Token) : Type 0 where
-  pub form : t.form ≡ u.form
-  pub bytes : (word_of a t ≡ word_of b u) ⊎ ((t.form ≡ word_form) × SameLetters (word_of a t) (word_of b u))
+  pub form : form_of t ≡ form_of u
+  pub bytes : (word_of a t ≡ word_of b u) ⊎ ((form_of t ≡ word_form) × SameLetters (word_of a t) (word_of b u))
 
 -- the place of token `n` of a text, from `at` on; behind the last one it is the text's end again and again
 unfoldable pub token_place : List ℕ → ℕ → ℕ → ℕ

@@ -1,83 +1,62 @@
-// Answers as text on standard output: numbers, each after a space.
+// Answers as text: numbers, each after a space.
 use refusal::Status;
-use std::io;
-
-pub fn text(rt: &impl Print, s: &[u8]) -> io::Result<()> {
-    rt.write_all(s)
-}
+use std::fmt::{Display, Formatter};
+use std::{fmt, io};
 
 pub fn ill_formed(rt: &impl Print) -> io::Result<()> {
-    text(rt, b" ILL-FORMED\n")
+    print!(rt; " ILL-FORMED\n")
 }
 
-pub fn number(rt: &impl Print, n: usize) -> io::Result<()> {
-    print!(rt; " {n}")
-}
-
-pub fn flag(rt: &impl Print, b: bool) -> io::Result<()> {
-    number(rt, if b { 1 } else { 0 })
-}
-
-// A refusal is its number, place and record.
-pub fn status(rt: &impl Print, s: Status) -> io::Result<()> {
-    if s.number == 0 {
-        return text(rt, b" pass");
-    }
-    text(rt, b" refused")?;
-    number(rt, s.number as usize)?;
-    number(rt, s.place)?;
-    number(rt, s.record)
-}
-
-// A refusal, too, has the other parts of its answer behind it.
-pub fn answer(rt: &impl Print, s: Status, first: usize, second: usize) -> io::Result<()> {
-    status(rt, s)?;
-    number(rt, first)?;
-    number(rt, second)
-}
-
-pub fn signed(rt: &impl Print, s: &[i16]) -> io::Result<()> {
-    for n in s {
-        print!(rt; " {n}")?;
+pub fn faults(rt: &impl Print, count: usize) -> io::Result<()> {
+    for _ in 0..count {
+        ill_formed(rt)?;
     }
     Ok(())
 }
 
+// A refusal is its number, place and record.
+#[derive(Clone, Copy)]
+pub struct Verdict(pub Status);
+
+impl Display for Verdict {
+    fn fmt<W: fmt::Write>(&self, f: &mut Formatter<W>) -> fmt::Result {
+        let Verdict(status) = self;
+        if status.number == 0 {
+            return write!(f, " pass");
+        }
+        write!(
+            f,
+            " refused {} {} {}",
+            status.number, status.place, status.record
+        )
+    }
+}
+
+#[derive(Clone, Copy)]
+pub struct Each<'a, T>(pub &'a [T]);
+
+impl<T: Display> Display for Each<'_, T> {
+    fn fmt<W: fmt::Write>(&self, f: &mut Formatter<W>) -> fmt::Result {
+        for n in self.0 {
+            write!(f, " {n}")?;
+        }
+        Ok(())
+    }
+}
+
 // A run of the same is printed as 0*8.
-pub fn bytes(rt: &impl Print, s: &[u8]) -> io::Result<()> {
-    let mut last: u16 = 0;
-    let mut times: usize = 0;
-    for b in s {
-        let n = u16::from(*b);
-        times = longer_run(rt, n, last, times)?;
-        last = n;
-    }
-    run(rt, last, times)
-}
+#[derive(Clone, Copy)]
+pub struct Runs<'a, T>(pub &'a [T]);
 
-pub fn words(rt: &impl Print, s: &[u16]) -> io::Result<()> {
-    let mut last: u16 = 0;
-    let mut times: usize = 0;
-    for n in s {
-        times = longer_run(rt, *n, last, times)?;
-        last = *n;
-    }
-    run(rt, last, times)
-}
-
-// How often a number stood so far, where the last one did so many times; a run that ends is printed.
-fn longer_run(rt: &impl Print, n: u16, last: u16, times: usize) -> io::Result<usize> {
-    if n == last {
-        return Ok(times.wrapping_add(1));
-    }
-    run(rt, last, times)?;
-    Ok(1)
-}
-
-fn run(rt: &impl Print, n: u16, times: usize) -> io::Result<()> {
-    match times {
-        0 => Ok(()),
-        1 => print!(rt; " {n}"),
-        _ => print!(rt; " {n}*{times}"),
+impl<T: Display + PartialEq> Display for Runs<'_, T> {
+    fn fmt<W: fmt::Write>(&self, f: &mut Formatter<W>) -> fmt::Result {
+        for run in self.0.chunk_by(|a, b| a == b) {
+            match run {
+                [] => {}
+                [n] => write!(f, " {n}")?,
+                [n, ..] => write!(f, " {n}*{}", run.len())?,
+            }
+        }
+        Ok(())
     }
 }

@@ -1,154 +1,184 @@
-// Questions that words are lent to: each is put with what else is lent, and the answer printed, then the words.
+// Questions on maps. Most lend work words, which are printed behind the answer.
+use crate::questions::Fault;
 use std::io;
+use vector_script::Loan;
+use vector_script::print::{Each, Runs, Verdict};
 
-// The questions by number: map, order, pair, why, renumber.
-pub fn put(
-    rt: &impl Print,
-    asked: usize,
-    file: &[u8],
-    with: &[u8],
-    word: usize,
-    count: usize,
-) -> io::Result<()> {
-    if 131072 < count {
-        return vector_script::print::ill_formed(rt);
+// No question is lent more work words, or a longer output of its kind.
+const MOST_WORDS: usize = 131072;
+
+const MOST_DIFFERENCES: usize = 64;
+
+const LONGEST_REASON: usize = 32768;
+
+const LONGEST_OUTPUT: usize = 128;
+
+const MOST_RENUMBERED: usize = 6;
+
+// So many of a value to be lent, unless they are too many.
+fn filled<T: Copy, R: AllocGlobal>(
+    rt: &R,
+    value: T,
+    length: usize,
+    most: usize,
+) -> Result<Vec<T>, Fault> {
+    if most < length {
+        return Err(Fault::IllFormed);
     }
-    let mut words = [(word % 65536) as u16; 131072];
-    answer(rt, asked, file, with, &mut words[..count])
+    Ok(vec![in rt.alloc(); value; length]?)
 }
 
-fn answer(
-    rt: &impl Print,
-    asked: usize,
-    file: &[u8],
-    with: &[u8],
-    words: &mut [u16],
-) -> io::Result<()> {
-    match asked {
-        0 => judge_map(rt, file, with, words),
-        1 => draw_order(rt, file, with, words),
-        2 => judge_pair(rt, file, with, words),
-        3 => why(rt, file, with, words),
-        _ => renumber(rt, file, with, words),
+fn work_words<R: AllocGlobal>(loan: &Loan<'_, R>, most: usize) -> Result<Vec<u16>, Fault> {
+    let word = (loan.words.word % 65536) as u16;
+    filled(loan.rt, word, loan.words.count, most)
+}
+
+// Asked with the marker's entry.
+pub(crate) fn game<R: Print>(loan: &Loan<'_, R>) -> io::Result<()> {
+    let marker = loan.long_number()?;
+    let a = export_maps::meshpigeon_map_game(loan.file, marker);
+    print!(loan.rt; "{} {}", Verdict(a.status), u8::from(a.hexen))
+}
+
+// Where a descent begins: the count of subsectors, then x and y.
+struct Viewpoint {
+    subsectors: usize,
+    x: i16,
+    y: i16,
+}
+
+impl Viewpoint {
+    fn new<R: Print>(loan: &Loan<'_, R>) -> io::Result<Viewpoint> {
+        Ok(Viewpoint {
+            subsectors: loan.number(0)?,
+            x: loan.coordinate(4)?,
+            y: loan.coordinate(8)?,
+        })
     }
 }
 
-fn judge_map(rt: &impl Print, file: &[u8], name: &[u8], words: &mut [u16]) -> io::Result<()> {
-    let a = export_maps::meshpigeon_judge_map(file, name, words);
-    vector_script::print::answer(rt, a.status, a.depth, a.marker)?;
-    vector_script::print::words(rt, words)
+pub(crate) fn descend<R: Print>(loan: &Loan<'_, R>) -> io::Result<()> {
+    let Viewpoint { subsectors, x, y } = Viewpoint::new(loan)?;
+    let a = export_maps::meshpigeon_descend(loan.file, subsectors, x, y);
+    print!(loan.rt; "{} {} {}", Verdict(a.status), a.subsector, a.count)
 }
 
-// Asked as a descent is.
-fn draw_order(rt: &impl Print, nodes: &[u8], with: &[u8], words: &mut [u16]) -> io::Result<()> {
-    let x = vector_script::coordinate(rt, with, 4)?;
-    let y = vector_script::coordinate(rt, with, 8)?;
-    let subsectors = vector_script::argument(rt, with, 0)?;
-    let a = export_maps::meshpigeon_draw_order(nodes, subsectors, x, y, words);
-    vector_script::print::status(rt, a.status)?;
-    vector_script::print::number(rt, a.count)?;
-    vector_script::print::words(rt, words)
+pub(crate) fn draw_order<R: Print + AllocGlobal>(loan: &Loan<'_, R>) -> Result<(), Fault> {
+    let mut words = work_words(loan, MOST_WORDS)?;
+    let Viewpoint { subsectors, x, y } = Viewpoint::new(loan)?;
+    let a = export_maps::meshpigeon_draw_order(loan.file, subsectors, x, y, words.as_mut_slice());
+    print!(loan.rt;
+        "{} {}{}",
+        Verdict(a.status),
+        a.count,
+        Runs(words.as_slice())
+    )?;
+    Ok(())
+}
+
+// Asked with the map's name.
+pub(crate) fn judge_map<R: Print + AllocGlobal>(loan: &Loan<'_, R>) -> Result<(), Fault> {
+    let mut words = work_words(loan, MOST_WORDS)?;
+    let a = export_maps::meshpigeon_judge_map(loan.file, loan.with, words.as_mut_slice());
+    print!(loan.rt;
+        "{} {} {}{}",
+        Verdict(a.status),
+        a.depth,
+        a.marker,
+        Runs(words.as_slice())
+    )?;
+    Ok(())
 }
 
 // The file is the base and then the patch. Asked with the base's length, then the name.
-fn judge_pair(rt: &impl Print, file: &[u8], with: &[u8], words: &mut [u16]) -> io::Result<()> {
-    let n = vector_script::argument(rt, with, 0)?;
-    let base = vector_script::lent(rt, file, 0, n)?;
-    let patch = vector_script::rest(file, n);
+pub(crate) fn judge_pair<R: Print + AllocGlobal>(loan: &Loan<'_, R>) -> Result<(), Fault> {
+    let mut words = work_words(loan, MOST_WORDS)?;
+    let (base, patch) = loan.two_files()?;
     let a = export_pairs::meshpigeon_pair_judge_map(
         base,
         patch,
-        vector_script::rest(with, 4),
-        words,
+        loan.rest(4),
+        words.as_mut_slice(),
     );
-    vector_script::print::answer(rt, a.status, a.file as usize, a.depth)?;
-    vector_script::print::number(rt, a.marker)?;
-    vector_script::print::words(rt, words)
+    print!(loan.rt;
+        "{} {} {} {}{}",
+        Verdict(a.status),
+        a.file,
+        a.depth,
+        a.marker,
+        Runs(words.as_slice())
+    )?;
+    Ok(())
 }
 
-// Asked with the name of eight bytes; the output holds 9s.
-fn why(rt: &impl Print, file: &[u8], with: &[u8], words: &mut [u16]) -> io::Result<()> {
-    let n = output_length(rt, with)?;
-    if 32768 < n {
-        return vector_script::print::ill_formed(rt);
-    }
-    let name = vector_script::lent(rt, with, 0, 8)?;
-    let mut out = [9u8; 32768];
-    reason(rt, file, name, words, &mut out[..n])
-}
-
-// What stands behind the name, or else 20.
-fn output_length(rt: &impl Print, with: &[u8]) -> io::Result<usize> {
-    if with.len() <= 8 {
-        return Ok(20);
-    }
-    vector_script::argument(rt, with, 8)
-}
-
-fn reason(
-    rt: &impl Print,
-    file: &[u8],
-    name: &[u8],
-    words: &mut [u16],
-    out: &mut [u8],
-) -> io::Result<()> {
-    let a = export_why::meshpigeon_why(file, name, words, out);
-    vector_script::print::answer(rt, a.status, a.depth, a.marker)?;
-    vector_script::print::number(rt, a.length)?;
-    vector_script::print::bytes(rt, out)?;
-    vector_script::print::text(rt, b" words")?;
-    vector_script::print::words(rt, words)
-}
-
-// Asked with the name of eight bytes, the output's length and the list of old numbers, of 16 bits; the output holds 9s.
-fn renumber(rt: &impl Print, file: &[u8], with: &[u8], words: &mut [u16]) -> io::Result<()> {
-    let n = vector_script::argument(rt, with, 8)?;
-    let many = vector_script::rest(with, 12).len() / 2;
-    if 6 < many {
-        return vector_script::print::ill_formed(rt);
-    }
-    if 128 < n {
-        return vector_script::print::ill_formed(rt);
-    }
-    let order = listed(with);
-    let mut out = [9u8; 128];
-    renumber_by(rt, file, with, words, &order[..many], &mut out[..n])
-}
-
-// The list, of at most six numbers.
-fn listed(with: &[u8]) -> [u16; 6] {
-    [
-        word_at(with, 12),
-        word_at(with, 14),
-        word_at(with, 16),
-        word_at(with, 18),
-        word_at(with, 20),
-        word_at(with, 22),
-    ]
-}
-
-fn word_at(with: &[u8], at: usize) -> u16 {
-    let bytes = wad::part_if(with, at, 2);
-    if bytes.len() == 2 {
-        endian::u16_at(bytes, 0)
+// Asked with the name of eight bytes, and the output's length, or else it is 20; the output holds 9s.
+pub(crate) fn why<R: Print + AllocGlobal>(loan: &Loan<'_, R>) -> Result<(), Fault> {
+    let mut words = work_words(loan, MOST_WORDS)?;
+    let length = if loan.with.len() <= 8 {
+        20
     } else {
-        0
-    }
+        loan.number(8)?
+    };
+    let mut out = filled(loan.rt, 9, length, LONGEST_REASON)?;
+    let name = loan.part(loan.with, 0, 8)?;
+    let a = export_why::meshpigeon_why(loan.file, name, words.as_mut_slice(), out.as_mut_slice());
+    print!(loan.rt;
+        "{} {} {} {}",
+        Verdict(a.status),
+        a.depth,
+        a.marker,
+        a.length
+    )?;
+    print!(loan.rt; "{} words{}", Runs(out.as_slice()), Runs(words.as_slice()))?;
+    Ok(())
 }
 
-fn renumber_by(
-    rt: &impl Print,
-    file: &[u8],
-    with: &[u8],
-    words: &mut [u16],
-    order: &[u16],
-    out: &mut [u8],
-) -> io::Result<()> {
-    let name = vector_script::lent(rt, with, 0, 8)?;
-    let a = export_renumber::meshpigeon_renumber(file, name, words, order, out);
-    vector_script::print::status(rt, a.status)?;
-    vector_script::print::number(rt, a.length)?;
-    vector_script::print::bytes(rt, out)?;
-    vector_script::print::text(rt, b" words")?;
-    vector_script::print::words(rt, words)
+// Asked with the name of eight bytes, the output's length and the list of old numbers, of 16 bits; the output
+// holds 9s.
+pub(crate) fn renumber<R: Print + AllocGlobal>(loan: &Loan<'_, R>) -> Result<(), Fault> {
+    let mut words = work_words(loan, MOST_WORDS)?;
+    let length = loan.number(8)?;
+    let (numbers, _) = loan.rest(12).as_chunks();
+    if MOST_RENUMBERED < numbers.len() {
+        return Err(Fault::IllFormed);
+    }
+    let order: Vec<u16> = numbers
+        .iter()
+        .map(|n| u16::from_le_bytes(*n))
+        .collect(loan.rt.alloc())?;
+    let mut out = filled(loan.rt, 9, length, LONGEST_OUTPUT)?;
+    let name = loan.part(loan.with, 0, 8)?;
+    let a = export_renumber::meshpigeon_renumber(
+        loan.file,
+        name,
+        words.as_mut_slice(),
+        order.as_slice(),
+        out.as_mut_slice(),
+    );
+    print!(loan.rt; "{} {}", Verdict(a.status), a.length)?;
+    print!(loan.rt; "{} words{}", Runs(out.as_slice()), Runs(words.as_slice()))?;
+    Ok(())
+}
+
+// The file is the old WAD and then the new one. Asked with the old one's length, both names of eight bytes, and how
+// many words the list has; it holds 9s.
+pub(crate) fn differences<R: Print + AllocGlobal>(loan: &Loan<'_, R>) -> Result<(), Fault> {
+    let mut words = work_words(loan, MOST_DIFFERENCES)?;
+    let mut list = filled(loan.rt, 9, loan.number(20)?, MOST_DIFFERENCES)?;
+    let (old, new) = loan.two_files()?;
+    let a = export_differences::meshpigeon_differences(
+        old,
+        loan.part(loan.with, 4, 12)?,
+        new,
+        loan.part(loan.with, 12, 20)?,
+        words.as_mut_slice(),
+        list.as_mut_slice(),
+    );
+    print!(loan.rt; "{} {}{}", Verdict(a.status), a.file, Each(&a.counts))?;
+    print!(loan.rt;
+        " list{} words{}",
+        Runs(list.as_slice()),
+        Runs(words.as_slice())
+    )?;
+    Ok(())
 }

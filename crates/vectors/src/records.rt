@@ -1,184 +1,207 @@
-// The eight kinds of map record. One is read, its fields are printed, and it is written into a lump, which is printed too.
+// The eight kinds of map record. One is read, its fields are printed, and it is written into a copy of its lump, which
+// is printed too.
 use refusal::Status;
 use std::io;
+use vector_script::Loan;
+use vector_script::print::{Each, Runs, Verdict};
 
-// With an index alone the record is read from the lump, with an index and its bytes from those. It is written to the index.
-pub fn put(rt: &impl Print, kind: usize, lump: &[u8], with: &[u8]) -> io::Result<()> {
-    let i = vector_script::argument(rt, with, 0)?;
-    if with.len() == 4 {
-        return copy_record(rt, kind, lump, i, lump, i);
+// What things and linedefs are read as, and then written as: Hexen's or Doom's.
+#[derive(Clone, Copy, Debug, PartialEq, Eq)]
+pub(crate) struct Games {
+    pub(crate) read_hexen: bool,
+    pub(crate) write_hexen: bool,
+}
+
+impl Games {
+    pub(crate) const DOOM: Games = Games {
+        read_hexen: false,
+        write_hexen: false,
+    };
+
+    pub(crate) const DOOM_TO_HEXEN: Games = Games {
+        read_hexen: false,
+        write_hexen: true,
+    };
+
+    pub(crate) const HEXEN_TO_DOOM: Games = Games {
+        read_hexen: true,
+        write_hexen: false,
+    };
+
+    pub(crate) const HEXEN: Games = Games {
+        read_hexen: true,
+        write_hexen: true,
+    };
+}
+
+#[derive(Clone, Copy, Debug, PartialEq, Eq)]
+pub(crate) enum Kind {
+    Thing(Games),
+    Linedef(Games),
+    Sidedef,
+    Vertex,
+    Seg,
+    Subsector,
+    Node,
+    Sector,
+}
+
+// A record's place to be read from, and a copy of the lump with a place to write it to.
+#[derive(Drop)]
+struct Places<'a, R> {
+    rt: &'a R,
+    from: &'a [u8],
+    index: usize,
+    copy: Vec<u8>,
+    written: usize,
+}
+
+impl<R: Print> Places<'_, R> {
+    // Writes a record into the copy, and prints the write's status and the copy.
+    fn write<F: FnOnce(&mut [u8], usize) -> Status>(mut self, write: F) -> io::Result<()>
+        requires { F.IsAlwaysCallable write }
+    {
+        let index = self.written;
+        let status = write(self.copy.as_mut_slice(), index);
+        print!(self.rt; "{}{}", Verdict(status), Runs(self.copy.as_slice()))
     }
-    copy_record(rt, kind, vector_script::rest(with, 4), 0, lump, i)
 }
 
-fn copy_record(
-    rt: &impl Print,
-    kind: usize,
-    from: &[u8],
-    index: usize,
-    lump: &[u8],
-    i: usize,
-) -> io::Result<()> {
-    vector_script::fits(rt, lump)?;
-    let n = lump.len() % 64001;
-    let mut copy = vector_script::copied(lump);
-    write(rt, kind, from, index, &mut copy[..n], i)
+// Asked with an index alone, it is read there; with an index and its bytes, from those. It is written to the index.
+pub(crate) fn put<R: Print + AllocGlobal>(kind: Kind, loan: &Loan<'_, R>) -> io::Result<()> {
+    let written = loan.number(0)?;
+    let copy = loan.copy(loan.file)?;
+    let (from, index) = if loan.with.len() == 4 {
+        (loan.file, written)
+    } else {
+        (loan.rest(4), 0)
+    };
+    let places = Places {
+        rt: loan.rt,
+        from,
+        index,
+        copy,
+        written,
+    };
+    read_and_write(kind, places)
 }
 
-fn write(
-    rt: &impl Print,
-    kind: usize,
-    from: &[u8],
-    index: usize,
-    to: &mut [u8],
-    i: usize,
-) -> io::Result<()> {
-    let written = write_kind(rt, kind, from, index, to, i)?;
-    vector_script::print::status(rt, written)?;
-    vector_script::print::bytes(rt, to)
-}
-
-// Things and linedefs have four kinds each: read as Doom's or, the later two, as Hexen's; written as Doom's or, the second of
-// two, as Hexen's.
-fn write_kind(
-    rt: &impl Print,
-    kind: usize,
-    from: &[u8],
-    index: usize,
-    to: &mut [u8],
-    i: usize,
-) -> io::Result<Status> {
+fn read_and_write<R: Print>(kind: Kind, places: Places<'_, R>) -> io::Result<()> {
     match kind {
-        0..=3 => thing(rt, kind, from, index, to, i),
-        4..=7 => linedef(rt, kind - 4, from, index, to, i),
-        8 => sidedef(rt, from, index, to, i),
-        9 => vertex(rt, from, index, to, i),
-        10 => seg(rt, from, index, to, i),
-        11 => subsector(rt, from, index, to, i),
-        12 => node(rt, from, index, to, i),
-        _ => sector(rt, from, index, to, i),
+        Kind::Thing(games) => thing(games, places),
+        Kind::Linedef(games) => linedef(games, places),
+        Kind::Sidedef => sidedef(places),
+        Kind::Vertex => vertex(places),
+        Kind::Seg => seg(places),
+        Kind::Subsector => subsector(places),
+        Kind::Node => node(places),
+        Kind::Sector => sector(places),
     }
 }
 
-fn thing(
-    rt: &impl Print,
-    games: usize,
-    from: &[u8],
-    index: usize,
-    to: &mut [u8],
-    i: usize,
-) -> io::Result<Status> {
-    let a = export_records::meshpigeon_read_thing(from, index, 2 <= games);
+fn thing<R: Print>(games: Games, places: Places<'_, R>) -> io::Result<()> {
+    let a = export_records::meshpigeon_read_thing(places.from, places.index, games.read_hexen);
     let mut t = a.thing;
-    vector_script::print::signed(rt, &[t.id, t.x, t.y, t.height])?;
-    vector_script::print::words(rt, &[t.angle, t.kind, t.flags, t.action as u16])?;
-    vector_script::print::bytes(rt, &t.args)?;
-    vector_script::print::flag(rt, t.hexen)?;
-    vector_script::print::status(rt, a.status)?;
-    t.hexen = games % 2 == 1;
-    Ok(export_records::meshpigeon_write_thing(to, i, t))
-}
-
-fn linedef(
-    rt: &impl Print,
-    games: usize,
-    from: &[u8],
-    index: usize,
-    to: &mut [u8],
-    i: usize,
-) -> io::Result<Status> {
-    let a = export_records::meshpigeon_read_linedef(from, index, 2 <= games);
-    let mut l = a.linedef;
-    vector_script::print::words(
-        rt,
-        &[l.start, l.end, l.flags, l.special, l.tag, l.right, l.left],
+    print!(places.rt; "{}", Each(&[t.id, t.x, t.y, t.height]))?;
+    print!(places.rt;
+        "{}",
+        Runs(&[t.angle, t.kind, t.flags, u16::from(t.action)])
     )?;
-    vector_script::print::bytes(rt, &l.args)?;
-    vector_script::print::flag(rt, l.hexen)?;
-    vector_script::print::status(rt, a.status)?;
-    l.hexen = games % 2 == 1;
-    Ok(export_records::meshpigeon_write_linedef(to, i, l))
+    print!(places.rt;
+        "{} {}{}",
+        Runs(&t.args),
+        u8::from(t.hexen),
+        Verdict(a.status)
+    )?;
+    t.hexen = games.write_hexen;
+    places.write(|lump, i| export_records::meshpigeon_write_thing(lump, i, t))
 }
 
-fn sidedef(
-    rt: &impl Print,
-    from: &[u8],
-    index: usize,
-    to: &mut [u8],
-    i: usize,
-) -> io::Result<Status> {
-    let a = export_records::meshpigeon_read_sidedef(from, index);
+fn linedef<R: Print>(games: Games, places: Places<'_, R>) -> io::Result<()> {
+    let a = export_records::meshpigeon_read_linedef(places.from, places.index, games.read_hexen);
+    let mut l = a.linedef;
+    let words = [l.start, l.end, l.flags, l.special, l.tag, l.right, l.left];
+    print!(places.rt; "{}", Runs(&words))?;
+    print!(places.rt;
+        "{} {}{}",
+        Runs(&l.args),
+        u8::from(l.hexen),
+        Verdict(a.status)
+    )?;
+    l.hexen = games.write_hexen;
+    places.write(|lump, i| export_records::meshpigeon_write_linedef(lump, i, l))
+}
+
+fn sidedef<R: Print>(places: Places<'_, R>) -> io::Result<()> {
+    let a = export_records::meshpigeon_read_sidedef(places.from, places.index);
     let s = a.sidedef;
-    vector_script::print::signed(rt, &[s.x_offset, s.y_offset])?;
-    vector_script::print::bytes(rt, &s.upper)?;
-    vector_script::print::bytes(rt, &s.lower)?;
-    vector_script::print::bytes(rt, &s.middle)?;
-    vector_script::print::words(rt, &[s.sector])?;
-    vector_script::print::status(rt, a.status)?;
-    Ok(export_records::meshpigeon_write_sidedef(to, i, s))
+    print!(places.rt; "{}", Each(&[s.x_offset, s.y_offset]))?;
+    print!(places.rt; "{}{}{}", Runs(&s.upper), Runs(&s.lower), Runs(&s.middle))?;
+    print!(places.rt; " {}{}", s.sector, Verdict(a.status))?;
+    places.write(|lump, i| export_records::meshpigeon_write_sidedef(lump, i, s))
 }
 
-fn vertex(
-    rt: &impl Print,
-    from: &[u8],
-    index: usize,
-    to: &mut [u8],
-    i: usize,
-) -> io::Result<Status> {
-    let a = export_records::meshpigeon_read_vertex(from, index);
+fn vertex<R: Print>(places: Places<'_, R>) -> io::Result<()> {
+    let a = export_records::meshpigeon_read_vertex(places.from, places.index);
     let v = a.vertex;
-    vector_script::print::signed(rt, &[v.x, v.y])?;
-    vector_script::print::status(rt, a.status)?;
-    Ok(export_records::meshpigeon_write_vertex(to, i, v))
+    print!(places.rt; "{}{}", Each(&[v.x, v.y]), Verdict(a.status))?;
+    places.write(|lump, i| export_records::meshpigeon_write_vertex(lump, i, v))
 }
 
-fn seg(rt: &impl Print, from: &[u8], index: usize, to: &mut [u8], i: usize) -> io::Result<Status> {
-    let a = export_records::meshpigeon_read_seg(from, index);
+fn seg<R: Print>(places: Places<'_, R>) -> io::Result<()> {
+    let a = export_records::meshpigeon_read_seg(places.from, places.index);
     let s = a.seg;
-    vector_script::print::words(rt, &[s.start, s.end, s.angle, s.linedef, s.direction])?;
-    vector_script::print::signed(rt, &[s.offset])?;
-    vector_script::print::status(rt, a.status)?;
-    Ok(export_records::meshpigeon_write_seg(to, i, s))
+    print!(places.rt;
+        "{}",
+        Runs(&[s.start, s.end, s.angle, s.linedef, s.direction])
+    )?;
+    print!(places.rt; " {}{}", s.offset, Verdict(a.status))?;
+    places.write(|lump, i| export_records::meshpigeon_write_seg(lump, i, s))
 }
 
-fn subsector(
-    rt: &impl Print,
-    from: &[u8],
-    index: usize,
-    to: &mut [u8],
-    i: usize,
-) -> io::Result<Status> {
-    let a = export_records::meshpigeon_read_subsector(from, index);
+fn subsector<R: Print>(places: Places<'_, R>) -> io::Result<()> {
+    let a = export_records::meshpigeon_read_subsector(places.from, places.index);
     let s = a.subsector;
-    vector_script::print::words(rt, &[s.number, s.first])?;
-    vector_script::print::status(rt, a.status)?;
-    Ok(export_records::meshpigeon_write_subsector(to, i, s))
+    print!(places.rt; "{}{}", Runs(&[s.number, s.first]), Verdict(a.status))?;
+    places.write(|lump, i| export_records::meshpigeon_write_subsector(lump, i, s))
 }
 
-fn node(rt: &impl Print, from: &[u8], index: usize, to: &mut [u8], i: usize) -> io::Result<Status> {
-    let a = export_records::meshpigeon_read_node(from, index);
+fn node<R: Print>(places: Places<'_, R>) -> io::Result<()> {
+    let a = export_records::meshpigeon_read_node(places.from, places.index);
     let n = a.node;
-    vector_script::print::signed(rt, &[n.x, n.y, n.dx, n.dy])?;
-    vector_script::print::signed(rt, &n.right_box)?;
-    vector_script::print::signed(rt, &n.left_box)?;
-    vector_script::print::words(rt, &[n.right, n.left])?;
-    vector_script::print::status(rt, a.status)?;
-    Ok(export_records::meshpigeon_write_node(to, i, n))
+    print!(places.rt; "{}", Each(&[n.x, n.y, n.dx, n.dy]))?;
+    print!(places.rt; "{}{}", Each(&n.right_box), Each(&n.left_box))?;
+    print!(places.rt; "{}{}", Runs(&[n.right, n.left]), Verdict(a.status))?;
+    places.write(|lump, i| export_records::meshpigeon_write_node(lump, i, n))
 }
 
-fn sector(
-    rt: &impl Print,
-    from: &[u8],
-    index: usize,
-    to: &mut [u8],
-    i: usize,
-) -> io::Result<Status> {
-    let a = export_records::meshpigeon_read_sector(from, index);
+fn sector<R: Print>(places: Places<'_, R>) -> io::Result<()> {
+    let a = export_records::meshpigeon_read_sector(places.from, places.index);
     let s = a.sector;
-    vector_script::print::signed(rt, &[s.floor, s.ceiling])?;
-    vector_script::print::bytes(rt, &s.floor_flat)?;
-    vector_script::print::bytes(rt, &s.ceiling_flat)?;
-    vector_script::print::words(rt, &[s.light, s.special, s.tag])?;
-    vector_script::print::status(rt, a.status)?;
-    Ok(export_records::meshpigeon_write_sector(to, i, s))
+    print!(places.rt; "{}", Each(&[s.floor, s.ceiling]))?;
+    print!(places.rt; "{}{}", Runs(&s.floor_flat), Runs(&s.ceiling_flat))?;
+    print!(places.rt;
+        "{}{}",
+        Runs(&[s.light, s.special, s.tag]),
+        Verdict(a.status)
+    )?;
+    places.write(|lump, i| export_records::meshpigeon_write_sector(lump, i, s))
+}
+
+// What is asked with ends where the file begins; a longer one is taken modulo this and one.
+const MOST_ASKED: usize = 196608;
+
+// Asked with the count of sectors, of 64 bits, then each scrap's length; a length that is cut is asked for too.
+// Behind its end the lump begins again.
+pub(crate) fn sidedefs<R: Print>(loan: &Loan<'_, R>) -> io::Result<()> {
+    let mut state = export_sidedefs::meshpigeon_sidedefs_start(loan.long_number()?);
+    let mut at: usize = 0;
+    for i in 2..(loan.with.len() % (MOST_ASKED + 1)).div_ceil(4) {
+        let end = at.wrapping_add(loan.number(4 * i)?);
+        let scrap = loan.part(loan.file, at, end)?;
+        state = export_sidedefs::meshpigeon_sidedefs_feed(state, scrap);
+        at = if end == loan.file.len() { 0 } else { end };
+    }
+    let status = export_sidedefs::meshpigeon_sidedefs_verdict(state);
+    print!(loan.rt; "{}", Verdict(status))
 }

@@ -12,14 +12,11 @@ use lib.ListN.{length}
 use Rattle.endian.specs.Signed.{between, natural}
 use Rattle.refusal.specs.declared.Refusal.{Refusal}
 use Rattle.refusal.specs.declared.Refusal.TheVariants.{EntryBounds, EntryNumber, MapName}
-use Rattle.refusal.specs.declared.Check.{Check}
-use Rattle.refusal.specs.declared.Check.TheVariants.{Pass, Refused}
+use Rattle.refusal.specs.Checks.{Check}
+use Rattle.std.specs.Prelude.{Result, Ok, Err}
 use Rattle.refusal.specs.Checks.{unless, ◌and_then◌, each}
 use Rattle.refusal.proofs.Checks.{both, and_then_pass, unless_pass, each_pass}
 use Rattle.wad.specs.declared.lumps.Entry.{Entry}
-use Rattle.wad.specs.declared.lumps.Entry.TheVariants.{At, Refused as NotThere}
-use Rattle.wad.specs.declared.map.Marker.{Marker}
-use Rattle.wad.specs.declared.map.Marker.TheVariants.{Entry as Marked, Refused as NoMarker}
 use Rattle.wad.specs.declared.map.MarkerSearch.{MarkerSearch}
 use Rattle.name.specs.Names.{name_of, episode_name, low_name, high_name, map_name_ok}
 use Rattle.wad.specs.Header.{head_of, entry_count, file_header_check}
@@ -30,22 +27,22 @@ use Rattle.wad.proofs.Slices.{length_part, part_if-inside}
 use Rattle.wad.proofs.Listing.{between-natural}
 
 module _ (wad : List ℕ) (i : ℕ) where
-  abbrev pub answered : Check → Entry
+  abbrev pub answered : Check → Result Entry Refusal
   answered k = placed k (entry_offset (directory_of wad) i) (entry_size (directory_of wad) i)
 
   abbrev pub numbered : Check
   numbered = unless (ltb i (entry_count (head_of wad))) EntryNumber
 
-  pub entry-refused : {r : Refusal} → file_check wad ≡ Refused r → NotThere r ≡ entry_answer wad i
+  pub entry-refused : {r : Refusal} → file_check wad ≡ Err r → Err r ≡ entry_answer wad i
   entry-refused e = sym (ap (λ (k : Check). answered (k and_then numbered)) e)
 
-  pub entry_past : file_check wad ≡ Pass → entry_count (head_of wad) ≤ i → NotThere EntryNumber ≡ entry_answer wad i
+  pub entry_past : file_check wad ≡ Ok tt → entry_count (head_of wad) ≤ i → Err EntryNumber ≡ entry_answer wad i
   entry_past e h =
       sym (ap (λ (k : Check). answered (k and_then numbered)) e
       ∙ ap (λ (b : Bool). answered (unless b EntryNumber)) (le-ltb i (entry_count (head_of wad)) h))
 
-  pub entry_at : file_check wad ≡ Pass → i < entry_count (head_of wad)
-      → At (entry_offset (directory_of wad) i) (entry_size (directory_of wad) i) ≡ entry_answer wad i
+  pub entry_at : file_check wad ≡ Ok tt → i < entry_count (head_of wad)
+      → Ok (record { offset = entry_offset (directory_of wad) i; size = entry_size (directory_of wad) i }) ≡ entry_answer wad i
   entry_at e h =
       sym (ap (λ (k : Check). answered (k and_then numbered)) e
       ∙ ap (λ (b : Bool). answered (unless b EntryNumber)) (lt-ltb i (entry_count (head_of wad)) h))
@@ -57,22 +54,22 @@ module _ (wad name : List ℕ) where
   abbrev pub named : Check
   named = unless (map_name_ok name) MapName
 
-  pub search_refused : {r : Refusal} → file_check wad ≡ Refused r → sought (Refused r) ≡ search_answer wad name
+  pub search_refused : {r : Refusal} → file_check wad ≡ Err r → sought (Err r) ≡ search_answer wad name
   search_refused e = sym (ap (λ (k : Check). sought (k and_then named)) e)
 
-  pub search_named : {b : Bool} → file_check wad ≡ Pass → b ≡ map_name_ok name
+  pub search_named : {b : Bool} → file_check wad ≡ Ok tt → b ≡ map_name_ok name
       → sought (unless b MapName) ≡ search_answer wad name
   search_named e q =
       ap (λ (b : Bool). sought (unless b MapName)) q ∙ sym (ap (λ (k : Check). sought (k and_then named)) e)
 
 -- the count stands beside the marker and changes nothing of it
-pub counted_marker : (count : ℕ) (m : Marker) → (counted count m).marker ≡ m
-counted_marker count (Marked i) = refl
-counted_marker count (NoMarker r) = refl
+pub counted_marker : (count : ℕ) (m : Result ℕ Refusal) → (counted count m).marker ≡ m
+counted_marker count (Ok i) = refl
+counted_marker count (Err r) = refl
 
-searched_marker : (k : Check) (count : ℕ) (m : Marker) → (searched k (counted count m)).marker ≡ found k m
-searched_marker Pass count m = counted_marker count m
-searched_marker (Refused r) count m = refl
+searched_marker : (k : Check) (count : ℕ) (m : Result ℕ Refusal) → (searched k (counted count m)).marker ≡ found k m
+searched_marker (Ok _) count m = counted_marker count m
+searched_marker (Err r) count m = refl
 
 pub search_marker : (wad name : List ℕ) → (search_answer wad name).marker ≡ marker_answer wad name
 search_marker wad name =
@@ -103,7 +100,7 @@ inside-by len offset size false e h =
     no_further (eqb (natural size) 0) (natural offset) (natural size) len (leb-true (natural offset + natural size) len sums.1)
 
 -- its part lies inside the file
-pub entry-inside : (wad : List ℕ) (i : ℕ) → file_check wad ≡ Pass → i < entry_count (head_of wad)
+pub entry-inside : (wad : List ℕ) (i : ℕ) → file_check wad ≡ Ok tt → i < entry_count (head_of wad)
     → entry_offset (directory_of wad) i + entry_size (directory_of wad) i ≤ length wad
 entry-inside wad i e h =
     let dir = directory_of wad in
@@ -113,9 +110,18 @@ entry-inside wad i e h =
     let first = (and_then_pass (unless bounds (EntryBounds i)) _ this).0 in
     inside-by (length wad) (offset_at dir i) (size_at dir i) (between (size_at dir i) 0 0) refl (unless_pass bounds (EntryBounds i) first)
 
-placed_at : (c : Check) (o s : ℕ) {offset size : ℕ} → placed c o s ≡ At offset size → (c ≡ Pass) × ((o ≡ offset) × (s ≡ size))
-placed_at Pass o s e = (refl, ((cc), (cc)))
-placed_at (Refused r) o s e = let z : ◌≡◌ {A = ℕ} 0 1 = cc in absurd (omega arith)
+-- the parts of an answer
+abbrev offset_in : Result Entry Refusal → ℕ
+offset_in (Ok entry) = entry.offset
+offset_in (Err r) = 0
+
+abbrev size_in : Result Entry Refusal → ℕ
+size_in (Ok entry) = entry.size
+size_in (Err r) = 0
+
+placed_at : (c : Check) (o s : ℕ) {offset size : ℕ} → placed c o s ≡ Ok (record { offset = offset; size = size }) → (c ≡ Ok tt) × ((o ≡ offset) × (s ≡ size))
+placed_at (Ok _) o s e = (refl, (ap offset_in e, ap size_in e))
+placed_at (Err r) o s e = let z : ◌≡◌ {A = ℕ} 0 1 = cc in absurd (omega arith)
 
 pub handed-whole : HandedWhole
 handed-whole wad i offset size e =

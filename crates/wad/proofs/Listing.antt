@@ -12,11 +12,10 @@ use lib.ListN.{length}
 use Rattle.endian.specs.Signed.{i32_at, between, natural}
 use Rattle.refusal.specs.declared.Refusal.{Refusal}
 use Rattle.refusal.specs.declared.Refusal.TheVariants.{FileLength, Mark, LumpCount, DirectoryBounds}
-use Rattle.refusal.specs.declared.Check.{Check}
-use Rattle.refusal.specs.declared.Check.TheVariants.{Pass, Refused}
+use Rattle.refusal.specs.Checks.{Check}
+use Rattle.std.specs.Prelude.{Ok, Err}
 use Rattle.refusal.specs.Checks.{unless, each}
 use Rattle.refusal.proofs.Checks.{both, and_then_pass, unless_pass}
-use Rattle.wad.specs.declared.entries.Directory.TheVariants.{Listed, Refused as NotListed}
 use Rattle.wad.specs.Header.{length_ok, mark_ok, entry_count_ok, bounds_ok, entry_count, start_of, head_of, fields_check, file_header_check}
 use Rattle.wad.specs.Entries.{directory_of, entry_check, file_check, listed}
 
@@ -36,7 +35,7 @@ pub record Sound (len : ℕ) (head : List ℕ) : Type 0 where
   pub few : entry_count head ≤ 4096
   pub inside : start_of head + 16 * entry_count head ≤ len
 
-pub sound : (len : ℕ) (head : List ℕ) → file_header_check len head ≡ Pass → Sound len head
+pub sound : (len : ℕ) (head : List ℕ) → file_header_check len head ≡ Ok tt → Sound len head
 sound len head e =
     let p1 = and_then_pass (unless (length_ok len) FileLength) (fields_check len head) e in
     let lengths = both (leb 12 len) (leb len 16777216) (unless_pass (length_ok len) FileLength p1.0) in
@@ -51,18 +50,18 @@ sound len head e =
       inside = leb-true _ len bounds.1;
     }
 
-pub file_sound : (wad : List ℕ) → file_header_check (length wad) (head_of wad) ≡ Pass → Sound (length wad) (head_of wad)
+pub file_sound : (wad : List ℕ) → file_header_check (length wad) (head_of wad) ≡ Ok tt → Sound (length wad) (head_of wad)
 file_sound wad = sound (length wad) (head_of wad)
 
 -- ---- an answer and the check behind it
 
-pub is-listed : {c : Check} {n s n' s' : ℕ} → c ≡ Pass → n ≡ n' → s ≡ s' → Listed n s ≡ listed c n' s'
+pub is-listed : {c : Check} {n s n' s' : ℕ} → c ≡ Ok tt → n ≡ n' → s ≡ s' → Ok (record { count = n; start = s }) ≡ listed c n' s'
 is-listed e q t = rw (e, q, t)
 
-pub not_listed : {c : Check} (n s : ℕ) {r : Refusal} → c ≡ Refused r → NotListed r ≡ listed c n s
+pub not_listed : {c : Check} (n s : ℕ) {r : Refusal} → c ≡ Err r → Err r ≡ listed c n s
 not_listed n s e = rw e
 
 -- a file that passes has a header that passes
-pub file-header : (wad : List ℕ) → file_check wad ≡ Pass → file_header_check (length wad) (head_of wad) ≡ Pass
+pub file-header : (wad : List ℕ) → file_check wad ≡ Ok tt → file_header_check (length wad) (head_of wad) ≡ Ok tt
 file-header wad e =
     (and_then_pass (file_header_check (length wad) (head_of wad)) (each (entry_check (length wad) (directory_of wad)) (entry_count (head_of wad))) e).0

@@ -7,12 +7,10 @@ use native.Mathlib.Omega.{arith}
 use lib.ListN.{length}
 use Rattle.refusal.specs.declared.Refusal.{Refusal}
 use Rattle.refusal.specs.declared.Refusal.TheVariants.{FileLength, Mark, LumpCount, DirectoryBounds, EntryBounds, EntryName, MapName, EntryMissing}
-use Rattle.refusal.specs.declared.Check.{Check}
-use Rattle.refusal.specs.declared.Check.TheVariants.{Pass, Refused}
+use Rattle.refusal.specs.Checks.{Check}
+use Rattle.std.specs.Prelude.{Result, Ok, Err}
 use Rattle.refusal.specs.Table.{number_of}
 use Rattle.refusal.proofs.Numbers.{AtMost, unless_at_most, and_then_at_most, each_at_most}
-use Rattle.wad.specs.declared.map.Marker.{Marker}
-use Rattle.wad.specs.declared.map.Marker.TheVariants.{Entry, Refused as NoMarker}
 use Rattle.wad.specs.Header.{length_ok, mark_ok, entry_count_ok, bounds_ok, head_of, entry_count}
 use Rattle.wad.specs.Entries.{offset_at, size_at, entry_name, inside_ok, entry_check, directory_of, directory_check}
 use Rattle.name.specs.Names.{name_ok, same_name, map_name_ok}
@@ -20,17 +18,17 @@ use Rattle.wad.proofs.Search.{find_marker-found, find_marker_on, find_marker-non
 use Rattle.wad.specs.Map.{find_marker, found, marker_answer}
 
 -- no refusal of the search has a larger number
-abbrev MarkerAtMost : Marker → Type 0
-MarkerAtMost m = (r : Refusal) → m ≡ NoMarker r → number_of r ≤ 11
+abbrev MarkerAtMost : Result ℕ Refusal → Type 0
+MarkerAtMost m = (r : Refusal) → m ≡ Err r → number_of r ≤ 11
 
-abbrev number_in : Marker → ℕ
-number_in (Entry i) = 0
-number_in (NoMarker r) = number_of r
+abbrev number_in : Result ℕ Refusal → ℕ
+number_in (Ok i) = 0
+number_in (Err r) = number_of r
 
-none_at_most : (s : Refusal) → number_of s ≤ 11 → MarkerAtMost (NoMarker s)
+none_at_most : (s : Refusal) → number_of s ≤ 11 → MarkerAtMost (Err s)
 none_at_most s h r e = rw (ap number_in e) at h
 
-entry_at_most : (i : ℕ) → MarkerAtMost (Entry i)
+entry_at_most : (i : ℕ) → MarkerAtMost (Ok i)
 entry_at_most i r e = let z : ◌≡◌ {A = ℕ} 0 1 = cc in absurd (omega arith)
 
 module _ (dir name : List ℕ) where
@@ -43,9 +41,9 @@ module _ (dir name : List ℕ) where
   find_at_most zero = subst⁻¹ MarkerAtMost (find_marker-none dir name) (none_at_most EntryMissing (omega arith))
   find_at_most (suc n) = find-by n (same_name (entry_name dir n) name) refl (find_at_most n)
 
-found_at_most : (c : Check) (m : Marker) → AtMost 11 c → MarkerAtMost m → MarkerAtMost (found c m)
-found_at_most Pass m h k = k
-found_at_most (Refused s) m h k = none_at_most s (h s (λ i. Refused s))
+found_at_most : (c : Check) (m : Result ℕ Refusal) → AtMost 11 c → MarkerAtMost m → MarkerAtMost (found c m)
+found_at_most (Ok _) m h k = k
+found_at_most (Err s) m h k = none_at_most s (h s (λ i. Err s))
 
 directory_at_most : (len : ℕ) (head dir : List ℕ) → AtMost 11 (directory_check len head dir)
 directory_at_most len head dir =
@@ -59,7 +57,7 @@ directory_at_most len head dir =
     (unless_at_most (name_ok (entry_name dir i)) (EntryName i) (omega arith))) (entry_count head))
 
 -- 1 to 6, 10 and 11
-pub marker_at_most : (wad name : List ℕ) (r : Refusal) → marker_answer wad name ≡ NoMarker r → number_of r ≤ 11
+pub marker_at_most : (wad name : List ℕ) (r : Refusal) → marker_answer wad name ≡ Err r → number_of r ≤ 11
 marker_at_most wad name =
     found_at_most _ _
     (and_then_at_most _ _ (directory_at_most (length wad) (head_of wad) (directory_of wad)) (unless_at_most (map_name_ok name) MapName (omega arith)))

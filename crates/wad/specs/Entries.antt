@@ -1,13 +1,12 @@
 -- The directory: entries of sixteen bytes with offset, size and name (01, "File and directory"). The definitions take the
 -- file's length and the directory's bytes: nothing else of the file alters their verdict. Assumes nothing.
-use Rattle.std.specs.Prelude.{ℕ, ◌+◌, ◌*◌, Bool, ◌&&◌, ◌||◌, List, leb, ℤ, length}
+use Rattle.std.specs.Prelude.{ℕ, ◌+◌, ◌*◌, Bool, ◌&&◌, ◌||◌, List, leb, ℤ, length, Result, Ok, Err}
 use Rattle.endian.specs.Signed.{i32_at, between, natural}
-use Rattle.refusal.specs.declared.Check.{Check}
-use Rattle.refusal.specs.declared.Check.TheVariants.{Pass, Refused}
+use Rattle.refusal.specs.Checks.{Check}
+use Rattle.refusal.specs.declared.Refusal.{Refusal}
 use Rattle.refusal.specs.declared.Refusal.TheVariants.{EntryBounds, EntryName}
 use Rattle.refusal.specs.Checks.{unless, ◌and_then◌, each}
 use Rattle.wad.specs.declared.entries.Directory.{Directory}
-use Rattle.wad.specs.declared.entries.Directory.TheVariants.{Listed, Refused as NotListed}
 use Rattle.wad.specs.Slices.{part}
 use Rattle.wad.specs.Header.{head_of, entry_count, start_of, file_header_check}
 use Rattle.name.specs.Names.{name_ok}
@@ -48,10 +47,10 @@ abbrev pub file_check : List ℕ → Check
 file_check wad = directory_check (length wad) (head_of wad) (directory_of wad)
 
 -- the refusal, or the count of lumps and the directory's start
-abbrev pub listed : Check → ℕ → ℕ → Directory
-listed Pass count start = Listed count start
-listed (Refused r) count start = NotListed r
+abbrev pub listed : Check → ℕ → ℕ → Result Directory Refusal
+listed (Ok passed) count start = Ok (record { count = count; start = start })
+listed (Err r) count start = Err r
 
 -- what is answered of a file's directory
-abbrev pub directory_answer : List ℕ → Directory
+abbrev pub directory_answer : List ℕ → Result Directory Refusal
 directory_answer wad = listed (file_check wad) (entry_count (head_of wad)) (start_of (head_of wad))

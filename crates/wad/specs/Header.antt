@@ -2,7 +2,7 @@
 -- the file's length and its first twelve bytes. Assumes nothing.
 use Rattle.std.specs.Prelude.{ℕ, ◌+◌, ◌*◌, Bool, ◌&&◌, ◌||◌, List, leb, eqb, get_or}
 use Rattle.endian.specs.Signed.{i32_at, between, natural}
-use Rattle.refusal.specs.declared.Check.{Check}
+use Rattle.refusal.specs.Checks.{Check}
 use Rattle.refusal.specs.declared.Refusal.TheVariants.{FileLength, Mark, LumpCount, DirectoryBounds}
 use Rattle.refusal.specs.Checks.{unless, ◌and_then◌}
 use Rattle.wad.specs.Slices.{part}

@@ -1,12 +1,11 @@
 -- An entry's part of the file (01, "Asked for an entry by number, .."). Assumes nothing.
-use Rattle.std.specs.Prelude.{ℕ, cond, List, [], ◌≡◌, ltb, eqb, length}
+use Rattle.std.specs.Prelude.{ℕ, cond, List, [], ◌≡◌, ltb, eqb, length, Result, Ok, Err}
 use Rattle.endian.specs.Signed.{natural}
-use Rattle.refusal.specs.declared.Check.{Check}
-use Rattle.refusal.specs.declared.Check.TheVariants.{Pass, Refused}
+use Rattle.refusal.specs.Checks.{Check}
+use Rattle.refusal.specs.declared.Refusal.{Refusal}
 use Rattle.refusal.specs.declared.Refusal.TheVariants.{EntryNumber}
 use Rattle.refusal.specs.Checks.{unless, ◌and_then◌}
 use Rattle.wad.specs.declared.lumps.Entry.{Entry}
-use Rattle.wad.specs.declared.lumps.Entry.TheVariants.{At, Refused as NotThere}
 use Rattle.wad.specs.Slices.{part, part_if}
 use Rattle.wad.specs.Header.{head_of, entry_count}
 use Rattle.wad.specs.Entries.{directory_of, offset_at, size_at, file_check}
@@ -24,21 +23,21 @@ abbrev pub lump_at : List ℕ → List ℕ → ℕ → List ℕ
 lump_at wad dir i = part_if wad (entry_offset dir i) (entry_size dir i)
 
 -- the refusal, or where the part lies and how long it is
-abbrev pub placed : Check → ℕ → ℕ → Entry
-placed Pass offset size = At offset size
-placed (Refused r) offset size = NotThere r
+abbrev pub placed : Check → ℕ → ℕ → Result Entry Refusal
+placed (Ok passed) offset size = Ok (record { offset = offset; size = size })
+placed (Err r) offset size = Err r
 
 -- what is answered of entry `i`: 1 to 6, then 7
-abbrev pub entry_answer : List ℕ → ℕ → Entry
+abbrev pub entry_answer : List ℕ → ℕ → Result Entry Refusal
 entry_answer wad i =
     placed (file_check wad and_then unless (ltb i (entry_count (head_of wad))) EntryNumber)
     (entry_offset (directory_of wad) i)
     (entry_size (directory_of wad) i)
 
 -- the part that an answer names; none where it refuses
-abbrev pub part_of : List ℕ → Entry → List ℕ
-part_of wad (At offset size) = part_if wad offset size
-part_of wad (NotThere r) = []
+abbrev pub part_of : List ℕ → Result Entry Refusal → List ℕ
+part_of wad (Ok entry) = part_if wad entry.offset entry.size
+part_of wad (Err r) = []
 
 -- entry `i`'s part of the file, none where it is refused
 abbrev pub entry_lump : List ℕ → ℕ → List ℕ
@@ -52,4 +51,4 @@ pub record Whole (wad part' : List ℕ) (offset size : ℕ) : Type 0 where
 -- an entry that is not refused is handed back whole
 abbrev pub HandedWhole : Type 0
 HandedWhole =
-    (wad : List ℕ) (i offset size : ℕ) → entry_answer wad i ≡ At offset size → Whole wad (entry_lump wad i) offset size
+    (wad : List ℕ) (i offset size : ℕ) → entry_answer wad i ≡ Ok (record { offset = offset; size = size }) → Whole wad (entry_lump wad i) offset size

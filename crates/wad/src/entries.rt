@@ -1,20 +1,18 @@
 // The directory: refusals 5 and 6, and with the header's the question of refusals 1 to 6.
-ghost use Rattle.std.specs.Prelude.{◌≡◌, ◌+◌, ◌*◌, ◌<◌, ◌≤◌, length};
+ghost use Rattle.std.specs.Prelude.{◌≡◌, ◌+◌, ◌*◌, ◌<◌, ◌≤◌, length, Ok};
 ghost use Rattle.refusal.specs.Checks.{each};
-ghost use Rattle.refusal.specs.declared.Check.TheVariants.{Pass};
 ghost use Rattle.wad.specs.Header.{head_of, entry_count, file_header_check};
 ghost use Rattle.wad.specs.Entries.{offset_at, size_at, inside_ok, entry_check, directory_of, file_check, directory_answer};
 
 use crate::header::{count_of, head_of, judge_header, start_of};
 use crate::parts::part;
-use refusal::{Check, Refusal};
+use refusal::Refusal;
 
-// What is answered of a file's directory.
+// A file's directory: its count of lumps and its start.
 #[derive(Clone, Copy)]
-pub enum Directory {
-    // its count of lumps and its start
-    Listed { count: usize, start: usize },
-    Refused(Refusal),
+pub struct Directory {
+    pub count: usize,
+    pub start: usize,
 }
 
 // The offset is looked at only where the size is above 0.
@@ -31,34 +29,31 @@ fn inside_ok(len: usize, dir: &[u8], i: usize) -> bool
         & (endian::natural_at(dir, at) + endian::natural_at(dir, at + 4) <= len)
 }
 
-fn judge_entry(len: usize, dir: &[u8], i: usize) -> Check
+fn judge_entry(len: usize, dir: &[u8], i: usize) -> Result<(), Refusal>
     requires { (len ≤ 16777216) × (16 * i + 16 ≤ length dir.now) }
     ensures { result ≡ entry_check len dir.now i }
 {
-    let bounds = refusal::pass_if(inside_ok(len, dir, i), Refusal::EntryBounds(i));
-    let name = refusal::pass_if(
+    refusal::pass_if(inside_ok(len, dir, i), Refusal::EntryBounds(i))?;
+    refusal::pass_if(
         name::name_ok(part(dir, 16 * i + 8, 8)),
         Refusal::EntryName(i),
-    );
-    refusal::then(bounds, name)
+    )
 }
 
 // 5 and 6 of each entry in turn.
-pub fn judge_entries(len: usize, dir: &[u8], count: usize) -> Check
+pub fn judge_entries(len: usize, dir: &[u8], count: usize) -> Result<(), Refusal>
     requires { (len ≤ 16777216) × (16 * count ≤ length dir.now) }
     ensures { result ≡ each (entry_check len dir.now) count }
 {
     for i in 0..count {
-        if let Check::Refused(r) = judge_entry(len, dir, i) {
-            return Check::Refused(r);
-        }
+        judge_entry(len, dir, i)?;
     }
-    Check::Pass
+    Ok(())
 }
 
 // The directory's bytes, of a file whose header passes.
 pub fn directory_of(wad: &[u8]) -> &[u8]
-    requires { file_header_check (length wad.now) (head_of wad.now) ≡ Pass }
+    requires { file_header_check (length wad.now) (head_of wad.now) ≡ Ok tt }
     ensures result_value { result.now ≡ directory_of wad.now }
     ensures result_len { length result.now ≡ 16 * entry_count (head_of wad.now) }
 {
@@ -68,32 +63,28 @@ pub fn directory_of(wad: &[u8]) -> &[u8]
 
 // How many entries the directory has, of a file whose header passes.
 pub fn entry_count(wad: &[u8]) -> usize
-    requires { file_header_check (length wad.now) (head_of wad.now) ≡ Pass }
+    requires { file_header_check (length wad.now) (head_of wad.now) ≡ Ok tt }
     ensures { result ≡ entry_count (head_of wad.now) }
 {
     count_of(head_of(wad))
 }
 
 // Header and directory, 1 to 6.
-pub fn judge_file(wad: &[u8]) -> Check
+pub fn judge_file(wad: &[u8]) -> Result<(), Refusal>
     ensures { result ≡ file_check wad.now }
 {
-    if let Check::Refused(r) = judge_header(wad) {
-        return Check::Refused(r);
-    }
+    judge_header(wad)?;
     judge_entries(wad.len(), directory_of(wad), entry_count(wad))
 }
 
 // Judges header and directory, 1 to 6, and answers the count of lumps and the directory's start.
-pub fn judge_directory(wad: &[u8]) -> Directory
+pub fn judge_directory(wad: &[u8]) -> Result<Directory, Refusal>
     ensures { result ≡ directory_answer wad.now }
 {
-    if let Check::Refused(r) = judge_file(wad) {
-        return Directory::Refused(r);
-    }
+    judge_file(wad)?;
     let head = head_of(wad);
-    Directory::Listed {
+    Ok(Directory {
         count: count_of(head),
         start: start_of(head),
-    }
+    })
 }

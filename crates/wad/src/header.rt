@@ -3,7 +3,7 @@ ghost use Rattle.std.specs.Prelude.{◌≡◌, ◌<◌, ◌≤◌, length};
 ghost use Rattle.wad.specs.Header.{head_of, mark_ok, entry_count, entry_count_ok, start_of, bounds_ok, fields_check, file_header_check};
 
 use crate::parts::part;
-use refusal::{Check, Refusal};
+use refusal::Refusal;
 
 // The most bytes of a file, and so of a lump.
 pub const MOST_BYTES: usize = 16777216;
@@ -43,28 +43,21 @@ fn bounds_ok(len: usize, head: &[u8]) -> bool
     endian::between_at(head, 8, 12, len) & (start_of(head) + 16 * count_of(head) <= len)
 }
 
-fn judge_fields(len: usize, head: &[u8]) -> Check
+fn judge_fields(len: usize, head: &[u8]) -> Result<(), Refusal>
     requires { (length head.now ≡ 12) × (len ≤ 16777216) }
     ensures { result ≡ fields_check len head.now }
 {
-    refusal::then(
-        refusal::pass_if(mark_ok(head), Refusal::Mark),
-        refusal::then(
-            refusal::pass_if(endian::between_at(head, 4, 0, 4096), Refusal::LumpCount),
-            refusal::pass_if(bounds_ok(len, head), Refusal::DirectoryBounds),
-        ),
-    )
+    refusal::pass_if(mark_ok(head), Refusal::Mark)?;
+    refusal::pass_if(endian::between_at(head, 4, 0, 4096), Refusal::LumpCount)?;
+    refusal::pass_if(bounds_ok(len, head), Refusal::DirectoryBounds)
 }
 
 // 1 to 4. The length is judged before a byte is read.
-pub fn judge_header(wad: &[u8]) -> Check
+pub fn judge_header(wad: &[u8]) -> Result<(), Refusal>
     ensures { result ≡ file_header_check (length wad.now) (head_of wad.now) }
 {
-    if wad.len() < 12 {
-        return Check::Refused(Refusal::FileLength);
-    }
-    if MOST_BYTES < wad.len() {
-        return Check::Refused(Refusal::FileLength);
+    if !(12..=MOST_BYTES).contains(&wad.len()) {
+        return Err(Refusal::FileLength);
     }
     judge_fields(wad.len(), head_of(wad))
 }

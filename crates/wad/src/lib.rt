@@ -11,5 +11,5 @@ mod parts;
 pub use entries::{Directory, directory_of, entry_count, judge_directory, judge_file};
 pub use header::MOST_BYTES;
 pub use lumps::{Entry, entry_offset, entry_size, find_entry, lump_at};
-pub use map::{Marker, MarkerSearch, find_map, last_named, search_map};
+pub use map::{MarkerSearch, find_map, last_named, search_map};
 pub use parts::{part, part_if};

@@ -4,14 +4,13 @@ ghost use Rattle.wad.specs.Lump.{entry_size, entry_offset, lump_at, entry_answer
 
 use crate::entries::{directory_of, entry_count, judge_file};
 use crate::parts::part_if;
-use refusal::{Check, Refusal};
+use refusal::Refusal;
 
-// What is answered of an entry.
+// Where an entry's part of the file starts, and the part's size.
 #[derive(Clone, Copy)]
-pub enum Entry {
-    // where its part of the file starts, and the part's size
-    At { offset: usize, size: usize },
-    Refused(Refusal),
+pub struct Entry {
+    pub offset: usize,
+    pub size: usize,
 }
 
 pub fn entry_size(dir: &[u8], i: usize) -> usize
@@ -40,20 +39,16 @@ pub fn lump_at<'a>(wad: &'a [u8], dir: &[u8], i: usize) -> &'a [u8]
 }
 
 // Where an entry's part of the file lies, 1 to 7.
-pub fn find_entry(wad: &[u8], number: usize) -> Entry
+pub fn find_entry(wad: &[u8], number: usize) -> Result<Entry, Refusal>
     ensures { result ≡ entry_answer wad.now number }
 {
-    if let Check::Refused(r) = judge_file(wad) {
-        return Entry::Refused(r);
-    }
-    if entry_count(wad) <= number {
-        return Entry::Refused(Refusal::EntryNumber);
-    }
+    judge_file(wad)?;
+    refusal::pass_if(number < entry_count(wad), Refusal::EntryNumber)?;
     let dir = directory_of(wad);
-    Entry::At {
+    Ok(Entry {
         offset: entry_offset(dir, number),
         size: entry_size(dir, number),
-    }
+    })
 }
 
 // An entry's part of the file itself; an empty part where the entry is refused, or has size 0.
@@ -61,7 +56,7 @@ pub fn lump(wad: &[u8], number: usize) -> &[u8]
     ensures { result.now ≡ entry_lump wad.now number }
 {
     match find_entry(wad, number) {
-        Entry::At { offset, size } => part_if(wad, offset, size),
-        Entry::Refused(_) => &wad[0..0],
+        Ok(entry) => part_if(wad, entry.offset, entry.size),
+        Err(_) => &[],
     }
 }

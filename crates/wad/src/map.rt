@@ -1,24 +1,19 @@
 // The search for a map's marker by an asked name: refusals 10 and 11.
 ghost use Rattle.std.specs.Prelude.{◌≡◌, ◌*◌, ◌≤◌, length};
+ghost use Rattle.refusal.specs.declared.Refusal.TheVariants.{MapName};
+ghost use Rattle.refusal.specs.Checks.{unless, ◌and_then◌};
+ghost use Rattle.name.specs.Names.{map_name_ok};
+ghost use Rattle.wad.specs.Entries.{file_check};
 ghost use Rattle.wad.specs.Map.{find_marker, counted, marker_answer, search_answer};
-ghost use Rattle.wad.specs.declared.map.Marker.TheVariants.{Refused as NoMarker};
 
 use crate::entries::{directory_of, entry_count, judge_file};
 use crate::parts::part;
-use refusal::{Check, Refusal};
-
-// What is answered of a map's marker.
-#[derive(Clone, Copy)]
-pub enum Marker {
-    // its entry number
-    Entry(usize),
-    Refused(Refusal),
-}
+use refusal::Refusal;
 
 // What the search for it answers: the marker, and how many names were compared.
 #[derive(Clone, Copy)]
 pub struct MarkerSearch {
-    pub marker: Marker,
+    pub marker: Result<usize, Refusal>,
     pub compared: usize,
 }
 
@@ -27,21 +22,17 @@ pub fn last_named(dir: &[u8], count: usize, name: &[u8]) -> MarkerSearch
     requires { (16 * count ≤ length dir.now) × (length name.now ≡ 8) }
     ensures { result ≡ counted count (find_marker dir.now name.now count) }
 {
-    let mut left = count;
-    let mut compared = 0;
-    while 0 < left {
-        left -= 1;
-        compared += 1;
-        if name::same_name(part(dir, 16 * left + 8, 8), name) {
+    for i in (0..count).rev() {
+        if name::same_name(part(dir, 16 * i + 8, 8), name) {
             return MarkerSearch {
-                marker: Marker::Entry(left),
-                compared,
+                marker: Ok(i),
+                compared: count - i,
             };
         }
     }
     MarkerSearch {
-        marker: Marker::Refused(Refusal::EntryMissing),
-        compared,
+        marker: Err(Refusal::EntryMissing),
+        compared: count,
     }
 }
 
@@ -49,29 +40,26 @@ pub fn last_named(dir: &[u8], count: usize, name: &[u8]) -> MarkerSearch
 pub fn search_map(wad: &[u8], name: &[u8]) -> MarkerSearch
     ensures { result ≡ search_answer wad.now name.now }
 {
-    if let Check::Refused(r) = judge_file(wad) {
-        return not_searched(r);
+    match judge_name(wad, name) {
+        Ok(()) => last_named(directory_of(wad), entry_count(wad), name),
+        Err(r) => MarkerSearch {
+            marker: Err(r),
+            compared: 0,
+        },
     }
-    if name::map_name_ok(name) {
-        return last_named(directory_of(wad), entry_count(wad), name);
-    }
-    not_searched(Refusal::MapName)
 }
 
-// A refusal before any name is compared.
-fn not_searched(r: Refusal) -> MarkerSearch
-    ensures { result ≡ record { marker = NoMarker r; compared = 0 } }
+// The file, and the asked name: 1 to 6, then 10.
+fn judge_name(wad: &[u8], name: &[u8]) -> Result<(), Refusal>
+    ensures { result ≡ (file_check wad.now and_then unless (map_name_ok name.now) MapName) }
 {
-    MarkerSearch {
-        marker: Marker::Refused(r),
-        compared: 0,
-    }
+    judge_file(wad)?;
+    refusal::pass_if(name::map_name_ok(name), Refusal::MapName)
 }
 
 // The marker alone.
-pub fn find_map(wad: &[u8], name: &[u8]) -> Marker
+pub fn find_map(wad: &[u8], name: &[u8]) -> Result<usize, Refusal>
     ensures { result ≡ marker_answer wad.now name.now }
 {
-    let search = search_map(wad, name);
-    search.marker
+    search_map(wad, name).marker
 }

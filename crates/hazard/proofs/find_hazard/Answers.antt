@@ -3,7 +3,7 @@ use mathlib.Core.Path.{sym, ◌∙◌}
 use Rattle.hazard.proofs.Accepting.{accepting}
 use Rattle.hazard.proofs.find_hazard.Goals as goal
 
-pub hazard_at-requires : goal.hazard_at-requires
-hazard_at-requires c =
-    let m = c.in-Accepted in
-    accepting c.args.wad.now c.args.name.now c.args.words.now m.depth m.marker (sym c.judge_map.ensures.verdicts ∙ m.is)
+pub look_at-requires : goal.look_at-requires
+look_at-requires c =
+    let a = c.in_ok-accepted.accepted in
+    accepting c.args.wad.now c.args.name.now c.args.words.now a.depth a.marker (sym c.judge_map.ensures.verdicts ∙ c.in_ok-accepted.was)

@@ -1,5 +1,4 @@
--- `map_blockmap::ends_from` meets its contract: `well` says whether the words from `at` on end a list well. The measure is `at`.
--- Assumes nothing.
+-- `map_blockmap::ends_from` meets its contract: `well` says whether the words from `at` on end a list well. Assumes nothing.
 use Prim.Native.Nat.{ℕ, suc, ◌-◌}
 use mathlib.Core.Path.{◌≡◌, sym, ap, ◌∙◌}
 use native.Mathlib.Omega.{arith}

@@ -1,4 +1,4 @@
--- `map_blockmap::ends_from` meets its contract: `well` says whether the words from `at` on end a list well. The measure is `at`.
+-- `map_blockmap::ends_from` meets its contract: `well` says whether the words from `at` on end a list well.
 -- Assumes nothing.
 use Prim.Native.Nat.{◌-◌, ◌≤◌}
 use mathlib.Core.Path.{◌≡◌}
@@ -9,7 +9,3 @@ use Rattle.map_blockmap.proofs.ends_from.Given as goal
 abbrev pub invariant-loop-at : goal.invariant-loop-at
 invariant-loop-at l =
     (l.first ≤ l.at) × ((l.at ≤ word_count l.lump) × (l.well ≡ ends_well l.lump l.linedefs (word_count l.lump - l.at)))
-
-abbrev pub decreases-loop-at : goal.decreases-loop-at
-decreases-loop-at l =
-    l.at

@@ -1,4 +1,4 @@
--- `map_blockmap::note_below` meets its contract: the places from `at` to `top` are noted. The measure is `at`. Assumes nothing.
+-- `map_blockmap::note_below` meets its contract: the places from `at` to `top` are noted. Assumes nothing.
 use Prim.Native.Nat.{ℕ, suc, ◌-◌}
 use mathlib.Core.Path.{◌≡◌, sym, ap, ◌∙◌, subst}
 use native.Mathlib.Omega.{arith}
@@ -23,9 +23,6 @@ loop-at-preserved c =
       search rules,
       (
         simp length-set long,
-        (
-          ends,
-          noted_more lump c.args.linedefs (l.at - 1) c.args.top l.notes (omega arith) c.flag-in-loop-at.ensures ends rest,
-        ),
+        (ends, noted_more lump c.args.linedefs (l.at - 1) c.args.top l.notes (omega arith) ends rest),
       ),
     )

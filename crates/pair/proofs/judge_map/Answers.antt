@@ -11,11 +11,11 @@ judge_at-requires c =
     let s = c.search_map-search in
     let a = c.args in
     known_in a.base.now a.patch.now a.name.now (unless (map_name_ok a.name.now) MapName) s.result
-    c.file_of.result.now s.ensures c.in-Entry.is c.file_of.ensures
+    c.file_of.result.now s.ensures c.in-Ok.is c.file_of.ensures
 
-pub returns-in-Entry : goal.returns-in-Entry
-returns-in-Entry c =
+pub returns-in-Ok : goal.returns-in-Ok
+returns-in-Ok c =
     let s = c.search_map-search in
     let a = c.args in
     pair_judged a.base.now a.patch.now a.name.now s.result c.file_of.result.now a.words.now
-    s.ensures c.in-Entry.is c.file_of.ensures c.judge_at.ensures
+    s.ensures c.in-Ok.is c.file_of.ensures c.judge_at.ensures

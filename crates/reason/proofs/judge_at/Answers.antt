@@ -4,7 +4,7 @@ use mathlib.Core.List.{List}
 use mathlib.Core.Path.{◌≡◌, refl, sym, ◌∙◌, subst}
 use native.Mathlib.Omega.{arith}
 use lib.ListN.{length}
-use Rattle.refusal.specs.declared.Check.TheVariants.{Pass}
+use Rattle.std.specs.Prelude.{Ok}
 use Rattle.wad.specs.Header.{head_of, entry_count}
 use Rattle.wad.proofs.Listing.{file-header, file_sound}
 use Rattle.map_lumps.specs.Lumps.{map_lumps}
@@ -31,7 +31,7 @@ below' c =
 
 -- it passes
 passes : (c : In_default)
-    → check_at c.args.wad.now c.args.marker (length c.args.words.now) ≡ Pass
+    → check_at c.args.wad.now c.args.marker (length c.args.words.now) ≡ Ok tt
 passes c = sym (below' c) ∙ c.in_default.is
 
 -- the NODES lump is that of the map
@@ -48,18 +48,18 @@ tell_refusal-requires c =
       marked = omega (arith, c.entry_count-count.ensures, c.requires.1);
       small = sound.high;
       lent = length c.args.words.now;
-      refused = sym c.judge_below.ensures ∙ c.in-Refused.is;
+      refused = sym c.judge_below.ensures ∙ c.in-Err.is;
     }
 
-pub returns-in-Refused : goal.returns-in-Refused
-returns-in-Refused c =
+pub returns-in-Err : goal.returns-in-Err
+returns-in-Err c =
     told-refused c.args.wad.now c.args.marker c.args.words.now c.args.out.now
-    (sym (below (goal.at.returns-in-Refused c).After-judge_below) ∙ c.in-Refused.is)
+    (sym (below (goal.at.returns-in-Err c).After-judge_below) ∙ c.in-Err.is)
     (subst
-    (λ (d : List ℕ). RefusalTold (game_at d (entry_count (head_of c.args.wad.now)) c.args.marker) (map_lumps c.args.wad.now d c.args.marker) c.in-Refused.r c.args.out.now c.tell_refusal.result c.tell_refusal.new.out)
+    (λ (d : List ℕ). RefusalTold (game_at d (entry_count (head_of c.args.wad.now)) c.args.marker) (map_lumps c.args.wad.now d c.args.marker) c.in-Err.r c.args.out.now c.tell_refusal.result c.tell_refusal.new.out)
     c.directory_of-dir.ensures.result_value
     (subst
-    (λ (n : ℕ). RefusalTold (game_at c.directory_of-dir.result.now n c.args.marker) (map_lumps c.args.wad.now c.directory_of-dir.result.now c.args.marker) c.in-Refused.r c.args.out.now c.tell_refusal.result c.tell_refusal.new.out)
+    (λ (n : ℕ). RefusalTold (game_at c.directory_of-dir.result.now n c.args.marker) (map_lumps c.args.wad.now c.directory_of-dir.result.now c.args.marker) c.in-Err.r c.args.out.now c.tell_refusal.result c.tell_refusal.new.out)
     c.entry_count-count.ensures
     c.tell_refusal.ensures))
 

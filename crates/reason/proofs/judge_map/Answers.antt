@@ -5,4 +5,4 @@ use Rattle.reason.proofs.judge_map.Goals as goal
 
 pub judge_at-requires : goal.judge_at-requires
 judge_at-requires c =
-    marker_known c.args.wad.now c.args.name.now (sym c.find_map.ensures ∙ c.in-Entry.is)
+    marker_known c.args.wad.now c.args.name.now (sym c.find_map.ensures ∙ c.in-Ok.is)

@@ -9,7 +9,7 @@ use Rattle.record_linedef.specs.Linedefs.{linedef_size}
 use Rattle.reason_blockmap.specs.Fields.{blockmap_fields}
 use Rattle.record_table.specs.Lumps.{LINEDEFS}
 use Rattle.map_lumps.specs.Lumps.{map_lumps, record_count}
-use Rattle.reason_field.proofs.Counting.{linedefs_counted}
+use Rattle.reason_field.proofs.Counting.{linedefs_counted, told}
 use Rattle.reason_field.proofs.of_blockmap.Goals as goal
 
 pub returns : goal.returns
@@ -18,8 +18,9 @@ returns c =
     let lump = c.map_lump.ensures in
     let many : c.record_count.result ≡ record_count lumps LINEDEFS (linedef_size c.args.hexen) =
     c.record_count.ensures ∙ ap (record_count lumps LINEDEFS) c.size.ensures in
-    let few = linedefs_counted c.args.hexen lumps c.requires.counts.counts in (
-      c.offending.ensures.0 ∙ (λ j. first_out (blockmap_fields (lump j) (many j) c.args.i)),
-      c.offending.ensures.1 (subst⁻¹ (λ (l : List ℕ). length l ≤ 16777216) lump c.requires.marker_len_bound)
-          (subst⁻¹ (λ (n : ℕ). n ≤ 65536) many (omega (arith, few.1))),
-    )
+    let few = linedefs_counted c.args.hexen lumps c.requires.counts.counts in
+    let check = c.offending.ensures in
+    let t =
+    told (blockmap_fields c.map_lump.result.now c.record_count.result c.args.i) c.named.ensures check.first
+    (check.fits (subst⁻¹ (λ (l : List ℕ). length l ≤ 16777216) lump c.requires.marker_len_bound) (subst⁻¹ (λ (n : ℕ). n ≤ 65536) many (omega (arith, few.1)))) in
+    (t.0 ∙ (λ j. first_out (blockmap_fields (lump j) (many j) c.args.i)), t.1)

@@ -2,13 +2,25 @@
 use Rattle.map_lumps.specs.Lumps.{map_lumps}
 use Rattle.reason_field.proofs.Counting.{vertices_counted, sidedefs_counted}
 use borrow.Author.Rules.{rules}
+use mathlib.Core.Path.{◌∙◌}
+use Rattle.reason_range.specs.Fields.{first_out}
+use Rattle.record_field.specs.Records.{record_bytes}
+use Rattle.record_linedef.specs.Linedefs.{linedef_size}
+use Rattle.reason_record.specs.RecordFields.{linedef_fields}
+use Rattle.reason_field.proofs.Counting.{told}
 use Rattle.reason_field.proofs.of_linedef.Goals as goal
 
-pub linedef_field-requires : goal.linedef_field-requires
-linedef_field-requires c =
+pub check_linedef-requires : goal.check_linedef-requires
+check_linedef-requires c =
     let lumps = map_lumps c.args.wad.now c.args.dir.now c.args.marker in
     rw (c.record_count-2.ensures, c.record_count.ensures, c.map_lump.ensures) (
       search rules,
       vertices_counted c.args.hexen lumps c.requires.counts.counts,
       sidedefs_counted c.args.hexen lumps c.requires.counts.counts,
     )
+
+pub returns : goal.returns
+returns c =
+    let check = c.check_linedef.ensures in
+    let t = told (linedef_fields c.args.hexen (record_bytes c.map_lump.result.now (linedef_size c.args.hexen) c.args.i) c.record_count.result c.record_count-2.result) c.named.ensures check.first check.fits in
+    (t.0 ∙ (λ j. first_out (linedef_fields c.args.hexen (record_bytes (c.map_lump.ensures j) (linedef_size c.args.hexen) c.args.i) (c.record_count.ensures j) (c.record_count-2.ensures j))), t.1)

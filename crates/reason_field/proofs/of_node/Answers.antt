@@ -2,13 +2,26 @@
 use Rattle.map_lumps.specs.Lumps.{map_lumps}
 use Rattle.reason_field.proofs.Counting.{nodes_few, subsectors-counted}
 use borrow.Author.Rules.{rules}
+use mathlib.Core.Path.{◌∙◌}
+use Rattle.reason_range.specs.Fields.{first_out}
+use Rattle.record_field.specs.Records.{record_bytes}
+use Rattle.record.specs.Nodes.{node_size}
+use Rattle.node.specs.Nodes.{nodes_of}
+use Rattle.reason_record.specs.RecordFields.{node_fields}
+use Rattle.reason_field.proofs.Counting.{told}
 use Rattle.reason_field.proofs.of_node.Goals as goal
 
-pub node_field-requires : goal.node_field-requires
-node_field-requires c =
+pub check_node-requires : goal.check_node-requires
+check_node-requires c =
     let lumps = map_lumps c.args.wad.now c.args.dir.now c.args.marker in
     rw (c.record_count.ensures, c.map_lump.ensures) (
       search rules,
       nodes_few c.args.hexen lumps c.requires.counts.counts,
       subsectors-counted c.args.hexen lumps c.requires.counts.counts,
     )
+
+pub returns : goal.returns
+returns c =
+    let check = c.check_node.ensures in
+    let t = told (node_fields (record_bytes c.map_lump.result.now node_size c.args.i) (nodes_of c.map_lump.result.now) c.record_count.result) c.named.ensures check.first check.fits in
+    (t.0 ∙ (λ j. first_out (node_fields (record_bytes (c.map_lump.ensures j) node_size c.args.i) (nodes_of (c.map_lump.ensures j)) (c.record_count.ensures j))), t.1)

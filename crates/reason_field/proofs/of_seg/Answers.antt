@@ -2,13 +2,25 @@
 use Rattle.map_lumps.specs.Lumps.{map_lumps}
 use Rattle.reason_field.proofs.Counting.{vertices_counted, linedefs_counted}
 use borrow.Author.Rules.{rules}
+use mathlib.Core.Path.{◌∙◌}
+use Rattle.reason_range.specs.Fields.{first_out}
+use Rattle.record_field.specs.Records.{record_bytes}
+use Rattle.record.specs.Segs.{seg_size}
+use Rattle.reason_record.specs.RecordFields.{seg_fields}
+use Rattle.reason_field.proofs.Counting.{told}
 use Rattle.reason_field.proofs.of_seg.Goals as goal
 
-pub seg_field-requires : goal.seg_field-requires
-seg_field-requires c =
+pub check_seg-requires : goal.check_seg-requires
+check_seg-requires c =
     let lumps = map_lumps c.args.wad.now c.args.dir.now c.args.marker in
     rw (c.record_count.ensures, c.map_lump-2.ensures, c.map_lump.ensures) (
       search rules,
       vertices_counted c.args.hexen lumps c.requires.counts.counts,
       linedefs_counted c.args.hexen lumps c.requires.counts.counts,
     )
+
+pub returns : goal.returns
+returns c =
+    let check = c.check_seg.ensures in
+    let t = told (seg_fields c.args.hexen c.map_lump-2.result.now (record_bytes c.map_lump.result.now seg_size c.args.i) c.record_count.result) c.named.ensures check.first check.fits in
+    (t.0 ∙ (λ j. first_out (seg_fields c.args.hexen (c.map_lump-2.ensures j) (record_bytes (c.map_lump.ensures j) seg_size c.args.i) (c.record_count.ensures j))), t.1)

@@ -2,12 +2,24 @@
 use Rattle.map_lumps.specs.Lumps.{map_lumps}
 use Rattle.reason_field.proofs.Counting.{sectors_counted}
 use borrow.Author.Rules.{rules}
+use mathlib.Core.Path.{◌∙◌}
+use Rattle.reason_range.specs.Fields.{first_out}
+use Rattle.record_field.specs.Records.{record_bytes}
+use Rattle.record.specs.Sidedefs.{sidedef_size}
+use Rattle.reason_record.specs.RecordFields.{sidedef_fields}
+use Rattle.reason_field.proofs.Counting.{told}
 use Rattle.reason_field.proofs.of_sidedef.Goals as goal
 
-pub sidedef_field-requires : goal.sidedef_field-requires
-sidedef_field-requires c =
+pub check_sidedef-requires : goal.check_sidedef-requires
+check_sidedef-requires c =
     let lumps = map_lumps c.args.wad.now c.args.dir.now c.args.marker in
     rw (c.record_count.ensures, c.map_lump.ensures) (
       search rules,
       sectors_counted c.args.hexen lumps c.requires.counts.counts,
     )
+
+pub returns : goal.returns
+returns c =
+    let check = c.check_sidedef.ensures in
+    let t = told (sidedef_fields (record_bytes c.map_lump.result.now sidedef_size c.args.i) c.record_count.result) c.named.ensures check.first check.fits in
+    (t.0 ∙ (λ j. first_out (sidedef_fields (record_bytes (c.map_lump.ensures j) sidedef_size c.args.i) (c.record_count.ensures j))), t.1)

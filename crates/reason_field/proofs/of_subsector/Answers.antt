@@ -2,12 +2,24 @@
 use Rattle.map_lumps.specs.Lumps.{map_lumps}
 use Rattle.reason_field.proofs.Counting.{segs_counted}
 use borrow.Author.Rules.{rules}
+use mathlib.Core.Path.{◌∙◌}
+use Rattle.reason_range.specs.Fields.{first_out}
+use Rattle.record_field.specs.Records.{record_bytes}
+use Rattle.record.specs.Subsectors.{subsector_size}
+use Rattle.reason_record.specs.RecordFields.{subsector_fields}
+use Rattle.reason_field.proofs.Counting.{told}
 use Rattle.reason_field.proofs.of_subsector.Goals as goal
 
-pub subsector_field-requires : goal.subsector_field-requires
-subsector_field-requires c =
+pub check_subsector-requires : goal.check_subsector-requires
+check_subsector-requires c =
     let lumps = map_lumps c.args.wad.now c.args.dir.now c.args.marker in
     rw (c.record_count.ensures, c.map_lump.ensures) (
       search rules,
       segs_counted c.args.hexen lumps c.requires.counts.counts,
     )
+
+pub returns : goal.returns
+returns c =
+    let check = c.check_subsector.ensures in
+    let t = told (subsector_fields (record_bytes c.map_lump.result.now subsector_size c.args.i) c.record_count.result) c.named.ensures check.first check.fits in
+    (t.0 ∙ (λ j. first_out (subsector_fields (record_bytes (c.map_lump.ensures j) subsector_size c.args.i) (c.record_count.ensures j))), t.1)

@@ -5,4 +5,4 @@ use Rattle.renumber.proofs.renumber.Goals as goal
 
 pub renumber_at-requires : goal.renumber_at-requires
 renumber_at-requires c =
-    marker_known c.args.wad.now c.args.name.now (sym c.find_map.ensures ∙ c.in-Entry.is)
+    marker_known c.args.wad.now c.args.name.now (sym c.find_map.ensures ∙ c.in_ok-marker.was)

@@ -1,18 +1,24 @@
 -- `renumber::renumber_at` meets its contract: a check below 31 refuses, or the node graph and the list answer. Assumes nothing.
 use Prim.Native.Nat.{ℕ, ◌*◌}
 use mathlib.Core.List.{List}
-use mathlib.Core.Path.{◌≡◌, refl, sym, ap, ◌∙◌, subst}
+use mathlib.Core.Path.{◌≡◌, refl, sym, ap, ◌∙◌, subst, subst⁻¹}
 use native.Mathlib.Omega.{arith}
 use lib.ListN.{length}
-use Rattle.refusal.specs.declared.Check.TheVariants.{Pass}
+use Rattle.std.specs.Prelude.{Result, Ok, Err}
+use Rattle.refusal.specs.declared.Refusal.{Refusal}
+use Rattle.std.specs.Result.{IsErr, IsErrAnd}
 use Rattle.node.specs.Nodes.{nodes_of}
 use Rattle.node_graph.specs.Judging.{cleared}
 use Rattle.map_check.specs.Verdict.{check_at, nodes_at}
 use Rattle.map_check.proofs.Passing.{check-same, nodes_same, long_at, judgeable_at}
-use Rattle.renumber.specs.Inner.{NodesRenumbered}
+use Rattle.renumber.specs.Inner.{RenumbersAt, NodesRenumbered}
 use Rattle.renumber.proofs.Verdicts.{at_refused, at_nodes}
 use Rattle.renumber.proofs.renumber_at.Goals as goal
-use Rattle.renumber.proofs.renumber_at.Goals.{After-judge_below, In_default, After-map_lump}
+use Rattle.renumber.proofs.renumber_at.Goals.{After-from_residual, After-judge_below, In_ok-judge_below, After-map_lump}
+
+is_err : (x : Result ℕ Refusal) (f : Refusal) → IsErr x → IsErrAnd x (λ r. r ≡ f) → x ≡ Err f
+is_err (Ok n) f h k = cc
+is_err (Err r) f h k = ap Err k
 
 -- the check below 31 is that of the file's own directory
 below : (c : After-judge_below)
@@ -21,16 +27,16 @@ below c =
     c.judge_below.ensures
     ∙ check-same c.args.wad.now c.args.marker _ c.directory_of-dir.ensures.result_value c.entry_count-count.ensures
 
-below' : (c : In_default)
+below' : (c : In_ok-judge_below)
     → c.judge_below.result ≡ check_at c.args.wad.now c.args.marker (length c.args.words.now)
 below' c =
     c.judge_below.ensures
     ∙ check-same c.args.wad.now c.args.marker _ c.directory_of-dir.ensures.result_value c.entry_count-count.ensures
 
 -- it passes
-passes : (c : In_default)
-    → check_at c.args.wad.now c.args.marker (length c.args.words.now) ≡ Pass
-passes c = sym (below' c) ∙ c.in_default.is
+passes : (c : In_ok-judge_below)
+    → check_at c.args.wad.now c.args.marker (length c.args.words.now) ≡ Ok tt
+passes c = sym (below' c) ∙ c.in_ok-judge_below.was
 
 -- the NODES lump is that of the map
 nodes : (c : After-map_lump)
@@ -38,21 +44,28 @@ nodes : (c : After-map_lump)
 nodes c =
     nodes_same c.args.wad.now c.args.marker c.directory_of-dir.ensures.result_value c.map_lump.ensures
 
-pub returns-in-Refused : goal.returns-in-Refused
-returns-in-Refused c =
-    at_refused c.args.wad.now c.args.marker c.args.order.now c.args.out.now c.args.words.now (sym (below (goal.at.returns-in-Refused c).After-judge_below) ∙ c.in-Refused.is)
+-- the refusal is handed on
+handed_on : (c : After-from_residual) → c.from_residual.result ≡ Err c.in_err-judge_below.field-0.0
+handed_on c = is_err c.from_residual.result c.in_err-judge_below.field-0.0 c.from_residual.ensures.0 c.from_residual.ensures.1
+
+pub returns-in_err-judge_below : goal.returns-in_err-judge_below
+returns-in_err-judge_below c =
+    let a = c.args in
+    let e = handed_on (goal.at.returns-in_err-judge_below c).After-from_residual in
+    subst⁻¹ (λ (x : Result ℕ Refusal). RenumbersAt a.wad.now a.marker a.words.now a.order.now a.out.now x a.words.now a.out.now) e
+    (at_refused a.wad.now a.marker a.order.now a.out.now a.words.now (sym (below (goal.at.returns-in_err-judge_below c).After-judge_below) ∙ c.in_err-judge_below.was))
 
 pub map_lump-requires : goal.map_lump-requires
 map_lump-requires c =
-    let long = long_at c.args.wad.now c.args.marker _ (passes (goal.at.map_lump-requires c).In_default) in
+    let long = long_at c.args.wad.now c.args.marker _ (passes (goal.at.map_lump-requires c).In_ok-judge_below) in
     (omega (arith, c.directory_of-dir.ensures.result_len), omega arith, omega arith)
 
 pub renumber_nodes-requires : goal.renumber_nodes-requires
 renumber_nodes-requires c =
-    judgeable_at c.args.wad.now c.args.marker _ (passes (goal.at.renumber_nodes-requires c).In_default) (nodes (goal.at.renumber_nodes-requires c).After-map_lump) c.args.words.now refl
+    judgeable_at c.args.wad.now c.args.marker _ (passes (goal.at.renumber_nodes-requires c).In_ok-judge_below) (nodes (goal.at.renumber_nodes-requires c).After-map_lump) c.args.words.now refl
 
 pub returns : goal.returns
 returns c =
-    at_nodes c.args.wad.now c.args.marker c.args.order.now c.args.out.now c.args.words.now (passes (goal.at.returns c).In_default)
+    at_nodes c.args.wad.now c.args.marker c.args.order.now c.args.out.now c.args.words.now (passes (goal.at.returns c).In_ok-judge_below)
     (subst (λ (l : List ℕ). NodesRenumbered l c.args.order.now c.args.out.now c.renumber_nodes.result c.renumber_nodes.new.out) (nodes (goal.at.returns c).After-map_lump) c.renumber_nodes.ensures.nodes_renumbered)
     (c.renumber_nodes.ensures.words_after ∙ ap (λ (l : List ℕ). cleared c.args.words.now (4 * nodes_of l)) (nodes (goal.at.returns c).After-map_lump))

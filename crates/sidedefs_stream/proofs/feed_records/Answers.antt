@@ -15,15 +15,11 @@ pub returns : goal.returns
 returns c =
     let a = c.args in
     let scrap = a.scrap.now in
-    let n = c.least-n.result in
-    let whole : n - 0 ≡ n = omega arith in
-    let answer : c.feed_part.result ≡ fed a.state (take n scrap) =
-    c.feed_part.ensures.0 ∙ ap (λ (k : ℕ). fed a.state (take k scrap)) whole in
+    let n = c.min-n.result in
+    let answer = c.feed_part.ensures.0 in
     let total : c.feed_part.result.bytes ≡ a.state.bytes + n =
-    c.feed_part.ensures.1
-    ∙ ap (λ (k : ℕ). a.state.bytes + length (take k scrap)) whole
-    ∙ ap (λ (k : ℕ). a.state.bytes + k) (length-take-le n scrap (search rules)) in
-    let full : n < length scrap → most_bytes < c.feed_part.result.bytes =
-    λ h. omega (arith, total, c.least-n.ensures.2 h) in
+    c.feed_part.ensures.1 ∙ ap (λ (k : ℕ). a.state.bytes + k) (length-take-le n scrap (search rules)) in
+    let least = c.min-n.ensures in
+    let full : n < length scrap → most_bytes < c.feed_part.result.bytes = λ h. omega (arith, total, least, h) in
     answer
     ∙ fed-cut a.state scrap n (λ h. subst (λ (s : Stream). most_bytes < s.bytes) answer (full h))

@@ -1,15 +1,10 @@
--- `text_gap::byte_end` meets its contract: from `at` on the first byte of the value is that from `from` on. The measure is what is left. Assumes nothing.
-use mathlib.Core.Bool.{not}
-use mathlib.Core.Path.{refl, sym, ap, ◌∙◌}
-use borrow.Author.Tests.{eq-eqb, ne_eqb}
-use Rattle.text_byte.proofs.Spans.{span_more, span_stop, span_done}
+-- `text_gap::byte_end` meets its contract: the first byte of the value in the rest of the text, or none. Assumes nothing.
+use Rattle.memchr.specs.Find.{is_byte}
+use Rattle.text_gap.proofs.Found.{found, missed}
 use Rattle.text_gap.proofs.byte_end.Goals as goal
 
-pub returns-then-text-at : goal.returns-then-text-at
-returns-then-text-at c = sym (c.loop-at.invariant ∙ span_stop _ _ _ c.loop-at-test.true refl (ap not (eq-eqb _ _ c.if-text-at.true)))
+pub returns-in-Some : goal.returns-in-Some
+returns-in-Some c = found (is_byte c.args.b) c.args.text.now c.args.from c.requires c.in-Some.ensures.0 c.in-Some.ensures.1
 
-pub loop-at-preserved : goal.loop-at-preserved
-loop-at-preserved c = c.loop-at.invariant ∙ span_more _ _ _ c.loop-at-test.true refl (ap not (ne_eqb _ _ c.if-text-at.false))
-
-pub returns : goal.returns
-returns c = sym (c.loop-at.invariant ∙ span_done _ _ _ c.loop-at-test.false)
+pub returns-in-None : goal.returns-in-None
+returns-in-None c = missed (is_byte c.args.b) c.args.text.now c.args.from c.requires c.in-None.ensures

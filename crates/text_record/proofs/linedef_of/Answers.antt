@@ -2,17 +2,18 @@
 use mir.Syntax.{w32}
 use mir.ValLaws.{to_z-of_z}
 use Rattle.text_record.proofs.Whole.{whole_by}
-use Rattle.text_table.specs.Table.{linedef_fields}
-use Rattle.text_table.specs.Rows.{default_at}
-use Rattle.text_table.specs.Names.{every, name_in}
+use Rattle.text_table.specs.Table.{linedef_fields, default_of}
+use mathlib.Core.List.{map}
+use Rattle.text_table.specs.Rows.{row_of}
+use Rattle.text_table.specs.Names.{every}
 use Rattle.text_record.proofs.linedef_of.Goals as goal
 
 pub returns : goal.returns
-unfolding linedef_fields name_in every
+unfolding linedef_fields every
 returns c =
     let text = c.args.text.now in
     let places = c.args.places.now in
-    let defaults = default_at c.args.rows.now in
+    let defaults = default_of (map row_of c.args.fields.now) in
     let id = to_z-of_z w32 c.args.id c.ranges.id in
     λ i. record {
       id = whole_by text places defaults 0 c.whole_field.type_inv c.whole_field.ensures id i;

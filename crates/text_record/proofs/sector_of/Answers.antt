@@ -1,11 +1,11 @@
 -- `text_record::sector_of` meets its contract: field by field, each as what it holds. Assumes nothing.
 use Rattle.text_record.proofs.Whole.{whole}
 use Rattle.text_table.specs.Table.{sector_fields}
-use Rattle.text_table.specs.Names.{every, name_in}
+use Rattle.text_table.specs.Names.{every}
 use Rattle.text_record.proofs.sector_of.Goals as goal
 
 pub returns : goal.returns
-unfolding sector_fields name_in every
+unfolding sector_fields every
 returns c =
     λ i. record {
       heightfloor = whole c.whole_field.type_inv c.whole_field.ensures i;

@@ -1,11 +1,11 @@
 -- `text_record::sidedef_of` meets its contract: field by field, each as what it holds. Assumes nothing.
 use Rattle.text_record.proofs.Whole.{whole}
 use Rattle.text_table.specs.Table.{sidedef_fields}
-use Rattle.text_table.specs.Names.{every, name_in}
+use Rattle.text_table.specs.Names.{every}
 use Rattle.text_record.proofs.sidedef_of.Goals as goal
 
 pub returns : goal.returns
-unfolding sidedef_fields name_in every
+unfolding sidedef_fields every
 returns c =
     λ i. record {
       offsetx = whole c.whole_field.type_inv c.whole_field.ensures i;

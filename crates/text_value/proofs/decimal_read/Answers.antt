@@ -5,7 +5,7 @@ use Prim.Native.Nat.{ℕ, ◌+◌, ◌-◌, ◌≤◌, min}
 use lib.Ieee.{Float}
 use lib.ListN.{length}
 use Rattle.text_value.specs.declared.Value.TheVariants.{Decimal}
-use Rattle.text_value.specs.declared.Reading.TheVariants.{Good}
+use Rattle.std.specs.Prelude.{Ok}
 use Rattle.text_value.specs.Numbers.{digits_from, quotient}
 use Rattle.text_value.proofs.Numbers.{cap, fits-true, fifteen_capped}
 use borrow.Author.Tests.{eq-eqb}
@@ -23,4 +23,4 @@ returns-then-end-at c =
     fifteen_capped word a.at next (a.point - a.at) (length word - next) few c.requires.1.1
     (c.digits_at-d.ensures.1 ∙ ap (λ (k : ℕ). min (digits_from word 10 a.before next (k - next)) cap) all) in
     simp (eq-eqb _ _ (sym c.digits_at-d.ensures.0 ∙ all), c.if-end-at.true)
-    (ap (λ (x : Float). Good (Decimal x)) (c.quotient.ensures ∙ ap (λ (n : ℕ). quotient a.minus n (length word - next)) digits))
+    (ap (λ (x : Float). Ok (Decimal x)) (c.quotient-quotient.ensures ∙ ap (λ (n : ℕ). quotient a.minus n (length word - next)) digits))

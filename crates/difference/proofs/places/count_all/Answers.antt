@@ -1,32 +1,34 @@
 -- `difference::places::count_all` meets its contract: the counts of the places before `i` are stored. Assumes nothing.
-use Prim.Native.Nat.{ℕ, ◌+◌}
-use mathlib.Core.List.{[], ◌∷◌}
-use mathlib.Core.Path.{◌≡◌, sym, ap, ◌∙◌}
-use borrow.Author.Rules.{rules}
-use lib.ListN.{length, set, replicate}
+use Rattle.std.proofs.Common.{rules, ℕ, ◌+◌, List, [], ◌∷◌, ◌≡◌, sym, ap, ◌∙◌, length, replicate}
+use lib.ListN.{set}
 use lib.Seq.{sets}
 use Rattle.layout.proofs.LaidOut.{laid_none}
-use Rattle.difference.specs.Differences.{lumps_in, changes_at}
+use Rattle.difference.specs.declared.places.Map.{Map}
+use Rattle.difference.specs.Records.{changes}
+use Rattle.difference.specs.Differences.{game_in, lumps_in, changes_at}
 use Rattle.difference.proofs.Lumps.{row, row_more, row_eight}
 use Rattle.difference.proofs.places.count_all.Goals as goal
 
+-- how many are listed of place `i + 1`
+many : Map → Map → ℕ → ℕ
+many old new i = length (changes_at (game_in old.wad.now old.marker) (lumps_in old.wad.now old.marker) (lumps_in new.wad.now new.marker) (i + 1))
+
 pub loop-i-init : goal.loop-i-init
-loop-i-init c =
-    let a = c.args in
-    let g : ℕ → ℕ = λ i. length (changes_at a.hexen (lumps_in a.old_wad.now a.old) (lumps_in a.new_wad.now a.new) (i + 1)) in
-    (search rules, ap (sets (replicate 8 0) 0) (sym (laid_none (λ i. g i ∷ []))))
+unfolding many
+loop-i-init c = ap (sets (replicate 8 0) 0) (sym (laid_none (λ i. many c.args.old.now c.args.new.now i ∷ [])))
 
 pub loop-i-preserved : goal.loop-i-preserved
+unfolding many
 loop-i-preserved c =
-    let a = c.args in
     let l = c.loop-i in
-    let g : ℕ → ℕ = λ i. length (changes_at a.hexen (lumps_in a.old_wad.now a.old) (lumps_in a.new_wad.now a.new) (i + 1)) in
-    (search rules, (λ i. set (l.invariant.1 i) l.i (c.count_place.ensures i)) ∙ row_more g (replicate 8 0) l.i)
+    let v = c.versions.ensures in
+    let here = c.count_changes.ensures ∙ (λ i. length (changes (v.size i) (v.old i) (v.new i))) in
+    (λ i. set (l.invariant i) l.i (here i)) ∙ row_more (many c.args.old.now c.args.new.now) (replicate 8 0) l.i
 
 pub returns : goal.returns
+unfolding many
 returns c =
-    let a = c.args in
     let l = c.loop-i in
-    let g : ℕ → ℕ = λ i. length (changes_at a.hexen (lumps_in a.old_wad.now a.old) (lumps_in a.new_wad.now a.new) (i + 1)) in
+    let g = many c.args.old.now c.args.new.now in
     let e : l.i ≡ 8 = search rules in
-    l.invariant.1 ∙ ap (λ (n : ℕ). sets (replicate 8 0) 0 (row g n)) e ∙ row_eight g
+    l.invariant ∙ ap (λ (n : ℕ). sets (replicate 8 0) 0 (row g n)) e ∙ row_eight g

@@ -1,5 +1,5 @@
 -- `hazard::lists::note_long` meets its contract: the offsets from `at` on are noted, and `named` is how many linedefs are named from
--- there on. The measure is `at`. Assumes nothing.
+-- there on. Assumes nothing.
 use Prim.Native.Nat.{ℕ, ◌+◌, ◌-◌}
 use mathlib.Core.Path.{◌≡◌, refl, sym, ap, ◌∙◌, subst}
 use native.Mathlib.Omega.{arith}

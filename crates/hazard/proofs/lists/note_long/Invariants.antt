@@ -1,5 +1,5 @@
 -- `hazard::lists::note_long` meets its contract: the offsets from `at` on are noted, and `named` is how many linedefs are named from
--- there on. The measure is `at`. Assumes nothing.
+-- there on. Assumes nothing.
 use Prim.Native.Nat.{◌≤◌}
 use mathlib.Core.Path.{◌≡◌}
 use lib.ListN.{length}
@@ -11,7 +11,3 @@ use Rattle.hazard.proofs.lists.note_long.Given as goal
 abbrev pub invariant-loop-at : goal.invariant-loop-at
 invariant-loop-at l =
     (l.at ≤ word_count l.lump) × ((length l.notes ≡ length l.initial.notes) × ((l.named ≡ named_from l.lump l.at) × LongNoted l.lump l.linedefs l.at l.notes))
-
-abbrev pub decreases-loop-at : goal.decreases-loop-at
-decreases-loop-at l =
-    l.at

@@ -1,14 +1,25 @@
 -- `hazard::numbers::high_subsectors` meets its contract: the records before `i` are low. Assumes nothing.
-use mathlib.Core.Path.{refl}
+use mathlib.Core.Bool.{Bool}
+use mathlib.Core.Path.{ap, ◌∙◌}
 use borrow.Author.Rules.{rules}
-use Rattle.hazard.proofs.Findings.{scanned_none, tested_more, tested_stop}
+use Rattle.record_table.specs.Lumps.{SSECTORS}
+use Rattle.hazard.specs.declared.Hazard.TheVariants.{HighNumber}
+use Rattle.hazard.specs.Findings.{found_unless}
+use Rattle.hazard.proofs.Findings.{scanned_none, scanned_passed, scanned_found}
 use Rattle.hazard.proofs.numbers.high_subsectors.Goals as goal
 
 pub loop-i-init : goal.loop-i-init
 loop-i-init c = scanned_none
 
-pub returns-then-not-subsector_low : goal.returns-then-not-subsector_low
-returns-then-not-subsector_low c = tested_stop c.loop-i.invariant (search rules) c.subsector_low.ensures c.if-not-subsector_low.true refl
+pub returns-in_err-found_unless : goal.returns-in_err-found_unless
+returns-in_err-found_unless c =
+    search (
+      rules,
+      scanned_found c.loop-i.invariant (search rules)
+          (c.in_err-found_unless.ensures ∙ ap (λ (ok : Bool). found_unless ok (HighNumber SSECTORS c.loop-i.i)) c.subsector_low.ensures),
+    )
 
 pub loop-i-preserved : goal.loop-i-preserved
-loop-i-preserved c = tested_more c.loop-i.invariant _ (search rules) c.subsector_low.ensures c.if-not-subsector_low.false refl
+loop-i-preserved c =
+    scanned_passed c.loop-i.invariant (search rules)
+    (c.in_ok-found_unless.ensures ∙ ap (λ (ok : Bool). found_unless ok (HighNumber SSECTORS c.loop-i.i)) c.subsector_low.ensures)

@@ -1,5 +1,5 @@
--- `map_lumps::run::judge_places` meets its contract: the places up to `i` pass. The measure is what is left of the ten. Assumes nothing.
-use Prim.Native.Nat.{◌+◌, ◌-◌}
+-- `map_lumps::run::judge_places` meets its contract: the places up to `i` pass. Assumes nothing.
+use Prim.Native.Nat.{◌+◌}
 use Rattle.refusal.proofs.Scans.{Scanned}
 use Rattle.map_lumps.specs.Run.{place_check}
 use Rattle.map_lumps.proofs.run.judge_places.Given as goal
@@ -7,7 +7,3 @@ use Rattle.map_lumps.proofs.run.judge_places.Given as goal
 abbrev pub invariant-loop-i : goal.invariant-loop-i
 invariant-loop-i l =
     Scanned (λ j. place_check l.dir l.count l.marker (j + 1)) 10 10 l.i
-
-abbrev pub decreases-loop-i : goal.decreases-loop-i
-decreases-loop-i l =
-    10 - l.i

@@ -1,19 +1,16 @@
--- `map_lumps::size::judge_sizes` meets its contract: the places up to `i` pass. The measure is what is left of the eight.
+-- `map_lumps::size::judge_sizes` meets its contract: the places up to `i` pass.
 -- Assumes nothing.
 use borrow.Author.Rules.{rules}
-use Rattle.refusal.proofs.Scans.{scanned_none, scanned_more, scanned_stop, scanned_done}
+use Rattle.refusal.proofs.Scans.{scanned_none, scanned_passed, scanned_refused}
 use Rattle.map_lumps.proofs.size.judge_sizes.Goals as goal
 
 pub loop-i-init : goal.loop-i-init
 loop-i-init c = scanned_none
 
-pub returns-in-Refused : goal.returns-in-Refused
-returns-in-Refused c =
-    scanned_stop c.loop-i.invariant (search rules) c.judge_size.ensures c.in-Refused.is
+pub returns-in_err-judge_size : goal.returns-in_err-judge_size
+returns-in_err-judge_size c =
+    search (rules, scanned_refused c.loop-i.invariant (search rules) c.in_err-judge_size.ensures)
 
 pub loop-i-preserved : goal.loop-i-preserved
 loop-i-preserved c =
-    scanned_more c.loop-i.invariant (search rules) c.judge_size.ensures c.in_default.is
-
-pub returns : goal.returns
-returns c = scanned_done c.loop-i.invariant (search rules)
+    scanned_passed c.loop-i.invariant (search rules) c.in_ok-judge_size.ensures

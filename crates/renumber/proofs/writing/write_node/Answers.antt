@@ -1,16 +1,15 @@
 -- `renumber::writing::write_node` meets its contract, from those of the functions that it calls. Assumes nothing.
-use Prim.Native.Nat.{ℕ, ◌+◌, ◌<◌}
-use mathlib.Core.List.{◌++◌}
-use mathlib.Core.Path.{ap, ◌∙◌, subst⁻¹}
-use lib.ListN.{length, take}
-use lib.Seq.{sets}
+use Rattle.std.proofs.Common.{ℕ, ◌+◌, ◌-◌, ◌*◌, ◌<◌, ◌++◌, ◌≡◌, length, take, drop, ap, ◌∙◌, arith, length-drop}
+use mathlib.Core.Path.{subst⁻¹}
+use borrow.Rule.Slice.PartMut.{put_mid}
+use lib.Seq.{sets, length-take-le}
 use Rattle.endian.specs.Unsigned.{u16_bytes}
 use Rattle.record_field.specs.Records.{record_bytes}
 use Rattle.record.specs.Nodes.{node_size}
 use Rattle.node.specs.declared.Choice.TheVariants.{Right, Left}
 use Rattle.node.specs.Nodes.{subsector_bit}
 use Rattle.renumber.specs.Inner.{renamed_by}
-use Rattle.renumber.proofs.Rows.{node-stored}
+use Rattle.renumber.proofs.Rows.{row_stored, node-stored}
 use Rattle.renumber.proofs.writing.write_node.Goals as goal
 
 pub renamed-right-requires : goal.renamed-right-requires
@@ -31,6 +30,14 @@ returns c =
     let by = renamed_by a.words.now a.count in
     let toRight = c.renamed-right.ensures ∙ ap by c.child_of.ensures.0 in
     let toLeft = c.renamed-left.ensures ∙ ap by c.child_of-2.ensures.0 in
+    let from = node_size * a.node in
+    let there : a.at + 24 - a.at ≡ 24 = omega arith in
+    let here : from + 24 - from ≡ 24 = omega arith in
+    let line = take 24 (drop from a.nodes.now) in
+    let long : length line ≡ 24 = length-take-le 24 (drop from a.nodes.now) (omega (arith, length-drop from a.nodes.now, c.requires.node_size_in_bounds.0)) in
+    let copied : put_mid a.at (a.at + 24 - a.at) a.out.now c.copy_from_slice.new.self ≡ sets a.out.now a.at line =
+    (λ i. put_mid a.at (there i) a.out.now ((c.copy_from_slice.ensures.after ∙ ap (λ (n : ℕ). take n (drop from a.nodes.now)) here) i))
+    ∙ row_stored a.out.now line a.at 24 long (omega (arith, c.requires.node_size_in_bounds.1)) in
     node-stored a.nodes.now a.node a.out.now a.at c.renamed-right.result c.renamed-left.result c.requires.node_size_in_bounds.0
-    c.copy.ensures c.put_u16.ensures c.put_u16-2.ensures
+    copied c.put_u16.ensures c.put_u16-2.ensures
     ∙ (λ j. sets a.out.now a.at (take 24 (record_bytes a.nodes.now node_size a.node) ++ u16_bytes (toRight j) ++ u16_bytes (toLeft j)))

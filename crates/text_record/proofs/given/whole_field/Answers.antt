@@ -10,7 +10,7 @@ pub returns : goal.returns
 returns c =
     let a = c.args in
     let d = c.default_whole in
-    let letter = c.default_of-letter.ensures in
+    let letter = c.default_at-default.ensures in
     let id = to_z-of_z w32 a.id c.ranges.id in
     let default = whole d.type_inv (d.ensures ∙ (λ i. default_whole (id i) (letter i))) in
     whole c.whole_or.type_inv (c.whole_or.ensures ∙ (λ i. whole_or (default i) (c.value_at.ensures i)))

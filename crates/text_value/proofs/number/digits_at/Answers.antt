@@ -4,7 +4,9 @@ use mathlib.Core.Path.{refl, sym, ap, ◌∙◌}
 use native.Mathlib.Omega.{arith}
 use native.Mathlib.Nat.{min-eq_left}
 use Prim.Native.Nat.{ℕ, ◌-◌, min}
-use Rattle.text_byte.proofs.Spans.{span_more, span_stop, span_done}
+use Rattle.text_byte.proofs.Spans.{span_more, span_stop, span_done, span_exit}
+use lib.ListN.{length}
+use Rattle.text_value.specs.Numbers.{digits_from}
 use Rattle.text_value.proofs.Numbers.{cap, digits_none, digits_more}
 use Rattle.text_value.proofs.number.digits_at.Goals as goal
 
@@ -29,11 +31,15 @@ loop-at-preserved c =
       (
         l.invariant.1.0 ∙ span_more _ _ _ c.loop-at-test.true c.is_digit_in.ensures c.if-not-is_digit_in.false,
         digits_more a.word.now a.base a.before a.from l.at c.requires.0 l.invariant.0 l.invariant.1.1 c.digit_of.ensures.0
-            c.smaller-number.ensures,
+            c.min-number.ensures,
       ),
     )
 
 pub returns : goal.returns
 returns c =
     let l = c.loop-at in
-    (sym (l.invariant.1.0 ∙ span_done _ _ _ c.loop-at-test.false), l.invariant.1.1)
+    let a = c.args in
+    let end = c.max-end.ensures ∙ sym (span_exit _ a.from l.at (length a.word.now) l.invariant.1.0 c.loop-at-test.false l.auto.at-end) in (
+      end ∙ sym (l.invariant.1.0 ∙ span_done _ _ _ c.loop-at-test.false),
+      l.invariant.1.1 ∙ ap (λ (k : ℕ). min (digits_from a.word.now a.base a.before a.from (k - a.from)) cap) (sym end),
+    )

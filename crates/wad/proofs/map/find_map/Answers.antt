@@ -7,4 +7,4 @@ use Rattle.wad.proofs.map.find_map.Goals as goal
 pub returns : goal.returns
 returns c =
     let a = c.args in
-    ap (λ (s : MarkerSearch). s.marker) c.search_map-search.ensures ∙ search_marker a.wad.now a.name.now
+    ap (λ (s : MarkerSearch). s.marker) c.search_map.ensures ∙ search_marker a.wad.now a.name.now

@@ -1,14 +1,8 @@
--- `wad::map::last_named` meets its contract: no entry from `left` on has the name, and the names compared are those from `left`
--- on. The measure is `left`. Assumes nothing.
-use Prim.Native.Nat.{◌+◌, ◌≤◌}
+-- `wad::map::last_named` meets its contract: no entry from `i` on has the name. Assumes nothing.
 use mathlib.Core.Path.{◌≡◌}
 use Rattle.wad.specs.Map.{find_marker}
 use Rattle.wad.proofs.map.last_named.Given as goal
 
-abbrev pub invariant-loop-left : goal.invariant-loop-left
-invariant-loop-left l =
-    (l.left ≤ l.count) × (l.compared + l.left ≡ l.count) × (find_marker l.dir l.name l.count ≡ find_marker l.dir l.name l.left)
-
-abbrev pub decreases-loop-left : goal.decreases-loop-left
-decreases-loop-left l =
-    l.left
+abbrev pub invariant-loop-i : goal.invariant-loop-i
+invariant-loop-i l =
+    find_marker l.dir l.name l.count ≡ find_marker l.dir l.name l.i

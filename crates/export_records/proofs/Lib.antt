@@ -1,0 +1,3 @@
+-- What the answers on records rest on. Assumes nothing.
+
+mod Zeros

@@ -1,0 +1,12 @@
+-- `SectorAnswer::from` meets its contract: the default of a record is all 0. Assumes nothing.
+use Rattle.std.proofs.Common.{rules}
+use Rattle.export_records.proofs.Zeros.{name-zeros}
+use Rattle.export_records.proofs.SectorAnswerFromResultSectorRefusal.from.Goals as goal
+
+pub returns-in-Err : goal.returns-in-Err
+returns-in-Err c =
+    let d = c.default.result in
+    let zero = c.default.ensures in
+    let floor = name-zeros d.floor_flat zero.1.1.0 in
+    let ceiling = name-zeros d.ceiling_flat zero.1.1.1.0 in
+    search (rules, floor, ceiling)

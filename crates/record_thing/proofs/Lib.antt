@@ -1,3 +1,0 @@
--- The laws of things. Assumes nothing.
-
-pub mod Codecs

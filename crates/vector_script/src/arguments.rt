@@ -1,0 +1,92 @@
+// What a question is asked with.
+ghost use Rattle.std.specs.Prelude.{◌<◌, IfOk};
+
+use crate::lending::{Store, WorkWords};
+use crate::print;
+use std::io;
+
+// A copy has at most so many bytes.
+const MOST_COPIED: usize = 64000;
+
+// What is lent to a question. Where it asks for what is not there, this prints that the script is ill-formed.
+#[derive(Drop)]
+pub struct Loan<'a, R> {
+    pub rt: &'a R,
+    // What is asked with: numbers, the lowest byte first, and bytes.
+    pub with: &'a [u8],
+    pub file: &'a [u8],
+    pub words: WorkWords,
+}
+
+impl<'a, R: Print> Loan<'a, R> {
+    pub fn new(rt: &'a R, store: &'a Store) -> Loan<'a, R> {
+        Loan {
+            rt,
+            with: store.with(),
+            file: store.file(),
+            words: store.words(),
+        }
+    }
+
+    // A number of 32 bits.
+    pub fn number(&self, at: usize) -> io::Result<usize>
+        ensures { IfOk result (λ n. n < 4294967296) }
+    {
+        let number = self.with.get(at..).and_then(|rest| rest.first_chunk());
+        match number {
+            Some(bytes) => Ok(u32::from_le_bytes(*bytes) as usize),
+            None => {
+                print::ill_formed(self.rt)?;
+                Ok(0)
+            }
+        }
+    }
+
+    // A coordinate, of which the lowest 16 bits count.
+    pub fn coordinate(&self, at: usize) -> io::Result<i16> {
+        let number = self.number(at)?;
+        Ok(((number % 65536) as u16).cast_signed())
+    }
+
+    // The first number, of 64 bits.
+    pub fn long_number(&self) -> io::Result<usize> {
+        let low = self.number(0)?;
+        let high = self.number(4)?;
+        Ok(low + 4294967296 * high)
+    }
+
+    // The bytes that it is asked with, from a place on.
+    pub fn rest(&self, from: usize) -> &'a [u8] {
+        self.with.get(from..).unwrap_or_default()
+    }
+
+    // Bytes that have to be there.
+    pub fn part(&self, bytes: &'a [u8], from: usize, to: usize) -> io::Result<&'a [u8]> {
+        match bytes.get(from..to) {
+            Some(part) => Ok(part),
+            None => {
+                print::ill_formed(self.rt)?;
+                Ok(&[])
+            }
+        }
+    }
+
+    // The file as two files: it is asked with the first one's length.
+    pub fn two_files(&self) -> io::Result<(&'a [u8], &'a [u8])> {
+        let length = self.number(0)?;
+        let first = self.part(self.file, 0, length)?;
+        let second = self.file.get(length..).unwrap_or_default();
+        Ok((first, second))
+    }
+}
+
+impl<R: Print + AllocGlobal> Loan<'_, R> {
+    // A copy to be written. Too many bytes are ill-formed, and their number is then taken modulo the limit and one.
+    pub fn copy(&self, bytes: &[u8]) -> io::Result<Vec<u8>> {
+        if MOST_COPIED < bytes.len() {
+            print::ill_formed(self.rt)?;
+        }
+        let copied = &bytes[..bytes.len() % (MOST_COPIED + 1)];
+        Ok(copied.to_vec(self.rt.alloc())?)
+    }
+}
