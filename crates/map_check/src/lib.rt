@@ -12,6 +12,7 @@ ghost use Rattle.map_lumps.specs.Lumps.{map_lumps};
 ghost use Rattle.map_check.specs.Inner.{AnsweredBy};
 ghost use Rattle.map_check.specs.Verdict.{map_check, graph_answer, Answered, AnsweredAt};
 
+use map_lumps::{MapLumps, Marker};
 use node_route::GraphError;
 use record::Node;
 use refusal::Refusal;
@@ -40,34 +41,28 @@ pub fn judge_at(wad: &[u8], marker: usize, words: &mut [u16]) -> Result<Accepted
     ensures { AnsweredAt wad.now marker words.old result words.new }
 {
     let dir = wad::directory_of(wad);
-    judge_below(wad, dir, wad::entry_count(wad), marker, words.len())?;
-    judge_graph(
-        map_lumps::map_lump(wad, dir, marker, Node::PLACE),
-        marker,
-        words,
-    )
+    let entry = Marker {
+        dir,
+        count: wad::entry_count(wad),
+        entry: marker,
+    };
+    judge_below(wad, &entry, words.len())?;
+    let lumps = MapLumps { wad, dir, marker };
+    judge_graph(lumps.lump(Node::PLACE), marker, words)
 }
 
 // 12 to 30. Who prints the reason of a refusal goes on from here (W-211).
-pub fn judge_below(
-    wad: &[u8],
-    dir: &[u8],
-    count: usize,
-    marker: usize,
-    words: usize,
-) -> Result<(), Refusal>
-    requires { (16 * count ≤ length dir.now) × (marker < count) }
-    ensures { result ≡ map_check dir.now count marker
-        (map_lumps wad.now dir.now marker) words }
+pub fn judge_below(wad: &[u8], marker: &Marker, words: usize) -> Result<(), Refusal>
+    ensures { result ≡ map_check marker.now.dir.now marker.now.count marker.now.entry
+        (map_lumps wad.now marker.now.dir.now marker.now.entry) words }
 {
-    map_lumps::judge_run(dir, count, marker)?;
-    lumps::check_lumps(
-        map_lumps::game_at(dir, count, marker),
+    marker.judge_run()?;
+    let lumps = MapLumps {
         wad,
-        dir,
-        marker,
-        words,
-    )
+        dir: marker.dir,
+        marker: marker.entry,
+    };
+    lumps::check_lumps(marker.is_hexen(), &lumps, words)
 }
 
 // 31, 32, or accepted.

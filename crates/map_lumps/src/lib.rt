@@ -8,21 +8,32 @@ mod size;
 ghost use Rattle.std.specs.Prelude.{◌≡◌, ◌+◌, ◌*◌, ◌<◌, ◌≤◌, length};
 ghost use Rattle.map_lumps.specs.Lumps.{map_lumps, map_lump, record_count};
 
-pub use run::{Game, game_at, judge_run, map_game};
-pub use size::{judge_reject, judge_sizes};
+pub use run::{Game, Marker, map_game};
+pub use size::judge_reject;
 
-// The lump at a place of the map whose marker is an entry of the directory.
-pub fn map_lump<'a>(wad: &'a [u8], dir: &[u8], marker: usize, place: usize) -> &'a [u8]
-    requires { (16 * (marker + 11) ≤ length dir.now) × (1 ≤ place) × (place ≤ 10) }
-    ensures { result.now ≡ map_lump (map_lumps wad.now dir.now marker) place }
-{
-    wad::lump_at(wad, dir, marker + place)
+// A map's ten lumps: the entries behind its marker in a file's directory.
+#[derive(Clone, Copy)]
+pub struct MapLumps<'a> {
+    pub wad: &'a [u8],
+    pub dir: &'a [u8],
+    pub marker: usize,
+    pub ghost present: { 16 * (marker + 11) ≤ length dir.now },
 }
 
-// How many records of a size the lump at a place has.
-pub fn record_count(wad: &[u8], dir: &[u8], marker: usize, place: usize, size: usize) -> usize
-    requires { (16 * (marker + 11) ≤ length dir.now) × (1 ≤ place) × (place ≤ 10) × (0 < size) }
-    ensures { result ≡ record_count (map_lumps wad.now dir.now marker) place size }
-{
-    map_lump(wad, dir, marker, place).len() / size
+impl<'a> MapLumps<'a> {
+    // The lump at a place.
+    pub fn lump(&self, place: usize) -> &'a [u8]
+        requires { (1 ≤ place) × (place ≤ 10) }
+        ensures { result.now ≡ map_lump (map_lumps self.now.wad.now self.now.dir.now self.now.marker) place }
+    {
+        wad::lump_at(self.wad, self.dir, self.marker + place)
+    }
+
+    // How many records of a size the lump at a place has.
+    pub fn record_count(&self, place: usize, size: usize) -> usize
+        requires { (1 ≤ place) × (place ≤ 10) × (0 < size) }
+        ensures { result ≡ record_count (map_lumps self.now.wad.now self.now.dir.now self.now.marker) place size }
+    {
+        self.lump(place).len() / size
+    }
 }

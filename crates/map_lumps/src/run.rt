@@ -12,54 +12,59 @@ pub enum Game {
     Hexen,
 }
 
-fn named_ok(dir: &[u8], count: usize, i: usize, name: &[u8]) -> bool
-    requires { (16 * count ≤ length dir.now) × (length name.now ≡ 8) }
-    ensures { result ≡ named_ok dir.now count i name.now }
-{
-    if i < count {
-        return name::same_name(wad::part(dir, 16 * i + 8, 8), name);
+// A map's marker: an entry of a file's directory.
+#[derive(Clone, Copy)]
+pub struct Marker<'a> {
+    pub dir: &'a [u8],
+    pub count: usize,
+    pub entry: usize,
+    pub ghost listed: { 16 * count ≤ length dir.now },
+    pub ghost present: { entry < count },
+}
+
+impl Marker<'_> {
+    // Whether the n-th entry behind the marker is there and has the name.
+    fn is_followed(&self, n: usize, name: &[u8]) -> bool
+        requires { (n ≤ 11) × (length name.now ≡ 8) }
+        ensures { result ≡ named_ok self.now.dir.now self.now.count (self.now.entry + n) name.now }
+    {
+        let i = self.entry + n;
+        if i < self.count {
+            return name::same_name(wad::part(self.dir, 16 * i + 8, 8), name);
+        }
+        false
     }
-    false
-}
 
-fn judge_place(dir: &[u8], count: usize, marker: usize, place: usize) -> Result<(), Refusal>
-    requires { (16 * count ≤ length dir.now) × (marker < count) × (1 ≤ place) × (place ≤ 10) }
-    ensures { result ≡ place_check dir.now count marker place }
-{
-    let name = record_table::lump_name(place);
-    refusal::pass_if(
-        named_ok(dir, count, marker + place, &name),
-        Refusal::MarkerRun(place),
-    )
-}
-
-fn judge_places(dir: &[u8], count: usize, marker: usize) -> Result<(), Refusal>
-    requires { (16 * count ≤ length dir.now) × (marker < count) }
-    ensures { result ≡ each_place (place_check dir.now count marker) 10 }
-{
-    for i in 0..10 {
-        judge_place(dir, count, marker, i + 1)?;
+    fn judge_place(&self, place: usize) -> Result<(), Refusal>
+        requires { (1 ≤ place) × (place ≤ 10) }
+        ensures { result ≡ place_check self.now.dir.now self.now.count self.now.entry place }
+    {
+        let name = record_table::lump_name(place);
+        refusal::pass_if(self.is_followed(place, &name), Refusal::MarkerRun(place))
     }
-    Ok(())
-}
 
-// 12 in place order.
-pub fn judge_run(dir: &[u8], count: usize, marker: usize) -> Result<(), Refusal>
-    requires { (16 * count ≤ length dir.now) × (marker < count) }
-    ensures { result ≡ run_check dir.now count marker }
-{
-    let empty = wad::entry_size(dir, marker) == 0;
-    refusal::pass_if(empty, Refusal::MarkerRun(0))?;
-    judge_places(dir, count, marker)
-}
+    fn judge_places(&self) -> Result<(), Refusal>
+        ensures { result ≡ each_place (place_check self.now.dir.now self.now.count self.now.entry) 10 }
+    {
+        refusal::judge_each(10, |i| self.judge_place(i + 1))
+    }
 
-// The map's game: whether the eleventh entry after the marker is BEHAVIOR. It stays a bool, true for Hexen, as C's structs and
-// the record crates' functions take it (`hexen`).
-pub fn game_at(dir: &[u8], count: usize, marker: usize) -> bool
-    requires { (16 * count ≤ length dir.now) × (marker < count) }
-    ensures { result ≡ game_at dir.now count marker }
-{
-    named_ok(dir, count, marker + 11, b"BEHAVIOR")
+    // 12 in place order.
+    pub fn judge_run(&self) -> Result<(), Refusal>
+        ensures { result ≡ run_check self.now.dir.now self.now.count self.now.entry }
+    {
+        let empty = wad::entry_size(self.dir, self.entry) == 0;
+        refusal::pass_if(empty, Refusal::MarkerRun(0))?;
+        self.judge_places()
+    }
+
+    // Whether the map is Hexen's, else Doom's: the eleventh entry behind the marker is BEHAVIOR. It stays a bool, as C's structs
+    // and the record crates' functions take it (`hexen`).
+    pub fn is_hexen(&self) -> bool
+        ensures { result ≡ game_at self.now.dir.now self.now.count self.now.entry }
+    {
+        self.is_followed(11, b"BEHAVIOR")
+    }
 }
 
 // The game of the map whose marker is an entry, 1 to 7. Nothing is asked of the entry itself.
@@ -71,7 +76,12 @@ pub fn map_game(wad: &[u8], marker: usize) -> Result<Game, Refusal>
     if count <= marker {
         return Err(Refusal::EntryNumber);
     }
-    if game_at(wad::directory_of(wad), count, marker) {
+    let marker = Marker {
+        dir: wad::directory_of(wad),
+        count,
+        entry: marker,
+    };
+    if marker.is_hexen() {
         return Ok(Game::Hexen);
     }
     Ok(Game::Doom)

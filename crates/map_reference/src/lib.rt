@@ -2,9 +2,9 @@
 // records it has. The definitions are in specs/.
 #![tactic(auto)]
 
-ghost use Rattle.std.specs.Prelude.{◌≡◌, ◌+◌, ◌*◌, ◌/◌, ◌<◌, ◌≤◌, ℕ, ltb, length};
+ghost use Rattle.std.specs.Prelude.{◌≡◌, ◌+◌, ◌*◌, ◌/◌, ◌<◌, ◌≤◌, ltb, length};
 ghost use Rattle.endian.specs.Unsigned.{u16_at};
-ghost use Rattle.refusal.specs.Checks.{Check, each};
+ghost use Rattle.refusal.specs.Checks.{each};
 ghost use Rattle.record_field.specs.Records.{record_bytes};
 ghost use Rattle.record_linedef.specs.Linedefs.{linedef_size, linedef_of};
 ghost use Rattle.record.specs.Sidedefs.{sidedef_size, sidedef_of};
@@ -65,7 +65,7 @@ pub fn judge_linedefs(
     ensures { result ≡ each (linedef_check hexen linedefs.now vertices sidedefs)
         (length linedefs.now / linedef_size hexen) }
 {
-    judge_each(linedefs.len() / Linedef::size(hexen), |i| {
+    refusal::judge_each(linedefs.len() / Linedef::size(hexen), |i| {
         refusal::pass_if(
             linedef_ok(hexen, linedefs, vertices, sidedefs, i),
             Refusal::LinedefReference(i),
@@ -83,7 +83,7 @@ fn sidedef_ok(sidedefs: &[u8], sectors: usize, i: usize) -> bool
 pub fn judge_sidedefs(sidedefs: &[u8], sectors: usize) -> Result<(), Refusal>
     ensures { result ≡ each (sidedef_check sidedefs.now sectors) (length sidedefs.now / sidedef_size) }
 {
-    judge_each(sidedefs.len() / Sidedef::SIZE, |i| {
+    refusal::judge_each(sidedefs.len() / Sidedef::SIZE, |i| {
         refusal::pass_if(
             sidedef_ok(sidedefs, sectors, i),
             Refusal::SidedefReference(i),
@@ -118,7 +118,7 @@ pub fn judge_segs(hexen: bool, segs: &[u8], linedefs: &[u8], vertices: usize) ->
     ensures { result ≡ each (seg_check hexen segs.now linedefs.now vertices)
         (length segs.now / seg_size) }
 {
-    judge_each(segs.len() / Seg::SIZE, |i| {
+    refusal::judge_each(segs.len() / Seg::SIZE, |i| {
         refusal::pass_if(
             seg_ok(hexen, segs, linedefs, vertices, i),
             Refusal::SegReference(i),
@@ -138,7 +138,7 @@ pub fn judge_subsectors(subsectors: &[u8], segs: usize) -> Result<(), Refusal>
     ensures { result ≡ each (subsector_check subsectors.now segs)
         (length subsectors.now / subsector_size) }
 {
-    judge_each(subsectors.len() / Subsector::SIZE, |i| {
+    refusal::judge_each(subsectors.len() / Subsector::SIZE, |i| {
         refusal::pass_if(
             subsector_ok(subsectors, segs, i),
             Refusal::SubsectorReference(i),
@@ -149,23 +149,12 @@ pub fn judge_subsectors(subsectors: &[u8], segs: usize) -> Result<(), Refusal>
 pub fn judge_nodes(nodes: &[u8], subsectors: usize) -> Result<(), Refusal>
     ensures { result ≡ each (node_check nodes.now subsectors) (length nodes.now / node_size) }
 {
-    judge_each(nodes.len() / Node::SIZE, |i| {
+    refusal::judge_each(nodes.len() / Node::SIZE, |i| {
         refusal::pass_if(
             node::node_ok(nodes, subsectors, i),
             Refusal::NodeReference(i),
         )
     })
-}
-
-// The first refusal among the checks of 0 to n - 1.
-fn judge_each<F: Fn(usize) -> Result<(), Refusal>>(n: usize, check: F) -> Result<(), Refusal>
-    requires { (i : ℕ) → i < n → F.pre check i }
-    ensures { (f : ℕ → Check) → ((i : ℕ) (c : Check) → i < n → F.post check i c → c ≡ f i) → result ≡ each f n }
-{
-    for i in 0..n {
-        check(i)?;
-    }
-    Ok(())
 }
 
 // The unsigned number at `at` of record i, read in place.

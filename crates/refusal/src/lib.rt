@@ -5,9 +5,9 @@
 
 mod status;
 
-ghost use Rattle.std.specs.Prelude.{◌≡◌};
+ghost use Rattle.std.specs.Prelude.{◌≡◌, ◌<◌, ℕ, ⊤, Result};
 ghost use Rattle.refusal.specs.Table.{row_of, number_of, place_of, record_of};
-ghost use Rattle.refusal.specs.Checks.{unless};
+ghost use Rattle.refusal.specs.Checks.{unless, each};
 
 pub use status::{LengthAnswer, Status};
 
@@ -222,9 +222,20 @@ pub fn record_of(r: Refusal) -> usize
     row_of(r).2
 }
 
-// A test as a check: passed, or refused with r.
-pub fn pass_if(ok: bool, r: Refusal) -> Result<(), Refusal>
-    ensures { result ≡ unless ok r }
+// A test as a check: passed, or refused with e.
+pub fn pass_if<E: Drop>(ok: bool, e: E) -> Result<(), E>
+    ensures { result ≡ unless ok e }
 {
-    if ok { Ok(()) } else { Err(r) }
+    if ok { Ok(()) } else { Err(e) }
+}
+
+// The first error among the checks of 0 to n - 1.
+pub fn judge_each<E: Drop, F: Fn(usize) -> Result<(), E>>(n: usize, check: F) -> Result<(), E>
+    requires { (i : ℕ) → i < n → F.pre check i }
+    ensures { (f : ℕ → Result ⊤ E) → ((i : ℕ) (c : Result ⊤ E) → i < n → F.post check i c → c ≡ f i) → result ≡ each f n }
+{
+    for i in 0..n {
+        check(i)?;
+    }
+    Ok(())
 }

@@ -45,10 +45,7 @@ pub fn judge_entries(len: usize, dir: &[u8], count: usize) -> Result<(), Refusal
     requires { (len ≤ 16777216) × (16 * count ≤ length dir.now) }
     ensures { result ≡ each (entry_check len dir.now) count }
 {
-    for i in 0..count {
-        judge_entry(len, dir, i)?;
-    }
-    Ok(())
+    refusal::judge_each(count, |i| judge_entry(len, dir, i))
 }
 
 // The directory's bytes, of a file whose header passes.

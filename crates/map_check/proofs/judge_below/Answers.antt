@@ -5,10 +5,11 @@ use Rattle.refusal.proofs.Checks.{pass_then}
 use Rattle.map_check.proofs.Passing.{run_long}
 use Rattle.map_check.proofs.judge_below.Goals as goal
 
-pub check_lumps-requires : goal.check_lumps-requires
-check_lumps-requires c =
-    let long = run_long c.args.dir.now c.args.count c.args.marker (sym c.in_ok-judge_run.ensures) in
-    omega arith
+pub invariant_of-lumps : goal.invariant_of-lumps
+invariant_of-lumps c =
+    let m = c.args.marker.now in
+    let long = run_long m.dir.now m.count m.entry (sym c.in_ok-judge_run.ensures) in
+    record { present = omega (arith, m.listed) }
 
 pub returns : goal.returns
-returns c = pass_then (sym c.in_ok-judge_run.ensures) (rw c.game_at.ensures at c.check_lumps.ensures)
+returns c = pass_then (sym c.in_ok-judge_run.ensures) (rw c.is_hexen.ensures at c.check_lumps.ensures)

@@ -8,5 +8,5 @@ use Rattle.map_check.proofs.lumps.check_reject.Goals as goal
 
 pub judge_reject-requires : goal.judge_reject-requires
 judge_reject-requires c =
-    let lumps = map_lumps c.args.wad.now c.args.dir.now c.args.marker in
-    rw c.record_count.ensures (count_most c.args.hexen lumps c.requires.marker_value SECTORS (omega arith) (omega arith) (sectors_size c.args.hexen))
+    let lumps = map_lumps c.args.lumps.now.wad.now c.args.lumps.now.dir.now c.args.lumps.now.marker in
+    rw c.record_count.ensures (count_most c.args.hexen lumps c.requires SECTORS (omega arith) (omega arith) (sectors_size c.args.hexen))

@@ -1,7 +1,7 @@
--- `map_reference::judge_each` meets its contract. Assumes nothing.
+-- `refusal::judge_each` meets its contract. Assumes nothing.
 use Rattle.std.proofs.Common.{rules, Ok, Err, refl}
 use Rattle.refusal.proofs.Checks.{each_none, each_more, each-stop}
-use Rattle.map_reference.proofs.judge_each.Goals as goal
+use Rattle.refusal.proofs.judge_each.Goals as goal
 
 pub loop-i-init : goal.loop-i-init
 loop-i-init g c = λ f h. each_none f
