@@ -8,7 +8,7 @@ use native.Mathlib.Omega.{arith}
 use lib.Dec.{leb, ltb, eqb}
 use Rattle.refusal.specs.declared.Refusal.TheVariants.{Blockmap}
 use Rattle.refusal.specs.Checks.{Check}
-use Rattle.std.specs.Prelude.{Ok, Err}
+use Rattle.std.specs.Prelude.{⊤, Result, Ok, Err}
 use Rattle.refusal.specs.Table.{record_of}
 use Rattle.refusal.specs.Checks.{unless, ◌and_then◌, each}
 use Rattle.refusal.proofs.Checks.{both, and_then_pass, unless_pass, each_none, each_pass}
@@ -17,7 +17,6 @@ use Rattle.hazard.specs.declared.Hazard.TheVariants.{HighNumber}
 use Rattle.hazard.specs.Findings.{Finding, found_unless, ◌or_else◌, each_of}
 use Rattle.hazard.specs.Numbers.{list_high}
 use Rattle.hazard.specs.Inner.{ListsPass}
-use Rattle.hazard.proofs.Findings.{each_none as Found-None, each-suc as found-suc}
 
 -- BLOCKMAP's refusal as a hazard
 abbrev pub as_finding : Check → Finding
@@ -32,7 +31,7 @@ as_unless : (b : Bool) (i : ℕ) → as_finding (unless b (Blockmap i)) ≡ foun
 as_unless true i = refl
 as_unless false i = refl
 
-each_more : (f : ℕ → Check) (n : ℕ) → each f (suc n) ≡ each f n and_then f n
+each_more : {E : Type 0} (f : ℕ → Result ⊤ E) (n : ℕ) → each f (suc n) ≡ each f n and_then f n
 unfolding each
 each_more f n = refl
 
@@ -64,9 +63,9 @@ module _ (lump : List ℕ) (linedefs : ℕ) (e : blockmap_check lump linedefs �
       ∙ as_unless (all_under 32768 (linedefs_named lump (word_at lump (4 + i)))) i)
 
   high-cells : (n : ℕ) → n ≤ cells_of lump → each_of (list_high lump) n ≡ as_finding (each (cell_check lump 32768) n)
-  high-cells zero h = Found-None (list_high lump) ∙ ap as_finding (sym (each_none (cell_check lump 32768)))
+  high-cells zero h = each_none (list_high lump) ∙ ap as_finding (sym (each_none (cell_check lump 32768)))
   high-cells (suc n) h =
-      found-suc (list_high lump) n ∙ (λ i. high-cells n (omega arith) i or_else high-cell n (omega arith) i)
+      each_more (list_high lump) n ∙ (λ i. high-cells n (omega arith) i or_else high-cell n (omega arith) i)
       ∙ sym (as_then (each (cell_check lump 32768) n) (cell_check lump 32768 n))
       ∙ ap as_finding (sym (each_more (cell_check lump 32768) n))
 

@@ -1,6 +1,5 @@
 -- The laws of hazards. Assumes nothing.
 
-pub mod Findings
 pub mod SegsTaken
 pub mod ListLengths
 pub mod HighLists

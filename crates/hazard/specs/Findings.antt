@@ -1,6 +1,7 @@
--- Looks in a row: the first hazard that is found, as `refusal/Checks` has the first refusal. Assumes nothing.
-use Rattle.std.specs.Prelude.{ℕ, zero, suc, Bool, true, false, ⊤, Result, Ok, Err}
-use Rattle.std.specs.Result.{result_and}
+-- Looks in a row: the first hazard that is found. A look is a check that refuses with a hazard, so the words are those of
+-- `refusal/Checks`. Assumes nothing.
+use Rattle.std.specs.Prelude.{ℕ, Bool, ⊤, Result}
+use Rattle.refusal.specs.Checks.{unless, ◌and_then◌, each}
 use Rattle.hazard.specs.declared.Hazard.{Hazard}
 
 -- what a look answers: that it finds nothing, or the hazard
@@ -9,15 +10,13 @@ Finding = Result ⊤ Hazard
 
 -- the hazard `h`, unless the test holds
 abbrev pub found_unless : Bool → Hazard → Finding
-found_unless true h = Ok tt
-found_unless false h = Err h
+found_unless ok h = unless ok h
 
 -- what the first look finds, and if it finds nothing what the second finds
 infixr 5 ◌or_else◌
 abbrev pub ◌or_else◌ : Finding → Finding → Finding
-x or_else y = result_and x y
+x or_else y = x and_then y
 
 -- the first hazard among those of 0 to `n - 1`, in turn
-unfoldable pub each_of : (ℕ → Finding) → ℕ → Finding
-each_of f zero = Ok tt
-each_of f (suc n) = each_of f n or_else f n
+abbrev pub each_of : (ℕ → Finding) → ℕ → Finding
+each_of f n = each f n

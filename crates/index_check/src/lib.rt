@@ -9,8 +9,7 @@ ghost use Rattle.index_check.specs.Checking.{index_head_check, index_check};
 
 use head::head_ok;
 pub use head::record_offset;
-use records::judge_records;
-pub use records::record_in;
+pub use records::{IndexedDirectory, record_in};
 use refusal::Refusal;
 
 // 1 to 6 of the file, 82 and 83: what a lookup asks first too.
@@ -31,5 +30,10 @@ pub fn judge(wad: &[u8], index: &[u8]) -> Result<(), Refusal>
     ensures { result ≡ index_check wad.now index.now }
 {
     judge_head(wad, index)?;
-    judge_records(wad::directory_of(wad), wad::entry_count(wad), index)
+    let records = IndexedDirectory {
+        dir: wad::directory_of(wad),
+        count: wad::entry_count(wad),
+        index,
+    };
+    records.judge_records()
 }

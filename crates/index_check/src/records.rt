@@ -19,41 +19,61 @@ pub fn record_in(index: &[u8], i: usize) -> IndexRecord
     }
 }
 
-// It has the number and the name of one of the entries.
-fn of_entry(dir: &[u8], count: usize, index: &[u8], i: usize) -> bool
-    requires count_in_bounds { 16 * count ≤ length dir.now }
-    requires i_bound { (i < 4096) × (record_offset i + 10 ≤ length index.now) }
-    ensures { result ≡ entry_ok dir.now count (record_in index.now i) }
-{
-    let record = record_in(index, i);
-    let number = record.number as usize;
-    number < count && record == index::record_at(dir, number)
+// A file's directory, and an index that has room for a record of each entry. Nothing is known of what the records say.
+#[derive(Clone, Copy)]
+pub struct IndexedDirectory<'a> {
+    pub dir: &'a [u8],
+    pub count: usize,
+    pub index: &'a [u8],
+    pub ghost listed: { 16 * count ≤ length dir.now },
+    pub ghost few: { count ≤ 4096 },
+    pub ghost room: { record_offset count ≤ length index.now },
 }
 
-// The record before precedes it.
-fn in_order(index: &[u8], i: usize) -> bool
-    requires { (i < 4096) × (record_offset i + 10 ≤ length index.now) }
-    ensures { result ≡ order_ok index.now i }
-{
-    i == 0 || index::precedes(record_in(index, i - 1), record_in(index, i))
-}
-
-fn record_ok(dir: &[u8], count: usize, index: &[u8], i: usize) -> bool
-    requires count_in_bounds { 16 * count ≤ length dir.now }
-    requires i_bound { (i < 4096) × (record_offset i + 10 ≤ length index.now) }
-    ensures { result ≡ record_ok dir.now count index.now i }
-{
-    of_entry(dir, count, index, i) && in_order(index, i)
-}
-
-// The length, and then each record in turn.
-pub fn judge_records(dir: &[u8], count: usize, index: &[u8]) -> Result<(), Refusal>
-    requires { (count ≤ 4096) × (16 * count ≤ length dir.now) }
-    ensures { result ≡ records_check dir.now count index.now }
-{
-    refusal::pass_if(index.len() == record_offset(count), Refusal::IndexEntries)?;
-    for i in 0..count {
-        refusal::pass_if(record_ok(dir, count, index, i), Refusal::IndexEntries)?;
+impl IndexedDirectory<'_> {
+    // Record i of the index.
+    pub fn record(&self, i: usize) -> IndexRecord
+        requires { i < self.now.count }
+        ensures { result ≡ record_in self.now.index.now i }
+    {
+        record_in(self.index, i)
     }
-    Ok(())
+
+    // It has the number and the name of one of the entries.
+    fn of_entry(&self, i: usize) -> bool
+        requires { i < self.now.count }
+        ensures { result ≡ entry_ok self.now.dir.now self.now.count (record_in self.now.index.now i) }
+    {
+        let record = self.record(i);
+        let number = record.number as usize;
+        number < self.count && record == index::record_at(self.dir, number)
+    }
+
+    // The record before precedes it.
+    fn in_order(&self, i: usize) -> bool
+        requires { i < self.now.count }
+        ensures { result ≡ order_ok self.now.index.now i }
+    {
+        i == 0 || index::precedes(self.record(i - 1), self.record(i))
+    }
+
+    fn record_ok(&self, i: usize) -> bool
+        requires { i < self.now.count }
+        ensures { result ≡ record_ok self.now.dir.now self.now.count self.now.index.now i }
+    {
+        self.of_entry(i) && self.in_order(i)
+    }
+
+    // The length, and then each record in turn.
+    pub fn judge_records(&self) -> Result<(), Refusal>
+        ensures { result ≡ records_check self.now.dir.now self.now.count self.now.index.now }
+    {
+        refusal::pass_if(
+            self.index.len() == record_offset(self.count),
+            Refusal::IndexEntries,
+        )?;
+        refusal::judge_each(self.count, |i| {
+            refusal::pass_if(self.record_ok(i), Refusal::IndexEntries)
+        })
+    }
 }

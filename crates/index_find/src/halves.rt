@@ -5,6 +5,7 @@ ghost use Rattle.index_find.specs.Finding.{not_above, is_equal};
 ghost use Rattle.index_find.specs.Inner.{comparison, gone_by};
 
 use index::keys::key_of;
+use index_check::IndexedDirectory;
 use std::cmp::Ordering;
 
 // The last record gone past, if it has the asked name, and how many names were compared.
@@ -15,30 +16,30 @@ pub struct GonePast {
 }
 
 // Compares the name of one record with the asked name, which is given as its eight bytes.
-fn compare(index: &[u8], asked: [u8; 8], i: usize) -> Ordering
-    requires { (i < 4096) × (record_offset i + 10 ≤ length index.now) }
-    ensures { result ≡ comparison index.now asked i }
+fn compare(at: &IndexedDirectory, asked: [u8; 8], i: usize) -> Ordering
+    requires { i < at.now.count }
+    ensures { result ≡ comparison at.now.index.now asked i }
 {
-    let record = index_check::record_in(index, i);
+    let record = at.record(i);
     key_of(record.name).cmp(&key_of(asked))
 }
 
 // Compares the record behind half of those that are left. If it is not above the asked name the search goes on after
 // it, otherwise before it. No `partition_point`: it does not say how many names it compares, and `compared` is promised.
-pub fn gone_past(index: &[u8], count: usize, name: &[u8]) -> GonePast
-    requires { (count ≤ 4096) × (record_offset count ≤ length index.now) × (length name.now ≡ 8) }
-    ensures gone { result ≡ gone_by (not_above index.now name.now) (is_equal index.now name.now) count }
-    ensures within { MatchOption result.last ⊤ (λ i. i < count) }
+pub fn gone_past(at: &IndexedDirectory, name: &[u8]) -> GonePast
+    requires { length name.now ≡ 8 }
+    ensures gone { result ≡ gone_by (not_above at.now.index.now name.now) (is_equal at.now.index.now name.now) at.now.count }
+    ensures within { MatchOption result.last ⊤ (λ i. i < at.now.count) }
 {
     let asked = index::names::padded(name);
     let mut past = 0;
-    let mut left = count;
+    let mut left = at.count;
     let mut last = None;
     let mut compared = 0;
     while 0 < left {
         let half = left / 2;
         compared += 1;
-        let order = compare(index, asked, past + half);
+        let order = compare(at, asked, past + half);
         if order.is_gt() {
             left = half;
         } else {

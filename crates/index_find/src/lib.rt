@@ -12,15 +12,16 @@ ghost use Rattle.index_find.specs.Finding.{believed, lookup, find_answer};
 ghost use Rattle.index_find.specs.Inner.{entry_of};
 
 use halves::gone_past;
+use index_check::IndexedDirectory;
 use refusal::Refusal;
 use wad::MarkerSearch;
 
 // The entry of a number from the index, if there is such an entry and it has the name.
-fn believed(dir: &[u8], count: usize, name: &[u8], number: usize) -> Result<usize, Refusal>
-    requires { (16 * count ≤ length dir.now) × (length name.now ≡ 8) }
-    ensures { result ≡ believed dir.now count name.now number }
+fn believed(at: &IndexedDirectory, name: &[u8], number: usize) -> Result<usize, Refusal>
+    requires { length name.now ≡ 8 }
+    ensures { result ≡ believed at.now.dir.now at.now.count name.now number }
 {
-    if number < count && name::same_name(wad::part(dir, 16 * number + 8, 8), name) {
+    if number < at.count && name::same_name(wad::part(at.dir, 16 * number + 8, 8), name) {
         Ok(number)
     } else {
         Err(Refusal::EntryMissing)
@@ -28,38 +29,25 @@ fn believed(dir: &[u8], count: usize, name: &[u8], number: usize) -> Result<usiz
 }
 
 // The entry of the last record gone past, if that record has the asked name. Its name is not compared again.
-fn entry_of(
-    dir: &[u8],
-    count: usize,
-    index: &[u8],
-    name: &[u8],
-    last: Option<usize>,
-) -> Result<usize, Refusal>
-    requires count_in_bounds { (16 * count ≤ length dir.now) × (length name.now ≡ 8) }
-    requires count_bound { (count ≤ 4096) × (record_offset count ≤ length index.now) }
-    requires last_bound { MatchOption last ⊤ (λ i. i < count) }
-    ensures { result ≡ entry_of dir.now count index.now name.now last }
+fn entry_of(at: &IndexedDirectory, name: &[u8], last: Option<usize>) -> Result<usize, Refusal>
+    requires eight { length name.now ≡ 8 }
+    requires last_bound { MatchOption last ⊤ (λ i. i < at.now.count) }
+    ensures { result ≡ entry_of at.now.dir.now at.now.count at.now.index.now name.now last }
 {
     match last {
-        Some(i) => believed(
-            dir,
-            count,
-            name,
-            index_check::record_in(index, i).number as usize,
-        ),
+        Some(i) => believed(at, name, at.record(i).number as usize),
         None => Err(Refusal::EntryMissing),
     }
 }
 
 // What the index leads to.
-fn look_up(dir: &[u8], count: usize, index: &[u8], name: &[u8]) -> MarkerSearch
-    requires count_in_bounds { (16 * count ≤ length dir.now) × (length name.now ≡ 8) }
-    requires count_bound { (count ≤ 4096) × (record_offset count ≤ length index.now) }
-    ensures { result ≡ lookup dir.now count index.now name.now }
+fn look_up(at: &IndexedDirectory, name: &[u8]) -> MarkerSearch
+    requires { length name.now ≡ 8 }
+    ensures { result ≡ lookup at.now.dir.now at.now.count at.now.index.now name.now }
 {
-    let gone = gone_past(index, count, name);
+    let gone = gone_past(at, name);
     MarkerSearch {
-        marker: entry_of(dir, count, index, name, gone.last),
+        marker: entry_of(at, name, gone.last),
         compared: gone.compared,
     }
 }
@@ -78,7 +66,14 @@ pub fn find(wad: &[u8], index: &[u8], name: &[u8]) -> MarkerSearch
     ensures { result ≡ find_answer wad.now index.now name.now }
 {
     match judge(wad, index, name) {
-        Ok(()) => look_up(wad::directory_of(wad), wad::entry_count(wad), index, name),
+        Ok(()) => {
+            let at = IndexedDirectory {
+                dir: wad::directory_of(wad),
+                count: wad::entry_count(wad),
+                index,
+            };
+            look_up(&at, name)
+        }
         Err(r) => MarkerSearch {
             marker: Err(r),
             compared: 0,

@@ -94,13 +94,12 @@ fn judge_cells(lump: &[u8], cells: usize, linedefs: usize, notes: &[bool]) -> Re
     requires noted { Noted lump.now linedefs notes.now }
     ensures { result ≡ each (cell_check lump.now linedefs) cells }
 {
-    for i in 0..cells {
+    refusal::judge_each(cells, |i| {
         refusal::pass_if(
             cell_ok(lump, cells, linedefs, notes, i),
             Refusal::Blockmap(i),
-        )?;
-    }
-    Ok(())
+        )
+    })
 }
 
 // One look at the notes tells of a cell's list.

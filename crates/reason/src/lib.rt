@@ -13,6 +13,7 @@ ghost use Rattle.reason.specs.Printing.{answer_by, ReasonTold, ReasonToldAt};
 ghost use Rattle.reason.specs.Inner.{RefusedBelow, RefusalTold, GraphTold};
 
 use map_check::Accepted;
+use map_lumps::{MapLumps, Marker};
 use record::Node;
 use refusal::Refusal;
 
@@ -48,33 +49,26 @@ fn judge_at(wad: &[u8], marker: usize, words: &mut [u16], out: &mut [u8]) -> Rea
         words.new out.new }
 {
     let dir = wad::directory_of(wad);
-    let count = wad::entry_count(wad);
-    if let Err(r) = map_check::judge_below(wad, dir, count, marker, words.len()) {
-        return tell_refusal(wad, dir, count, marker, r, out);
+    let entry = Marker {
+        dir,
+        count: wad::entry_count(wad),
+        entry: marker,
+    };
+    if let Err(r) = map_check::judge_below(wad, &entry, words.len()) {
+        return tell_refusal(wad, &entry, r, out);
     }
-    tell_graph(
-        map_lumps::map_lump(wad, dir, marker, Node::PLACE),
-        marker,
-        words,
-        out,
-    )
+    let lumps = MapLumps { wad, dir, marker };
+    tell_graph(lumps.lump(Node::PLACE), marker, words, out)
 }
 
 // Below 31: a field with 23 to 28, and nothing otherwise.
-fn tell_refusal(
-    wad: &[u8],
-    dir: &[u8],
-    count: usize,
-    marker: usize,
-    r: Refusal,
-    out: &mut [u8],
-) -> Reason
-    requires { RefusedBelow wad.now dir.now count marker r }
-    ensures { RefusalTold (game_at dir.now count marker)
-        (map_lumps wad.now dir.now marker) r out.old result out.new }
+fn tell_refusal(wad: &[u8], marker: &Marker, r: Refusal, out: &mut [u8]) -> Reason
+    requires { RefusedBelow wad.now marker.now.dir.now marker.now.count marker.now.entry r }
+    ensures { RefusalTold (game_at marker.now.dir.now marker.now.count marker.now.entry)
+        (map_lumps wad.now marker.now.dir.now marker.now.entry) r out.old result out.new }
 {
-    let hexen = map_lumps::game_at(dir, count, marker);
-    let Some(field) = reason_field::named_field(hexen, wad, dir, marker, r) else {
+    let hexen = marker.is_hexen();
+    let Some(field) = reason_field::named_field(hexen, wad, marker.dir, marker.entry, r) else {
         return answer(Err(r), 0, out.len());
     };
     if out.len() < FIELD_SIZE {

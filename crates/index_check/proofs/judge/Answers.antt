@@ -6,10 +6,23 @@ use native.Mathlib.Omega.{arith}
 use Rattle.endian.specs.Unsigned.{Bytes}
 use Rattle.refusal.proofs.Checks.{pass_then}
 use Rattle.wad.specs.Entries.{directory_of}
+use Rattle.wad.proofs.Listing.{file-header, file_sound}
 use Rattle.index_check.specs.Inner.{records_check}
 use Rattle.index_check.proofs.Heads.{passed}
 use Rattle.index_check.proofs.Equal.{records_equal}
 use Rattle.index_check.proofs.judge.Goals as goal
+
+pub invariant_of-records : goal.invariant_of-records
+invariant_of-records c =
+    let wad = c.args.wad.now in
+    let head = passed wad c.args.index.now (sym c.in_ok-judge_head.ensures) in
+    let few = (file_sound wad (file-header wad head.file)).few in
+    let count = c.entry_count.ensures in
+    record {
+      listed = omega (arith, c.directory_of.ensures.result_len, count);
+      few = omega (arith, few, count);
+      room = omega (arith, head.head.long, count);
+    }
 
 pub returns : goal.returns
 returns c =

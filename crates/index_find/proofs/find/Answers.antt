@@ -24,19 +24,21 @@ use Rattle.index_find.proofs.find.Goals.{In-Ok}
 both : (c : In-Ok) → (index_head_check c.args.wad.now c.args.index.now ≡ Ok tt) × (unless (eqb (length c.args.name.now) 8) EntryMissing ≡ Ok tt)
 both c = and_then_pass (index_head_check c.args.wad.now c.args.index.now) (unless (eqb (length c.args.name.now) 8) EntryMissing) (sym c.judge.ensures ∙ c.in-Ok.is)
 
-pub look_up-requires-clause-count_in_bounds : goal.look_up-requires-clause-count_in_bounds
-look_up-requires-clause-count_in_bounds c =
-    let eight = unless_pass (eqb (length c.args.name.now) 8) EntryMissing (both (goal.at.look_up-requires-clause-count_in_bounds c).In-Ok).1 in
-    (omega (arith, c.directory_of.ensures.result_len, c.entry_count.ensures), eqb-true (length c.args.name.now) 8 eight)
-
-pub look_up-requires-clause-count_bound : goal.look_up-requires-clause-count_bound
-look_up-requires-clause-count_bound c =
+pub invariant_of-at : goal.invariant_of-at
+invariant_of-at c =
     let wad = c.args.wad.now in
-    let head = passed wad c.args.index.now (both (goal.at.look_up-requires-clause-count_bound c).In-Ok).0 in
+    let head = passed wad c.args.index.now (both (goal.at.invariant_of-at c).In-Ok).0 in
     let few = (file_sound wad (file-header wad head.file)).few in
-    let long = head.head.long in
     let count = c.entry_count.ensures in
-    (omega (arith, few, count), omega (arith, long, count))
+    record {
+      listed = omega (arith, c.directory_of.ensures.result_len, count);
+      few = omega (arith, few, count);
+      room = omega (arith, head.head.long, count);
+    }
+
+pub look_up-requires : goal.look_up-requires
+look_up-requires c =
+    eqb-true (length c.args.name.now) 8 (unless_pass (eqb (length c.args.name.now) 8) EntryMissing (both (goal.at.look_up-requires c).In-Ok).1)
 
 pub returns-in-Ok : goal.returns-in-Ok
 returns-in-Ok c =

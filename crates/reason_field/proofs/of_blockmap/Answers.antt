@@ -14,13 +14,13 @@ use Rattle.reason_field.proofs.of_blockmap.Goals as goal
 
 pub returns : goal.returns
 returns c =
-    let lumps = map_lumps c.args.wad.now c.args.dir.now c.args.marker in
-    let lump = c.map_lump.ensures in
+    let lumps = map_lumps c.args.lumps.now.wad.now c.args.lumps.now.dir.now c.args.lumps.now.marker in
+    let lump = c.lump.ensures in
     let many : c.record_count.result ≡ record_count lumps LINEDEFS (linedef_size c.args.hexen) =
     c.record_count.ensures ∙ ap (record_count lumps LINEDEFS) c.size.ensures in
-    let few = linedefs_counted c.args.hexen lumps c.requires.counts.counts in
+    let few = linedefs_counted c.args.hexen lumps c.requires.counts in
     let check = c.offending.ensures in
     let t =
-    told (blockmap_fields c.map_lump.result.now c.record_count.result c.args.i) c.named.ensures check.first
+    told (blockmap_fields c.lump.result.now c.record_count.result c.args.i) c.named.ensures check.first
     (check.fits (subst⁻¹ (λ (l : List ℕ). length l ≤ 16777216) lump c.requires.marker_len_bound) (subst⁻¹ (λ (n : ℕ). n ≤ 65536) many (omega (arith, few.1)))) in
     (t.0 ∙ (λ j. first_out (blockmap_fields (lump j) (many j) c.args.i)), t.1)

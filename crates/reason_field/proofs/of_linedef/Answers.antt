@@ -12,15 +12,15 @@ use Rattle.reason_field.proofs.of_linedef.Goals as goal
 
 pub check_linedef-requires : goal.check_linedef-requires
 check_linedef-requires c =
-    let lumps = map_lumps c.args.wad.now c.args.dir.now c.args.marker in
-    rw (c.record_count-2.ensures, c.record_count.ensures, c.map_lump.ensures) (
+    let lumps = map_lumps c.args.lumps.now.wad.now c.args.lumps.now.dir.now c.args.lumps.now.marker in
+    rw (c.record_count-2.ensures, c.record_count.ensures, c.lump.ensures) (
       search rules,
-      vertices_counted c.args.hexen lumps c.requires.counts.counts,
-      sidedefs_counted c.args.hexen lumps c.requires.counts.counts,
+      vertices_counted c.args.hexen lumps c.requires.counts,
+      sidedefs_counted c.args.hexen lumps c.requires.counts,
     )
 
 pub returns : goal.returns
 returns c =
     let check = c.check_linedef.ensures in
-    let t = told (linedef_fields c.args.hexen (record_bytes c.map_lump.result.now (linedef_size c.args.hexen) c.args.i) c.record_count.result c.record_count-2.result) c.named.ensures check.first check.fits in
-    (t.0 ∙ (λ j. first_out (linedef_fields c.args.hexen (record_bytes (c.map_lump.ensures j) (linedef_size c.args.hexen) c.args.i) (c.record_count.ensures j) (c.record_count-2.ensures j))), t.1)
+    let t = told (linedef_fields c.args.hexen (record_bytes c.lump.result.now (linedef_size c.args.hexen) c.args.i) c.record_count.result c.record_count-2.result) c.named.ensures check.first check.fits in
+    (t.0 ∙ (λ j. first_out (linedef_fields c.args.hexen (record_bytes (c.lump.ensures j) (linedef_size c.args.hexen) c.args.i) (c.record_count.ensures j) (c.record_count-2.ensures j))), t.1)

@@ -13,15 +13,15 @@ use Rattle.reason_field.proofs.of_node.Goals as goal
 
 pub check_node-requires : goal.check_node-requires
 check_node-requires c =
-    let lumps = map_lumps c.args.wad.now c.args.dir.now c.args.marker in
-    rw (c.record_count.ensures, c.map_lump.ensures) (
+    let lumps = map_lumps c.args.lumps.now.wad.now c.args.lumps.now.dir.now c.args.lumps.now.marker in
+    rw (c.record_count.ensures, c.lump.ensures) (
       search rules,
-      nodes_few c.args.hexen lumps c.requires.counts.counts,
-      subsectors-counted c.args.hexen lumps c.requires.counts.counts,
+      nodes_few c.args.hexen lumps c.requires.counts,
+      subsectors-counted c.args.hexen lumps c.requires.counts,
     )
 
 pub returns : goal.returns
 returns c =
     let check = c.check_node.ensures in
-    let t = told (node_fields (record_bytes c.map_lump.result.now node_size c.args.i) (nodes_of c.map_lump.result.now) c.record_count.result) c.named.ensures check.first check.fits in
-    (t.0 ∙ (λ j. first_out (node_fields (record_bytes (c.map_lump.ensures j) node_size c.args.i) (nodes_of (c.map_lump.ensures j)) (c.record_count.ensures j))), t.1)
+    let t = told (node_fields (record_bytes c.lump.result.now node_size c.args.i) (nodes_of c.lump.result.now) c.record_count.result) c.named.ensures check.first check.fits in
+    (t.0 ∙ (λ j. first_out (node_fields (record_bytes (c.lump.ensures j) node_size c.args.i) (nodes_of (c.lump.ensures j)) (c.record_count.ensures j))), t.1)

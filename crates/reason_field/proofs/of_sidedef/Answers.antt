@@ -12,14 +12,14 @@ use Rattle.reason_field.proofs.of_sidedef.Goals as goal
 
 pub check_sidedef-requires : goal.check_sidedef-requires
 check_sidedef-requires c =
-    let lumps = map_lumps c.args.wad.now c.args.dir.now c.args.marker in
-    rw (c.record_count.ensures, c.map_lump.ensures) (
+    let lumps = map_lumps c.args.lumps.now.wad.now c.args.lumps.now.dir.now c.args.lumps.now.marker in
+    rw (c.record_count.ensures, c.lump.ensures) (
       search rules,
-      sectors_counted c.args.hexen lumps c.requires.counts.counts,
+      sectors_counted c.args.hexen lumps c.requires.counts,
     )
 
 pub returns : goal.returns
 returns c =
     let check = c.check_sidedef.ensures in
-    let t = told (sidedef_fields (record_bytes c.map_lump.result.now sidedef_size c.args.i) c.record_count.result) c.named.ensures check.first check.fits in
-    (t.0 ∙ (λ j. first_out (sidedef_fields (record_bytes (c.map_lump.ensures j) sidedef_size c.args.i) (c.record_count.ensures j))), t.1)
+    let t = told (sidedef_fields (record_bytes c.lump.result.now sidedef_size c.args.i) c.record_count.result) c.named.ensures check.first check.fits in
+    (t.0 ∙ (λ j. first_out (sidedef_fields (record_bytes (c.lump.ensures j) sidedef_size c.args.i) (c.record_count.ensures j))), t.1)

@@ -12,14 +12,14 @@ use Rattle.reason_field.proofs.of_subsector.Goals as goal
 
 pub check_subsector-requires : goal.check_subsector-requires
 check_subsector-requires c =
-    let lumps = map_lumps c.args.wad.now c.args.dir.now c.args.marker in
-    rw (c.record_count.ensures, c.map_lump.ensures) (
+    let lumps = map_lumps c.args.lumps.now.wad.now c.args.lumps.now.dir.now c.args.lumps.now.marker in
+    rw (c.record_count.ensures, c.lump.ensures) (
       search rules,
-      segs_counted c.args.hexen lumps c.requires.counts.counts,
+      segs_counted c.args.hexen lumps c.requires.counts,
     )
 
 pub returns : goal.returns
 returns c =
     let check = c.check_subsector.ensures in
-    let t = told (subsector_fields (record_bytes c.map_lump.result.now subsector_size c.args.i) c.record_count.result) c.named.ensures check.first check.fits in
-    (t.0 ∙ (λ j. first_out (subsector_fields (record_bytes (c.map_lump.ensures j) subsector_size c.args.i) (c.record_count.ensures j))), t.1)
+    let t = told (subsector_fields (record_bytes c.lump.result.now subsector_size c.args.i) c.record_count.result) c.named.ensures check.first check.fits in
+    (t.0 ∙ (λ j. first_out (subsector_fields (record_bytes (c.lump.ensures j) subsector_size c.args.i) (c.record_count.ensures j))), t.1)

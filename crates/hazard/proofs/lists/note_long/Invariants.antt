@@ -2,7 +2,6 @@
 -- there on. Assumes nothing.
 use Prim.Native.Nat.{◌≤◌}
 use mathlib.Core.Path.{◌≡◌}
-use lib.ListN.{length}
 use Rattle.map_blockmap.specs.Blockmap.{word_count}
 use Rattle.hazard.specs.Inner.{LongNoted}
 use Rattle.hazard.proofs.ListLengths.{named_from}
@@ -10,4 +9,4 @@ use Rattle.hazard.proofs.lists.note_long.Given as goal
 
 abbrev pub invariant-loop-at : goal.invariant-loop-at
 invariant-loop-at l =
-    (l.at ≤ word_count l.lump) × ((length l.notes ≡ length l.initial.notes) × ((l.named ≡ named_from l.lump l.at) × LongNoted l.lump l.linedefs l.at l.notes))
+    (l.at ≤ word_count l.lump) × ((l.named ≡ named_from l.lump l.at) × LongNoted l.lump l.linedefs l.at l.notes)

@@ -4,7 +4,7 @@ use Prim.Native.Nat.{◌/◌}
 use lib.ListN.{length}
 use Rattle.hazard.specs.Segs.{seg_twice_at}
 use Rattle.hazard.specs.Inner.{Taken}
-use Rattle.hazard.proofs.Findings.{Scanned}
+use Rattle.refusal.proofs.Scans.{Scanned}
 use Rattle.hazard.proofs.segs.first_twice.Given as goal
 
 abbrev pub invariant-loop-i : goal.invariant-loop-i

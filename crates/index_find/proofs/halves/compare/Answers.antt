@@ -18,10 +18,10 @@ use Rattle.index_find.proofs.halves.compare.Goals as goal
 pub returns : goal.returns
 returns c =
     let a = c.args in
-    let name = c.record_in-record.result.name in
+    let name = c.record-record.result.name in
     let own = c.key_of.ensures in
     let asked = c.key_of-2.ensures in
-    let named : name ≡ name_in a.index.now a.i = ap (λ (r : IndexRecord). r.name) c.record_in-record.ensures in
+    let named : name ≡ name_in a.at.now.index.now a.i = ap (λ (r : IndexRecord). r.name) c.record-record.ensures in
     let long : length name ≡ 8 = search rules in
     let long-asked : length a.asked ≡ 8 = search rules in
     let above = above_key a.asked name asked.1 own.1 ∙ ap (λ (n : List ℕ). below_from 8 0 a.asked n false) named in

@@ -16,10 +16,10 @@ use Rattle.index_find.proofs.halves.gone_past.Goals.{After-compare-order}
 
 -- the record behind half of what is left
 order : (c : After-compare-order)
-    → c.compare-order.result ≡ comparison c.args.index.now (padded c.args.name.now) (c.loop-left.past + c.loop-left.left / 2)
+    → c.compare-order.result ≡ comparison c.args.at.now.index.now (padded c.args.name.now) (c.loop-left.past + c.loop-left.left / 2)
 order c =
     c.compare-order.ensures
-    ∙ ap (λ (asked : List ℕ). comparison c.args.index.now asked (c.loop-left.past + c.loop-left.left / 2)) c.padded-asked.ensures
+    ∙ ap (λ (asked : List ℕ). comparison c.args.at.now.index.now asked (c.loop-left.past + c.loop-left.left / 2)) c.padded-asked.ensures
 
 abbrev above : List ℕ → List ℕ → ℕ → Bool
 above index name i = below_from 8 0 (padded name) (name_in index i) false
@@ -31,23 +31,23 @@ loop-left-preserved-then-is_gt c =
     let i = c.loop-left.past + c.loop-left.left / 2 in
     let told = order (goal.at.loop-left-preserved-then-is_gt c).After-compare-order in
     let higher =
-    told_above (above a.index.now a.name.now i) (is_equal a.index.now a.name.now i) told c.is_gt.ensures ∙ c.if-is_gt.true in
-    (searching_before (not_above a.index.now a.name.now) inv.0 (search rules) (ap not higher), inv.1)
+    told_above (above a.at.now.index.now a.name.now i) (is_equal a.at.now.index.now a.name.now i) told c.is_gt.ensures ∙ c.if-is_gt.true in
+    (searching_before (not_above a.at.now.index.now a.name.now) inv.0 (search rules) (ap not higher), inv.1)
 
 pub loop-left-preserved : goal.loop-left-preserved
 loop-left-preserved c =
     let a = c.args in
     let l = c.loop-left in
-    let low = not_above a.index.now a.name.now in
-    let test = is_equal a.index.now a.name.now in
+    let low = not_above a.at.now.index.now a.name.now in
+    let test = is_equal a.at.now.index.now a.name.now in
     let told = order (goal.at.loop-left-preserved c).After-compare-order in
     let i = l.past + l.left / 2 in
-    let higher = told_above (above a.index.now a.name.now i) (test i) told c.is_gt.ensures ∙ c.if-is_gt.false in
-    let equal = told_equal (above a.index.now a.name.now i) (test i) told higher c.is_eq.ensures in
+    let higher = told_above (above a.at.now.index.now a.name.now i) (test i) told c.is_gt.ensures ∙ c.if-is_gt.false in
+    let equal = told_equal (above a.at.now.index.now a.name.now i) (test i) told higher c.is_eq.ensures in
     let past : l.past + l.left / 2 + 1 ≡ l.past + (l.left / 2 + 1) = omega arith in
     let left : l.left - l.left / 2 - 1 ≡ l.left - (l.left / 2 + 1) = omega arith in (
-      subst (λ (k : ℕ). Searching low a.count k (l.left - (l.left / 2 + 1)) (l.compared + 1)) past
-          (subst (λ (k : ℕ). Searching low a.count (l.past + l.left / 2 + 1) k (l.compared + 1)) left
+      subst (λ (k : ℕ). Searching low a.at.now.count k (l.left - (l.left / 2 + 1)) (l.compared + 1)) past
+          (subst (λ (k : ℕ). Searching low a.at.now.count (l.past + l.left / 2 + 1) k (l.compared + 1)) left
           (searching_after low l.invariant.0 (search rules) (ap not higher))),
       c.then_some-last.ensures ∙ ap (λ (b : Bool). then_some b (l.past + l.left / 2)) (sym equal) ∙ last_more test (l.past + l.left / 2)
           ∙ ap (last_if test) past,
@@ -57,6 +57,6 @@ pub returns-clause-gone : goal.returns-clause-gone
 returns-clause-gone c =
     let a = c.args in
     let l = c.loop-left in
-    let done = searching_done (not_above a.index.now a.name.now) l.invariant.0 (search rules) in
-    let last = l.invariant.1 ∙ ap (last_if (is_equal a.index.now a.name.now)) done.0 in
+    let done = searching_done (not_above a.at.now.index.now a.name.now) l.invariant.0 (search rules) in
+    let last = l.invariant.1 ∙ ap (last_if (is_equal a.at.now.index.now a.name.now)) done.0 in
     λ i. record { last = last i; compared = done.1 i }

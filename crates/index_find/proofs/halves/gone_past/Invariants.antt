@@ -8,7 +8,7 @@ use Rattle.index_find.proofs.halves.gone_past.Given as goal
 
 abbrev pub invariant-loop-left : goal.invariant-loop-left
 invariant-loop-left l =
-    Searching (not_above l.index l.name) l.count l.past l.left l.compared × (l.last ≡ last_if (is_equal l.index l.name) l.past)
+    Searching (not_above l.at.index.now l.name) l.at.count l.past l.left l.compared × (l.last ≡ last_if (is_equal l.at.index.now l.name) l.past)
 
 abbrev pub decreases-loop-left : goal.decreases-loop-left
 decreases-loop-left l = l.left
