@@ -42,6 +42,8 @@ pub fn two_sided(flags: usize) -> bool
     flags / 4 % 2 == 1
 }
 
+// Each scan below is one statement over its own test and its own lumps, so they are no twins.
+
 fn linedef_ok(hexen: bool, linedefs: &[u8], vertices: usize, sidedefs: usize, i: usize) -> bool
     requires { i < length linedefs.now / linedef_size hexen }
     ensures { result ≡ linedef_ok vertices sidedefs
