@@ -1,3 +1,3 @@
 -- The laws of BLOCKMAP's lists. Assumes nothing.
 
-pub mod Lists
+pub mod Ending

@@ -23,7 +23,7 @@ pub fn judge_blockmap(lump: &[u8], linedefs: usize) -> Result<(), Refusal>
     if !header_ok(lump) {
         return Err(Refusal::Blockmap(0));
     }
-    judge_lists(lump, linedefs)
+    Lists { lump, linedefs }.judge()
 }
 
 fn header_ok(lump: &[u8]) -> bool
@@ -58,100 +58,104 @@ pub fn word_at(lump: &[u8], i: usize) -> usize
     endian::u16_at(lump, 2 * i) as usize
 }
 
-// The cells of a lump whose header is good.
-fn judge_lists(lump: &[u8], linedefs: usize) -> Result<(), Refusal>
-    requires { header_ok lump.now ≡ true }
-    ensures { result ≡ each (cell_check lump.now linedefs) (cells_of lump.now) }
-{
-    if lump.len() / 2 < FEW {
-        return judge_in::<FEW>(lump, linedefs);
+// The lists of a lump whose header is good, with the count of linedefs that they may name.
+#[derive(Clone, Copy)]
+struct Lists<'a> {
+    lump: &'a [u8],
+    linedefs: usize,
+    ghost header: { header_ok lump.now ≡ true },
+}
+
+impl Lists<'_> {
+    // The cells in turn.
+    fn judge(&self) -> Result<(), Refusal>
+        ensures { result ≡ each (cell_check self.now.lump.now self.now.linedefs) (cells_of self.now.lump.now) }
+    {
+        if self.lump.len() / 2 < FEW {
+            return self.judge_in::<FEW>();
+        }
+        self.judge_in::<PLACES>()
     }
-    judge_in::<PLACES>(lump, linedefs)
-}
 
-// The same with N notes, which are enough.
-fn judge_in<const N: usize>(lump: &[u8], linedefs: usize) -> Result<(), Refusal>
-    requires header { header_ok lump.now ≡ true }
-    requires enough { (min (word_count lump.now) 65536 < N) × (N < 2 ^ 63) }
-    ensures { result ≡ each (cell_check lump.now linedefs) (cells_of lump.now) }
-{
-    let mut notes = [false; N];
-    judge_noting(lump, linedefs, &mut notes)
-}
-
-// The same over notes that are long enough.
-fn judge_noting(lump: &[u8], linedefs: usize, notes: &mut [bool]) -> Result<(), Refusal>
-    requires { (header_ok lump.now ≡ true) × (min (word_count lump.now) 65536 < length notes.old) }
-    ensures { result ≡ each (cell_check lump.now linedefs) (cells_of lump.now) }
-{
-    let cells = cells_of(lump);
-    note_lists(lump, linedefs, notes);
-    judge_cells(lump, cells, linedefs, notes)
-}
-
-fn judge_cells(lump: &[u8], cells: usize, linedefs: usize, notes: &[bool]) -> Result<(), Refusal>
-    requires cells_value { (cells ≡ cells_of lump.now) × (4 + cells ≤ word_count lump.now) }
-    requires noted { Noted lump.now linedefs notes.now }
-    ensures { result ≡ each (cell_check lump.now linedefs) cells }
-{
-    refusal::judge_each(cells, |i| {
-        refusal::pass_if(
-            cell_ok(lump, cells, linedefs, notes, i),
-            Refusal::Blockmap(i),
-        )
-    })
-}
-
-// One look at the notes tells of a cell's list.
-fn cell_ok(lump: &[u8], cells: usize, linedefs: usize, notes: &[bool], i: usize) -> bool
-    requires cells_value { (cells ≡ cells_of lump.now) × ((4 + cells ≤ word_count lump.now) × (i < cells)) }
-    requires noted { Noted lump.now linedefs notes.now }
-    ensures { result ≡ list_ok lump.now linedefs (word_at lump.now (4 + i)) }
-{
-    let offset = word_at(lump, 4 + i);
-    if offset < 4 + cells {
-        return false;
+    // The same with N notes, which are enough.
+    fn judge_in<const N: usize>(&self) -> Result<(), Refusal>
+        requires { (min (word_count self.now.lump.now) 65536 < N) × (N < 2 ^ 63) }
+        ensures { result ≡ each (cell_check self.now.lump.now self.now.linedefs) (cells_of self.now.lump.now) }
+    {
+        let mut notes = [false; N];
+        self.judge_noting(&mut notes)
     }
-    if lump.len() / 2 <= offset {
-        return false;
+
+    // The same over notes that are long enough.
+    fn judge_noting(&self, notes: &mut [bool]) -> Result<(), Refusal>
+        requires { min (word_count self.now.lump.now) 65536 < length notes.old }
+        ensures { result ≡ each (cell_check self.now.lump.now self.now.linedefs) (cells_of self.now.lump.now) }
+    {
+        self.note_all(notes);
+        self.judge_cells(notes)
     }
-    (word_at(lump, offset) == 0) & notes[offset + 1]
-}
 
-// Notes for every place that an offset can reach whether the words from there on end a list well.
-fn note_lists(lump: &[u8], linedefs: usize, notes: &mut [bool])
-    requires { min (word_count lump.now) 65536 < length notes.old }
-    ensures { Noted lump.now linedefs notes.new }
-{
-    let top = (lump.len() / 2).min(65536);
-    let well = ends_from(lump, linedefs, top);
-    note_below(lump, linedefs, top, well, notes);
-}
-
-// Whether the words from `first` on end a list well.
-fn ends_from(lump: &[u8], linedefs: usize, first: usize) -> bool
-    requires { first ≤ word_count lump.now }
-    ensures { result ≡ ends_well lump.now linedefs (word_count lump.now - first) }
-{
-    let mut well = false;
-    for at in (first..lump.len() / 2).rev() {
-        well = ends_at(word_at(lump, at), linedefs, well);
+    fn judge_cells(&self, notes: &[bool]) -> Result<(), Refusal>
+        requires { Noted self.now.lump.now self.now.linedefs notes.now }
+        ensures { result ≡ each (cell_check self.now.lump.now self.now.linedefs) (cells_of self.now.lump.now) }
+    {
+        let cells = cells_of(self.lump);
+        refusal::judge_each(cells, |i| {
+            refusal::pass_if(self.cell_ok(cells, notes, i), Refusal::Blockmap(i))
+        })
     }
-    well
-}
 
-// Notes for each place below `top` whether the words from there on end a list well. The words from `top` on do as `well`
-// says.
-fn note_below(lump: &[u8], linedefs: usize, top: usize, well: bool, notes: &mut [bool])
-    requires top_bound { (top ≤ word_count lump.now) × (top < length notes.old) }
-    requires well_value { well ≡ ends_well lump.now linedefs (word_count lump.now - top) }
-    ensures { NotedFrom lump.now linedefs 0 top notes.new }
-{
-    notes[top] = well;
-    let mut ends = well;
-    for at in (0..top).rev() {
-        ends = ends_at(word_at(lump, at), linedefs, ends);
-        notes[at] = ends;
+    // One look at the notes tells of a cell's list.
+    fn cell_ok(&self, cells: usize, notes: &[bool], i: usize) -> bool
+        requires cells_value { (cells ≡ cells_of self.now.lump.now) × (i < cells) }
+        requires noted { Noted self.now.lump.now self.now.linedefs notes.now }
+        ensures { result ≡ list_ok self.now.lump.now self.now.linedefs (word_at self.now.lump.now (4 + i)) }
+    {
+        let offset = word_at(self.lump, 4 + i);
+        if offset < 4 + cells {
+            return false;
+        }
+        if self.lump.len() / 2 <= offset {
+            return false;
+        }
+        (word_at(self.lump, offset) == 0) & notes[offset + 1]
+    }
+
+    // Notes for every place that an offset can reach whether the words from there on end a list well.
+    fn note_all(&self, notes: &mut [bool])
+        requires { min (word_count self.now.lump.now) 65536 < length notes.old }
+        ensures { Noted self.now.lump.now self.now.linedefs notes.new }
+    {
+        let top = (self.lump.len() / 2).min(65536);
+        let well = self.ends_from(top);
+        self.note_below(top, well, notes);
+    }
+
+    // Whether the words from `first` on end a list well.
+    fn ends_from(&self, first: usize) -> bool
+        requires { first ≤ word_count self.now.lump.now }
+        ensures { result ≡ ends_well self.now.lump.now self.now.linedefs (word_count self.now.lump.now - first) }
+    {
+        let mut well = false;
+        for at in (first..self.lump.len() / 2).rev() {
+            well = ends_at(word_at(self.lump, at), self.linedefs, well);
+        }
+        well
+    }
+
+    // Notes for each place below `top` whether the words from there on end a list well. The words from `top` on do as `well`
+    // says.
+    fn note_below(&self, top: usize, well: bool, notes: &mut [bool])
+        requires top_bound { (top ≤ word_count self.now.lump.now) × (top < length notes.old) }
+        requires well_value { well ≡ ends_well self.now.lump.now self.now.linedefs (word_count self.now.lump.now - top) }
+        ensures { NotedFrom self.now.lump.now self.now.linedefs 0 top notes.new }
+    {
+        notes[top] = well;
+        let mut ends = well;
+        for at in (0..top).rev() {
+            ends = ends_at(word_at(self.lump, at), self.linedefs, ends);
+            notes[at] = ends;
+        }
     }
 }
 

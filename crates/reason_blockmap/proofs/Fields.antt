@@ -11,7 +11,7 @@ use lib.ListN.{length}
 use Rattle.refusal.proofs.Checks.{same_test}
 use Rattle.map_blockmap.specs.Blockmap.{word_count, word_at, cells_of, side_ok, header_ok, list_end, list_ends, linedefs_named, all_under, list_ok}
 use Rattle.map_blockmap.specs.Notes.{ends_well}
-use Rattle.map_blockmap.proofs.Lists.{ends_well-list}
+use Rattle.map_blockmap.proofs.Ending.{ends_well-list}
 use Rattle.reason_range.specs.declared.Field.{Field}
 use Rattle.std.specs.Prelude.{⊤, Result, Ok, Err}
 use Rattle.std.specs.Result.{result_and}

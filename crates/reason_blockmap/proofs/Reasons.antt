@@ -20,7 +20,7 @@ use Rattle.reason_range.specs.declared.Field.{Field}
 use Rattle.reason_range.specs.Fields.{in_range, all_in, first_out, no_field, fields_check, named_by, FieldFits}
 use Rattle.reason_range.proofs.Fields.{first_out-none, first_out-more, all_in-none, all_in-more, named-check, first_out_lem}
 use Rattle.map_blockmap.specs.Blockmap.{word_count, word_at, cells_of, header_ok, list_end, list_ok, cell_check}
-use Rattle.map_blockmap.proofs.Lists.{header-long}
+use Rattle.map_blockmap.proofs.Ending.{header-long}
 use Rattle.wad.specs.Header.{most_bytes}
 use Rattle.reason_blockmap.specs.Fields.{FitsIf, size_field, word_field, length_fields, header_fields, number_fields, list_fields, cell_fields, fields_if_cell, blockmap_fields}
 use Rattle.reason_blockmap.specs.Reasons.{SizeTold, WordTold, BlockmapReasoned}
