@@ -4,7 +4,7 @@ ghost use Rattle.refusal.specs.Checks.{each};
 ghost use Rattle.wad.specs.Header.{head_of, entry_count, file_header_check};
 ghost use Rattle.wad.specs.Entries.{offset_at, size_at, inside_ok, entry_check, directory_of, file_check, directory_answer};
 
-use crate::header::{count_of, head_of, judge_header, start_of};
+use crate::header::{Header, judge_header};
 use crate::parts::part;
 use refusal::Refusal;
 
@@ -54,8 +54,8 @@ pub fn directory_of(wad: &[u8]) -> &[u8]
     ensures result_value { result.now ≡ directory_of wad.now }
     ensures result_len { length result.now ≡ 16 * entry_count (head_of wad.now) }
 {
-    let head = head_of(wad);
-    part(wad, start_of(head), 16 * count_of(head))
+    let head = Header::of(wad);
+    part(wad, head.start(), 16 * head.count())
 }
 
 // How many entries the directory has, of a file whose header passes.
@@ -63,7 +63,7 @@ pub fn entry_count(wad: &[u8]) -> usize
     requires { file_header_check (length wad.now) (head_of wad.now) ≡ Ok tt }
     ensures { result ≡ entry_count (head_of wad.now) }
 {
-    count_of(head_of(wad))
+    Header::of(wad).count()
 }
 
 // Header and directory, 1 to 6.
@@ -79,9 +79,9 @@ pub fn judge_directory(wad: &[u8]) -> Result<Directory, Refusal>
     ensures { result ≡ directory_answer wad.now }
 {
     judge_file(wad)?;
-    let head = head_of(wad);
+    let head = Header::of(wad);
     Ok(Directory {
-        count: count_of(head),
-        start: start_of(head),
+        count: head.count(),
+        start: head.start(),
     })
 }

@@ -8,48 +8,60 @@ use refusal::Refusal;
 // The most bytes of a file, and so of a lump.
 pub const MOST_BYTES: usize = 16777216;
 
-pub fn head_of(wad: &[u8]) -> &[u8]
-    requires { 12 ≤ length wad.now }
-    ensures { (result.now ≡ head_of wad.now) × (length result.now ≡ 12) }
-{
-    part(wad, 0, 12)
+// A file's header: its first twelve bytes.
+#[derive(Clone, Copy)]
+pub struct Header<'a> {
+    pub bytes: &'a [u8],
+    pub ghost whole: { length bytes.now ≡ 12 },
 }
 
-fn mark_ok(head: &[u8]) -> bool
-    requires { length head.now ≡ 12 }
-    ensures { result ≡ mark_ok head.now }
-{
-    ((head[0] == 73) | (head[0] == 80)) & (head[1] == 87) & (head[2] == 65) & (head[3] == 68)
-}
+impl<'a> Header<'a> {
+    pub fn of(wad: &'a [u8]) -> Header<'a>
+        requires { 12 ≤ length wad.now }
+        ensures { result.bytes.now ≡ head_of wad.now }
+    {
+        Header {
+            bytes: part(wad, 0, 12),
+        }
+    }
 
-pub fn count_of(head: &[u8]) -> usize
-    requires { length head.now ≡ 12 }
-    ensures { (result ≡ entry_count head.now) × (result < 2147483648) }
-{
-    endian::natural_at(head, 4)
-}
+    fn mark_ok(&self) -> bool
+        ensures { result ≡ mark_ok self.now.bytes.now }
+    {
+        matches!(self.bytes, [b'I' | b'P', b'W', b'A', b'D', ..])
+    }
 
-pub fn start_of(head: &[u8]) -> usize
-    requires { length head.now ≡ 12 }
-    ensures { (result ≡ start_of head.now) × (result < 2147483648) }
-{
-    endian::natural_at(head, 8)
-}
+    pub fn count(&self) -> usize
+        ensures { (result ≡ entry_count self.now.bytes.now) × (result < 2147483648) }
+    {
+        endian::natural_at(self.bytes, 4)
+    }
 
-fn bounds_ok(len: usize, head: &[u8]) -> bool
-    requires { (length head.now ≡ 12) × (len ≤ 16777216) }
-    ensures { result ≡ bounds_ok len head.now }
-{
-    endian::between_at(head, 8, 12, len) & (start_of(head) + 16 * count_of(head) <= len)
-}
+    pub fn start(&self) -> usize
+        ensures { (result ≡ start_of self.now.bytes.now) × (result < 2147483648) }
+    {
+        endian::natural_at(self.bytes, 8)
+    }
 
-fn judge_fields(len: usize, head: &[u8]) -> Result<(), Refusal>
-    requires { (length head.now ≡ 12) × (len ≤ 16777216) }
-    ensures { result ≡ fields_check len head.now }
-{
-    refusal::pass_if(mark_ok(head), Refusal::Mark)?;
-    refusal::pass_if(endian::between_at(head, 4, 0, 4096), Refusal::LumpCount)?;
-    refusal::pass_if(bounds_ok(len, head), Refusal::DirectoryBounds)
+    fn bounds_ok(&self, len: usize) -> bool
+        requires { len ≤ 16777216 }
+        ensures { result ≡ bounds_ok len self.now.bytes.now }
+    {
+        endian::between_at(self.bytes, 8, 12, len) & (self.start() + 16 * self.count() <= len)
+    }
+
+    // 2 to 4, of a file of so many bytes.
+    fn judge(&self, len: usize) -> Result<(), Refusal>
+        requires { len ≤ 16777216 }
+        ensures { result ≡ fields_check len self.now.bytes.now }
+    {
+        refusal::pass_if(self.mark_ok(), Refusal::Mark)?;
+        refusal::pass_if(
+            endian::between_at(self.bytes, 4, 0, 4096),
+            Refusal::LumpCount,
+        )?;
+        refusal::pass_if(self.bounds_ok(len), Refusal::DirectoryBounds)
+    }
 }
 
 // 1 to 4. The length is judged before a byte is read.
@@ -59,5 +71,5 @@ pub fn judge_header(wad: &[u8]) -> Result<(), Refusal>
     if !(12..=MOST_BYTES).contains(&wad.len()) {
         return Err(Refusal::FileLength);
     }
-    judge_fields(wad.len(), head_of(wad))
+    Header::of(wad).judge(wad.len())
 }
