@@ -11,6 +11,8 @@ ghost use Rattle.map_lumps.specs.Lumps.{map_lumps, map_lump, record_count};
 pub use run::{Game, Marker, map_game};
 pub use size::judge_reject;
 
+// A place is a number, 1 to 10: refusals name it so, and C's answers have it.
+
 // A map's ten lumps: the entries behind its marker in a file's directory.
 #[derive(Clone, Copy)]
 pub struct MapLumps<'a> {

@@ -28,7 +28,8 @@ pub fn offending(lump: &[u8], linedefs: usize, cell: usize) -> Result<(), Field>
     after_rows(lump, columns.number * rows.number, linedefs, cell)
 }
 
-// What comes after the rows.
+// What comes after the rows. That the lump is no longer than a file is known once its size has been checked. The three steps below
+// ask for it, and a struct that is built between two of them would be no plainer.
 fn after_rows(lump: &[u8], cells: usize, linedefs: usize, cell: usize) -> Result<(), Field>
     requires cells_value { (cells ≡ cells_of lump.now) × (cells ≤ 262144) }
     requires in_bounds { (8 ≤ length lump.now) × (length lump.now ≤ most_bytes) }
