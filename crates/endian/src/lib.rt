@@ -70,8 +70,11 @@ pub fn put_u32(s: &mut [u8], at: usize, v: u32)
     requires { at + 3 < length s.old }
     ensures { s.new ≡ put_u32 s.old at v }
 {
-    put_u16(s, at, (v % 65536) as u16);
-    put_u16(s, at + 2, (v / 65536) as u16);
+    let [first, second, third, fourth] = v.to_le_bytes();
+    s[at] = first;
+    s[at + 1] = second;
+    s[at + 2] = third;
+    s[at + 3] = fourth;
 }
 
 pub fn put_i16(s: &mut [u8], at: usize, v: i16)

@@ -6,7 +6,7 @@ use mathlib.Core.List.{List, [], ◌∷◌}
 use mathlib.Core.Path.{◌≡◌, refl, sym, ◌∙◌}
 use native.Mathlib.Omega.{arith}
 use native.Mathlib.Numerals.{add-one}
-use borrow.Author.Tests.{eqb-true, eqb-false, ne_eqb, lt-ltb}
+use borrow.Author.Tests.{eqb-true, eqb-false, eq-eqb, ne_eqb, lt-ltb}
 use lib.Dec.{ltb, eqb}
 use lib.ListN.{length, drop, get_or}
 use lib.Seq.{drop-cons, drop-length}
@@ -64,6 +64,22 @@ alike_by c d cs ds false false e f = rw (name_on c cs e, name_on d ds f)
 
 alike_more : (c d : ℕ) (cs ds : List ℕ) → same_name (c ∷ cs) (d ∷ ds) ≡ (eqb c d && (eqb c 0 || same_name cs ds))
 alike_more c d cs ds = alike_by c d cs ds (eqb c 0) (eqb d 0) refl refl
+
+-- names that begin with two bytes, which differ, are the name's end, or are one more character
+pub same-differ : (c d : ℕ) (cs ds : List ℕ) → (c ≡ d → ⊥) → same_name (c ∷ cs) (d ∷ ds) ≡ false
+same-differ c d cs ds h = alike_more c d cs ds ∙ rw (ne_eqb c d h)
+
+pub same-end : (c d : ℕ) (cs ds : List ℕ) → c ≡ d → c ≡ 0 → same_name (c ∷ cs) (d ∷ ds) ≡ true
+same-end c d cs ds h e = alike_more c d cs ds ∙ rw (eq-eqb c d h, eq-eqb c 0 e)
+
+pub same-on : (c d : ℕ) (cs ds : List ℕ) → c ≡ d → (c ≡ 0 → ⊥) → same_name (c ∷ cs) (d ∷ ds) ≡ same_name cs ds
+same-on c d cs ds h e = alike_more c d cs ds ∙ rw (eq-eqb c d h, ne_eqb c 0 e)
+
+-- nothing is left of one, and so of both
+pub same-done : (cs ds : List ℕ) → length cs ≡ length ds → length cs ≡ 0 → same_name cs ds ≡ true
+same-done [] [] h e = refl
+same-done [] (d ∷ ds) h e = absurd (omega arith)
+same-done (c ∷ cs) ds h e = absurd (omega arith)
 
 -- ---- the bytes from `i` on
 

@@ -16,24 +16,24 @@ pub fn name_ok(name: &[u8]) -> bool
     requires { length name.now ≡ 8 }
     ensures { result ≡ name_ok name.now }
 {
-    for i in 0..8 {
-        if !character_ok(name[i]) {
-            return (0 < i) & (name[i] == 0);
+    for (i, &c) in name.iter().enumerate() {
+        if !character_ok(c) {
+            return (0 < i) & (c == 0);
         }
     }
     true
 }
 
-// The same up to a zero that both have, or in all eight bytes.
+// The same up to a zero that both have, or in all eight bytes: not `a == b`, which compares what follows the zero.
 pub fn same_name(a: &[u8], b: &[u8]) -> bool
     requires { (length a.now ≡ 8) × (length b.now ≡ 8) }
     ensures { result ≡ same_name a.now b.now }
 {
-    for i in 0..8 {
-        if a[i] != b[i] {
+    for (x, y) in a.iter().zip(b) {
+        if x != y {
             return false;
         }
-        if a[i] == 0 {
+        if *x == 0 {
             return true;
         }
     }

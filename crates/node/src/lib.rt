@@ -8,7 +8,8 @@ ghost use Rattle.node.specs.Nodes.{child_of, child_ok, node_ok};
 
 use record::Node;
 
-// A word from here on is a subsector's, a word below it a node's.
+// A word from here on is a subsector's, a word below it a node's. A child stays the format's own number and is no enum: the theorems
+// on routes and descents speak of it.
 pub const SUBSECTOR_BIT: usize = 32768;
 
 // A choice at a node: which child is taken.

@@ -76,9 +76,10 @@ pub record LoopMet (nodes : List ℕ) (mark : ℕ → ℕ) (n : ℕ) : Type 0 wh
   pub told : (j : ℕ) → j < n
       → path_choice nodes mark (word_after nodes (loop_choice nodes) j) ≡ loop_choice nodes (word_after nodes (loop_choice nodes) j)
 
--- what a step from `before` to `after` answers: the loop that it meets, or the path's new length
+-- what a step from `before` to `after` answers: the loop that it meets, which as many choices lead into as there are nodes on the path,
+-- or the path's new length
 abbrev pub Stepped : List ℕ → ℕ → List ℕ → ℕ → List ℕ → Result ℕ LoopError → Type 0
-Stepped nodes count before sp after (Err e) = LoopMet nodes (mark_of after) e.choices
+Stepped nodes count before sp after (Err e) = (e.choices ≡ sp) × LoopMet nodes (mark_of after) sp
 Stepped nodes count before sp after (Ok next) =
     State nodes count after next × (effort after count next < effort before count sp)
 

@@ -119,6 +119,7 @@ impl NodeGraph<'_> {
     {
         start(words, self.count);
         let mut sp = 1;
+        // No `for`: a step lengthens the path or shortens it, as the marks tell.
         while 0 < sp {
             sp = self.take_step(words, sp)?;
         }

@@ -88,6 +88,7 @@ pub fn skip_posts(lump: &[u8], from: usize, row: u8, notes: &mut [u8]) -> usize
     if 4 <= at % 1024 {
         return at;
     }
+    // No `for` and no iterator: how far a step goes is what `skip_block` answers.
     loop {
         let to = EmptyPosts { lump, at, row }.skip_block(notes);
         if to - at < 1024 {

@@ -64,6 +64,7 @@ impl Canvas<'_> {
     {
         let lump = self.lump;
         let mut at = from;
+        // No `for` and no iterator: how far a step goes is what `skip_posts` answers.
         loop {
             let start = lump[at];
             if start == 255 {

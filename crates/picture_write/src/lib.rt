@@ -6,10 +6,12 @@ ghost use Rattle.picture_header.specs.declared.Picture.{Picture};
 ghost use Rattle.picture_write.specs.Lump.{written_of, written_length};
 ghost use Rattle.picture_write.specs.Encoding.{encode_check, Encoded};
 
+mod cover;
 mod given;
 mod header;
 mod pixels;
 
+use cover::Cover;
 use picture_header::Picture;
 use pixels::Pixels;
 use refusal::Refusal;
@@ -25,16 +27,19 @@ pub fn encode(
     ensures { Encoded picture colour.now cover.now out.old result out.new }
 {
     given::judge_given(picture.width, picture.height, colour.len(), cover)?;
-    let pixels = Pixels {
-        colour,
-        cover,
+    let covered = Cover {
+        bytes: cover,
         width: picture.width,
         height: picture.height,
     };
-    let length = pixels.written_length();
+    let length = covered.written_length();
     if out.len() < length {
         return Err(Refusal::EncodeRoom);
     }
+    let pixels = Pixels {
+        cover: covered,
+        colour,
+    };
     pixels.write_columns(out);
     header::write_header(picture, out);
     Ok(length)

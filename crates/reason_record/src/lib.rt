@@ -25,7 +25,7 @@ const RIGHT: usize = 24;
 
 const LEFT: usize = 26;
 
-// Refused with the first field of a linedef that is out of its range.
+// Refused with the first field of a linedef that is out of its range. The game is a flag here and below, as C's functions take it.
 pub fn check_linedef(
     hexen: bool,
     linedefs: &[u8],

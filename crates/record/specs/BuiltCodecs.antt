@@ -29,7 +29,10 @@ pub subsector : Codec subsector_size subsector_of subsector_bytes SubsectorFits
 subsector =
     record {
       length_encode = λ s. refl;
-      decode_encode = λ s h. simp u16_whole;
+      decode_encode = λ s h. λ i. record {
+        number = u16_whole s.number i;
+        first = u16_whole s.first i;
+      };
       encode_decode = written-whole (number ∷ number ∷ []);
     }
 

@@ -1,6 +1,6 @@
 -- Laws of a record's fields: signed ones as the code moves them, fields read out of the bytes that were made of them, and
 -- bytes that are made field by field. Assumes nothing.
-use Prim.Native.Nat.{ℕ, zero, suc, ◌+◌, ◌-◌, ◌*◌, ◌/◌, ◌%◌}
+use Prim.Native.Nat.{ℕ, zero, suc, ◌+◌, ◌-◌, ◌*◌, ◌/◌, ◌%◌, ◌≤◌}
 use mathlib.Core.Bool.{Bool, true, ◌&&◌}
 use mathlib.Core.List.{List, [], ◌∷◌}
 use mathlib.Core.Path.{◌≡◌, refl, sym, ap, ◌∙◌}
@@ -13,7 +13,7 @@ use lib.IntN.{ℤ, pos, negsuc}
 use mir.Syntax.{w16}
 use mir.Val.{to_z, of_z}
 use mir.ValLaws.{to_z-of_z}
-use Rattle.endian.specs.Unsigned.{put_u16}
+use Rattle.endian.specs.Unsigned.{Bytes, put_u16}
 use Rattle.endian.specs.Signed.{i16_at, bits_of, signed, between}
 use Rattle.endian.proofs.Unsigned.{u16_whole}
 use Rattle.endian.proofs.Signed.{signed-bits}
@@ -30,6 +30,14 @@ signed-field {z} h e = to_z-of_z w16 z (record { sfits = h }) ∙ e
 -- a signed field handed on
 pub field-bits : (z : ℤ) → Int16 z → bits_of 32768 (to_z w16 (of_z w16 z)) ≡ bits_of 32768 z
 field-bits z h = ap (bits_of 32768) (to_z-of_z w16 z (record { sfits = h }))
+
+-- ---- a byte in a wider field
+
+pub byte-whole : (n : ℕ) → n ≤ 255 → n % 256 ≡ n
+byte-whole n h = omega arith
+
+pub byte-most : (bytes : List ℕ) (i : ℕ) → Bytes bytes → get_or bytes i 0 ≤ 255
+byte-most bytes i h = let small = h i in omega arith
 
 -- ---- a field of the bytes that were made of it
 

@@ -114,9 +114,15 @@ module _ (lump : List ℕ) (size index : ℕ) where
           )
           (take_all size bytes (le_of_eq long))
 
+      pub inside-replaced : inside lump size index ≡ true → inside (replaced lump size index bytes) size index ≡ true
+      inside-replaced e = ap (λ (n : ℕ). ltb index (n / size)) length-replaced ∙ e
+
+      pub record_bytes-replaced : inside lump size index ≡ true
+          → record_bytes (replaced lump size index bytes) size index ≡ bytes
+      record_bytes-replaced e = rw e (record_bytes-paste (inside-fits e))
+
       pub bytes_or_zeros-replaced : inside lump size index ≡ true
           → bytes_or_zeros (replaced lump size index bytes) size index ≡ bytes
       bytes_or_zeros-replaced e =
-          let same : inside (replaced lump size index bytes) size index ≡ true =
-          ap (λ (n : ℕ). ltb index (n / size)) length-replaced ∙ e in
+          let same = inside-replaced e in
           rw (same, e) (record_bytes-paste (inside-fits e))

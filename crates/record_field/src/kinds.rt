@@ -97,7 +97,7 @@ pub trait GameRecord<const DOOM: usize, const HEXEN: usize>: Copy {
 
     ghost accepted: { (hexen : Bool) (bytes : List ℕ) → Bytes bytes → good (fields_of hexen bytes) ≡ true };
 
-    // The size of a record by its game.
+    // The size of a record by its game: `hexen` is a flag here and below, as C's functions take it and C's structs have it.
     final fn size(hexen: bool) -> usize
         ensures { result ≡ cond hexen HEXEN DOOM }
     {

@@ -1,10 +1,9 @@
 -- Linedefs: the fields, read out of the bytes that were made of them, are those fields, and the bytes are the row of the fields, by the
 -- game. Assumes nothing.
-use Prim.Native.Nat.{ℕ, ◌%◌, ◌≤◌}
+use Prim.Native.Nat.{ℕ}
 use mathlib.Core.Bool.{Bool, true, false, ◌&&◌, cond}
 use mathlib.Core.Path.{◌≡◌, refl, sym, ap, ◌∙◌}
 use mathlib.Core.List.{List, [], ◌∷◌, ◌++◌}
-use native.Mathlib.Omega.{arith}
 use borrow.Author.Tests.{eqb-true, leb-true, le-leb}
 use lib.Dec.{leb, eqb}
 use lib.ListN.{get_or}
@@ -13,13 +12,10 @@ use Rattle.endian.proofs.Unsigned.{u16_whole}
 use Rattle.refusal.proofs.Checks.{both}
 use Rattle.record_field.specs.Fields.{args_at, args_zero, action_bytes}
 use Rattle.record_field.specs.Lossless.{Codec}
-use Rattle.record_field.proofs.Fields.{args-whole, args_none}
+use Rattle.record_field.proofs.Fields.{byte-whole, byte-most, args-whole, args_none}
 use Rattle.record_field.proofs.FieldRows.{byte, number, written-whole}
 use Rattle.record_linedef.specs.declared.Linedef.{Linedef}
 use Rattle.record_linedef.specs.Linedefs.{linedef_size, linedef_of, linedef_fields_ok, linedef_bytes, LinedefFits}
-
-byte-whole : (n : ℕ) → n ≤ 255 → n % 256 ≡ n
-byte-whole n h = omega arith
 
 -- its test by the game
 abbrev fields : Linedef → Bool → Bool
@@ -66,13 +62,10 @@ linedef true =
             left = u16_whole l.left i;
           };
       encode_decode = λ bytes e h.
-          let low : get_or bytes 6 0 ≤ 255 = (let small = h 6 in omega arith) in
-          ap (special_first bytes) (byte-whole (get_or bytes 6 0) low)
+          ap (special_first bytes) (byte-whole (get_or bytes 6 0) (byte-most bytes 6 h))
           ∙ written-whole (number ∷ number ∷ number ∷ byte ∷ byte ∷ byte ∷ byte ∷ byte ∷ byte ∷ number ∷ number ∷ []) bytes e h;
     }
 
 pub linedef-good : (hexen : Bool) (bytes : List ℕ) → Bytes bytes → linedef_fields_ok (linedef_of hexen bytes) ≡ true
-linedef-good true bytes h =
-    let low : get_or bytes 6 0 ≤ 255 = (let small = h 6 in omega arith) in
-    rw (le-leb (get_or bytes 6 0) 255 low)
+linedef-good true bytes h = ap (λ (b : Bool). b && true) (le-leb (get_or bytes 6 0) 255 (byte-most bytes 6 h))
 linedef-good false bytes h = refl

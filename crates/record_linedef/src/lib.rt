@@ -16,7 +16,7 @@ pub const NO_SIDEDEF: usize = 65535;
 #[repr(C)]
 #[derive(Clone, Copy)]
 pub struct Linedef {
-    // Hexen's record, else Doom's
+    // Hexen's record, else Doom's: a flag and no enum, as C's struct has it
     pub hexen: bool,
     // numbers of vertices
     pub start: u16,

@@ -115,7 +115,7 @@ pub fn lump_name(place: usize) -> [u8; 8]
     LUMPS[place - 1].name
 }
 
-// The size of its records by the game.
+// The size of its records by the game: a flag and no enum, as C's functions take it.
 pub fn record_size(hexen: bool, place: usize) -> usize
     requires { (1 ≤ place) × (place ≤ 10) }
     ensures { result ≡ record_size hexen place }

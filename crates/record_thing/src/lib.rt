@@ -12,7 +12,7 @@ use record_field::GameRecord;
 #[repr(C)]
 #[derive(Clone, Copy)]
 pub struct Thing {
-    // Hexen's record, else Doom's
+    // Hexen's record, else Doom's: a flag and no enum, as C's struct has it
     pub hexen: bool,
     // scripts know it by this number
     pub id: i16,

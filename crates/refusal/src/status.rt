@@ -4,7 +4,8 @@ ghost use Rattle.refusal.specs.Status.{refused, status_of, length_of};
 
 use crate::Refusal;
 
-// The refusal's number, place and record; all 0 where nothing was refused.
+// The refusal's number, place and record; all 0 where nothing was refused. C's struct has these three numbers, so that no enum stands
+// for it; inside a check answers a `Result`.
 #[repr(C)]
 #[derive(Clone, Copy)]
 pub struct Status {
@@ -44,7 +45,7 @@ impl From<Result<(), Refusal>> for Status {
     }
 }
 
-// How many bytes were written; 0 with a refusal.
+// How many bytes were written; 0 with a refusal. C's struct has the length beside the status, so that no `Result` stands for it.
 #[repr(C)]
 #[derive(Clone, Copy)]
 pub struct LengthAnswer {

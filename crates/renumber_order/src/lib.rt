@@ -18,7 +18,7 @@ use node_graph::NodeGraph;
 use record::Node;
 use refusal::Refusal;
 
-// 31 and 32, then the list.
+// 31 and 32, then the list. The lump and its count come apart, as `node_graph::judge` takes them; below they are one `NodeGraph`.
 pub fn judge_graph(
     nodes: &[u8],
     count: usize,

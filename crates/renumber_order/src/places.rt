@@ -1,5 +1,6 @@
 // The places of a list of old numbers (W-212), held in the second run of words: each number is a marked node, and stands in the list
-// once. The search of `node_graph` left its marks in the first run.
+// once. The search of `node_graph` left its marks in the first run. The words and the count of nodes, where the second run begins, come
+// apart: what that search promises of its marks (`Explored`) speaks of the words as one list, so that two slices would be no plainer.
 ghost use Rattle.std.specs.Prelude.{◌≡◌, ◌+◌, ◌*◌, ◌≤◌, length};
 ghost use Rattle.renumber_order.specs.Places.{marked_below, PlacesHeld, free_ok, Emptied, Filled};
 

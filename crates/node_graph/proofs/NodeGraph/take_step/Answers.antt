@@ -2,7 +2,7 @@
 -- Assumes nothing.
 use Prim.Native.Nat.{ℕ, ◌-◌}
 use mathlib.Core.List.{List}
-use mathlib.Core.Path.{subst, subst⁻¹}
+use mathlib.Core.Path.{refl, subst, subst⁻¹}
 use Rattle.node_graph.specs.declared.Look.{Look}
 use Rattle.node_graph.specs.Looks.{path_of}
 use Rattle.node_graph.proofs.Looks.{SaidBelow}
@@ -32,7 +32,7 @@ returns-in-New c =
 pub returns-in-OnPath : goal.returns-in-OnPath
 returns-in-OnPath c =
     let (way, l, on, due) = subst (Said c.args.self.now.nodes.now c.args.self.now.count c.args.words.now c.args.sp) c.in-OnPath.is (said (goal.at.returns-in-OnPath c).After-look_below) in
-    top_looped _ _ _ (searchable c.args.self.now c.requires.0) _ c.requires.1 c.requires.2 way l on due
+    (refl, top_looped _ _ _ (searchable c.args.self.now c.requires.0) _ c.requires.1 c.requires.2 way l on due)
 
 pub returns-in-Height : goal.returns-in-Height
 returns-in-Height c =

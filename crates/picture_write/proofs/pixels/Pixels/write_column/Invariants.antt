@@ -12,11 +12,11 @@ use Rattle.picture_write.proofs.pixels.Pixels.write_column.Given as goal
 
 abbrev pub invariant-loop-row : goal.invariant-loop-row
 invariant-loop-row l =
-    (l.row ≤ l.self.height)
-    × (l.row < l.self.height → above_of (covered_at l.self.cover.now l.self.width l.column) l.row ≡ false)
-    × (l.to ≡ l.from + length (posts (pixel_at l.self.colour.now l.self.width l.column) (covered_at l.self.cover.now l.self.width l.column) l.self.height l.row))
-    × (l.out ≡ sets l.initial.out l.from (posts (pixel_at l.self.colour.now l.self.width l.column) (covered_at l.self.cover.now l.self.width l.column) l.self.height l.row))
+    (l.row ≤ l.self.cover.height)
+    × (l.row < l.self.cover.height → above_of (covered_at l.self.cover.bytes.now l.self.cover.width l.column) l.row ≡ false)
+    × (l.to ≡ l.from + length (posts (pixel_at l.self.colour.now l.self.cover.width l.column) (covered_at l.self.cover.bytes.now l.self.cover.width l.column) l.self.cover.height l.row))
+    × (l.out ≡ sets l.initial.out l.from (posts (pixel_at l.self.colour.now l.self.cover.width l.column) (covered_at l.self.cover.bytes.now l.self.cover.width l.column) l.self.cover.height l.row))
 
 abbrev pub decreases-loop-row : goal.decreases-loop-row
 decreases-loop-row l =
-    l.self.height - l.row
+    l.self.cover.height - l.row

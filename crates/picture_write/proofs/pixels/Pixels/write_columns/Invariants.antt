@@ -6,4 +6,4 @@ use Rattle.picture_write.proofs.pixels.Pixels.write_columns.Given as goal
 
 abbrev pub invariant-loop-column : goal.invariant-loop-column
 invariant-loop-column l =
-    (l.to ≡ start_of_column l.self.width l.self.height l.self.cover.now l.column) × (l.out ≡ stored l.self.width l.self.height l.self.colour.now l.self.cover.now l.initial.out l.column)
+    (l.to ≡ start_of_column l.self.cover.width l.self.cover.height l.self.cover.bytes.now l.column) × (l.out ≡ stored l.self.cover.width l.self.cover.height l.self.colour.now l.self.cover.bytes.now l.initial.out l.column)

@@ -18,13 +18,13 @@ use Rattle.picture_write.proofs.pixels.Pixels.write_post.Goals as goal
 pub loop-i-init : goal.loop-i-init
 loop-i-init c =
     let a = c.args.self.now in
-    (rw (list_of-none (pixel_at a.colour.now a.width c.args.column) c.args.row), refl)
+    (rw (list_of-none (pixel_at a.colour.now a.cover.width c.args.column) c.args.row), refl)
 
 pub loop-i-preserved : goal.loop-i-preserved
 loop-i-preserved c =
     let l = c.loop-i in
     let a = c.args.self.now in
-    let f = pixel_at a.colour.now a.width c.args.column in
+    let f = pixel_at a.colour.now a.cover.width c.args.column in
     let place : c.args.at + 3 + l.i ≡ c.args.at + 3 + length (list_of f c.args.row l.i) = omega (arith, length-list_of f c.args.row l.i) in (
       (λ i. set (l.invariant.0 i) (c.args.at + 3 + l.i) (c.colour_at.ensures i))
           ∙ sets_push _ (c.args.at + 3) (list_of f c.args.row l.i) _ _ place
@@ -36,7 +36,7 @@ pub returns : goal.returns
 returns c =
     let l = c.loop-i in
     let a = c.args.self.now in
-    let f = pixel_at a.colour.now a.width c.args.column in
+    let f = pixel_at a.colour.now a.cover.width c.args.column in
     let e : l.i ≡ c.args.count = search rules in
     let place : c.args.at + 3 + c.args.count ≡ c.args.at + 3 + length (list_of f c.args.row l.i) = omega (arith, length-list_of f c.args.row l.i, e) in
     ap (λ (x : List ℕ). set x (c.args.at + 3 + c.args.count) 0) l.invariant.0

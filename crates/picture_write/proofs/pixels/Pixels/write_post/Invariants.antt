@@ -10,4 +10,4 @@ use Rattle.picture_write.proofs.pixels.Pixels.write_post.Given as goal
 
 abbrev pub invariant-loop-i : goal.invariant-loop-i
 invariant-loop-i l =
-    (l.out ≡ sets l.initial.out (l.at + 3) (list_of (pixel_at l.self.colour.now l.self.width l.column) l.row l.i)) × (length l.out ≡ length l.initial.out)
+    (l.out ≡ sets l.initial.out (l.at + 3) (list_of (pixel_at l.self.colour.now l.self.cover.width l.column) l.row l.i)) × (length l.out ≡ length l.initial.out)

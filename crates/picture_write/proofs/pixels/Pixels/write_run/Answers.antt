@@ -18,17 +18,17 @@ some colour row (suc count) h = refl
 -- the bytes that are written are the post
 post : (c : Else-count-eq0)
     → (let a = c.args.self.now in
-    let f = pixel_at a.colour.now a.width c.args.column in run_bytes f c.args.row c.args.count ≡ post_of f c.args.row c.args.count)
-post c = let a = c.args.self.now in some (pixel_at a.colour.now a.width c.args.column) c.args.row c.args.count (omega (arith, c.if-count-eq0.false))
+    let f = pixel_at a.colour.now a.cover.width c.args.column in run_bytes f c.args.row c.args.count ≡ post_of f c.args.row c.args.count)
+post c = let a = c.args.self.now in some (pixel_at a.colour.now a.cover.width c.args.column) c.args.row c.args.count (omega (arith, c.if-count-eq0.false))
 
 pub write_post-requires-clause-room : goal.write_post-requires-clause-room
 write_post-requires-clause-room c =
     let a = c.args.self.now in
-    let e = ap length (post (goal.at.write_post-requires-clause-room c).Else-count-eq0) ∙ length-post (pixel_at a.colour.now a.width c.args.column) c.args.row c.args.count in
+    let e = ap length (post (goal.at.write_post-requires-clause-room c).Else-count-eq0) ∙ length-post (pixel_at a.colour.now a.cover.width c.args.column) c.args.row c.args.count in
     omega (arith, e, c.requires.room)
 
 pub returns-clause-value : goal.returns-clause-value
 returns-clause-value c =
     let a = c.args.self.now in
-    let e = ap length (post (goal.at.returns-clause-value c).Else-count-eq0) ∙ length-post (pixel_at a.colour.now a.width c.args.column) c.args.row c.args.count in
+    let e = ap length (post (goal.at.returns-clause-value c).Else-count-eq0) ∙ length-post (pixel_at a.colour.now a.cover.width c.args.column) c.args.row c.args.count in
     omega (arith, e)

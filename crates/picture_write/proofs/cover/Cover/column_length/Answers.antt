@@ -1,4 +1,4 @@
--- `picture_write::pixels::Pixels::column_length` meets its contract: so many runs begin and so many pixels are covered above `row`.
+-- `picture_write::cover::Cover::column_length` meets its contract: so many runs begin and so many pixels are covered above `row`.
 -- Assumes nothing.
 use Prim.Native.Nat.{ℕ, ◌+◌}
 use mathlib.Core.Bool.{Bool, true, false, ◌&&◌, not, cond}
@@ -10,7 +10,7 @@ use Rattle.layout.specs.Rows.{count_of}
 use Rattle.picture_write.specs.Runs.{begins}
 use Rattle.picture_write.specs.Pixels.{covered_at}
 use Rattle.layout.proofs.LaidOut.{sum-none, sum_more, count_most}
-use Rattle.picture_write.proofs.pixels.Pixels.column_length.Goals as goal
+use Rattle.picture_write.proofs.cover.Cover.column_length.Goals as goal
 
 one : (b : Bool) → bool_byte b ≡ cond b 1 0
 one true = refl
@@ -28,7 +28,7 @@ pub loop-row-preserved : goal.loop-row-preserved
 loop-row-preserved c =
     let l = c.loop-row in
     let a = c.args.self.now in
-    let covered = covered_at a.cover.now a.width c.args.column in
+    let covered = covered_at a.bytes.now a.width c.args.column in
     let e : begins covered l.row ≡ (covered l.row && not l.above) = ap (λ (b : Bool). covered l.row && not b) (sym l.invariant.2) in
     let begun : (c.covers-here.result && not l.above) ≡ begins covered l.row = ap (λ (b : Bool). b && not l.above) c.covers-here.ensures ∙ sym e in
     let runs = counted (begins covered) l.row l.invariant.0 begun in
