@@ -1,5 +1,5 @@
 -- `difference::compare_maps` meets its contract: the old map is refused, or the new one, or both are compared. Assumes nothing.
-use Rattle.std.proofs.Common.{rules, ℕ, ◌≡◌, refl, sym, ap, ◌∙◌, Ok, Err}
+use Rattle.std.proofs.Common.{rules, ◌≡◌}
 use Rattle.map_check.specs.Verdict.{accepted, verdict}
 use Rattle.difference.proofs.Accepting.{accepted-map, accepted-numbered}
 use Rattle.difference.proofs.Answering.{differ, lifted-ok, lifted-err}

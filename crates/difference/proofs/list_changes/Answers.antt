@@ -1,8 +1,8 @@
 -- `difference::list_changes` meets its contract: 76, 75, or the counts and the list. Assumes nothing.
-use Rattle.std.proofs.Common.{rules, ℕ, ◌≤◌, ◌<◌, Bool, List, ◌≡◌, refl, sym, ap, ◌∙◌, length, arith, Ok}
+use Rattle.std.proofs.Common.{rules, Bool, ap, ◌∙◌, arith, Ok}
 use mathlib.Core.Path.{subst⁻¹}
 use Rattle.std.specs.Prelude.{sum}
-use Rattle.difference.specs.Differences.{changes_in, game_in, lumps_in}
+use Rattle.difference.specs.Differences.{game_in, lumps_in}
 use Rattle.difference.specs.Inner.Lumps.{Numbered}
 use Rattle.difference.proofs.Answering.{counted-few, refused-games, one-game, refused-room, fits, all-listed}
 use Rattle.difference.proofs.list_changes.Goals as goal
