@@ -129,14 +129,11 @@ fn low_after(low: u8, bytes: usize, scrap: &[u8]) -> u8
     requires { bytes + length scrap.now ≤ most_bytes + 1 }
     ensures { result ≡ low_after low bytes scrap.now (length scrap.now) }
 {
-    if scrap.len() == 0 {
-        return low;
+    match scrap.last() {
+        None => low,
+        Some(&last) if (bytes + scrap.len() - 1) % Sidedef::SIZE == LOW => last,
+        Some(_) => 0,
     }
-    let last = scrap.len() - 1;
-    if (bytes + last) % Sidedef::SIZE == LOW {
-        return scrap[last];
-    }
-    0
 }
 
 // A choice as a value: the state is made anew in one expression and stays in registers.
