@@ -1,5 +1,5 @@
 -- What is answered of two accepted maps, by the two tests. Assumes nothing.
-use Rattle.std.proofs.Common.{ℕ, ◌+◌, ◌*◌, ◌≤◌, ◌<◌, Bool, true, false, List, ◌≡◌, refl, leb, sym, ap, ◌∙◌, length, arith}
+use Rattle.std.proofs.Common.{ℕ, ◌+◌, ◌≤◌, Bool, true, false, List, ◌≡◌, refl, leb, sym, ap, ◌∙◌, length, arith}
 use Rattle.std.specs.Prelude.{sum, Result, Ok, Err}
 use Rattle.refusal.specs.declared.Refusal.{Refusal}
 use Rattle.refusal.specs.Checks.{Check}

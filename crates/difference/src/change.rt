@@ -36,7 +36,13 @@ impl<'a, 'b> Versions<'a, 'b> {
         ensures { result ≡ changed self.now.size self.now.old.now self.now.new.now i }
     {
         let at = self.size * i;
-        !self.same(at, at + self.size)
+        match self.old.get(at..at + self.size) {
+            Some(old) => old
+                .iter()
+                .zip(&self.new[at..at + self.size])
+                .any(|(a, b)| a != b),
+            None => true,
+        }
     }
 
     // Whether the old lump has all of a block's records, and the same.
@@ -79,6 +85,7 @@ impl<'a, 'b> Versions<'a, 'b> {
         if self.same_block(i, n) {
             return 0;
         }
+        // `list.iter_mut().zip(..)` would not tell how many there were, so that the place is counted
         let mut count = 0;
         for j in 0..n {
             if self.is_changed(i + j) {

@@ -6,8 +6,8 @@ mod change;
 mod places;
 
 ghost use Rattle.std.specs.Prelude.{◌≡◌, ◌<◌, ◌^◌, sum};
-ghost use Rattle.difference.specs.Differences.{Differ};
-ghost use Rattle.difference.specs.Inner.Lumps.{Compared};
+ghost use Rattle.difference.specs.Differences.{game_in, lumps_in, Differ};
+ghost use Rattle.difference.specs.Inner.Lumps.{Numbered, Compared};
 
 use places::Map;
 use refusal::Refusal;
@@ -52,6 +52,7 @@ pub fn compare_maps(
 
 // Both are accepted: 76, 75, and the list.
 fn list_changes(old: &Map, new: &Map, list: &mut [u16]) -> Result<[usize; 8], Refusal>
+    requires { Numbered (game_in new.now.wad.now new.now.marker) (lumps_in new.now.wad.now new.now.marker) }
     ensures { Compared old.now.wad.now old.now.marker new.now.wad.now new.now.marker list.old result list.new }
 {
     refusal::pass_if(old.is_hexen() == new.is_hexen(), Refusal::DifferenceGames)?;

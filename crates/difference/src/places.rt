@@ -7,14 +7,14 @@ ghost use Rattle.difference.specs.Inner.Changes.{begun_with};
 ghost use Rattle.difference.specs.Inner.Lumps.{MapIn, Numbered};
 
 use crate::change::Versions;
+use map_lumps::{MapLumps, Marker};
 
-// A map that is accepted: its ten lumps are there, and 16 bits number the records of each.
+// A map whose ten lumps are there: a file that passes, and the entry of the marker.
 #[derive(Clone, Copy)]
 pub struct Map<'a> {
     pub wad: &'a [u8],
     pub marker: usize,
     ghost has_lumps: { MapIn wad.now marker },
-    ghost numbered: { Numbered (game_in wad.now marker) (lumps_in wad.now marker) },
 }
 
 impl<'a> Map<'a> {
@@ -22,11 +22,12 @@ impl<'a> Map<'a> {
     pub fn is_hexen(&self) -> bool
         ensures { result ≡ game_in self.now.wad.now self.now.marker }
     {
-        map_lumps::game_at(
-            wad::directory_of(self.wad),
-            wad::entry_count(self.wad),
-            self.marker,
-        )
+        let marker = Marker {
+            dir: wad::directory_of(self.wad),
+            count: wad::entry_count(self.wad),
+            entry: self.marker,
+        };
+        marker.is_hexen()
     }
 
     // The lump at a place.
@@ -34,7 +35,12 @@ impl<'a> Map<'a> {
         requires { (1 ≤ place) × (place ≤ 10) }
         ensures { result.now ≡ map_lump (lumps_in self.now.wad.now self.now.marker) place }
     {
-        map_lumps::map_lump(self.wad, wad::directory_of(self.wad), self.marker, place)
+        let lumps = MapLumps {
+            wad: self.wad,
+            dir: wad::directory_of(self.wad),
+            marker: self.marker,
+        };
+        lumps.lump(place)
     }
 }
 
@@ -68,7 +74,7 @@ pub fn count_all(old: &Map, new: &Map) -> [usize; 8]
 
 // The numbers of all, lump after lump, into the front of the list.
 pub fn write_all(old: &Map, new: &Map, list: &mut [u16])
-    requires one_game { game_in old.now.wad.now old.now.marker ≡ game_in new.now.wad.now new.now.marker }
+    requires numbered { Numbered (game_in old.now.wad.now old.now.marker) (lumps_in new.now.wad.now new.now.marker) }
     requires room { length (changes_in (game_in old.now.wad.now old.now.marker)
         (lumps_in old.now.wad.now old.now.marker) (lumps_in new.now.wad.now new.now.marker)) ≤ length list.old }
     ensures { list.new ≡ begun_with (changes_in (game_in old.now.wad.now old.now.marker)

@@ -4,15 +4,16 @@
 
 mod writing;
 
-ghost use Rattle.std.specs.Prelude.{◌≡◌, ◌*◌, ◌<◌, Ok};
+ghost use Rattle.std.specs.Prelude.{◌≡◌, ◌*◌, ◌≤◌, ◌<◌, length, Ok};
 ghost use Rattle.wad.specs.Header.{head_of, entry_count};
 ghost use Rattle.wad.specs.Entries.{file_check};
 ghost use Rattle.node.specs.Nodes.{nodes_of};
 ghost use Rattle.node_graph.specs.Judging.{Judgeable, cleared};
-ghost use Rattle.node_graph.specs.Searching.{Searchable};
 ghost use Rattle.renumber.specs.Renumbering.{Renumbers};
 ghost use Rattle.renumber.specs.Inner.{RenumbersAt, NodesRenumbered};
 
+use map_lumps::{MapLumps, Marker};
+use node_graph::NodeGraph;
 use record::Node;
 use refusal::Refusal;
 
@@ -45,14 +46,14 @@ fn renumber_at(
         out.old result words.new out.new }
 {
     let dir = wad::directory_of(wad);
-    let count = wad::entry_count(wad);
-    map_check::judge_below(wad, dir, count, marker, words.len())?;
-    renumber_nodes(
-        map_lumps::map_lump(wad, dir, marker, Node::PLACE),
-        words,
-        order,
-        out,
-    )
+    let entry = Marker {
+        dir,
+        count: wad::entry_count(wad),
+        entry: marker,
+    };
+    map_check::judge_below(wad, &entry, words.len())?;
+    let lumps = MapLumps { wad, dir, marker };
+    renumber_nodes(lumps.lump(Node::PLACE), words, order, out)
 }
 
 // From 31 on. The words are cleared in every case.
@@ -73,23 +74,23 @@ fn renumber_nodes(
         return Ok(0);
     }
     let used = 4 * count;
-    let answer = renumber_some(nodes, count, &mut words[..used], order, out);
+    let graph = NodeGraph { nodes, count };
+    let answer = renumber_some(&graph, &mut words[..used], order, out);
     node_graph::clear(words, used);
     answer
 }
 
 // At least one node.
 fn renumber_some(
-    nodes: &[u8],
-    count: usize,
+    graph: &NodeGraph,
     words: &mut [u16],
     order: &[u16],
     out: &mut [u8],
 ) -> Result<usize, Refusal>
-    requires { Searchable nodes.now count words.old }
-    ensures { NodesRenumbered nodes.now order.now out.old result out.new }
+    requires { 2 * graph.now.count ≤ length words.old }
+    ensures { NodesRenumbered graph.now.nodes.now order.now out.old result out.new }
 {
-    renumber_order::judge_graph(nodes, count, words, order, out.len())?;
-    writing::write_nodes(nodes, count, words, order, out);
+    renumber_order::judge_graph(graph.nodes, graph.count, words, order, out.len())?;
+    writing::write_nodes(graph, words, order, out);
     Ok(Node::SIZE * order.len())
 }

@@ -105,8 +105,8 @@ fn feed_part(state: Stream, scrap: &[u8]) -> Stream
     }
 }
 
-// From sector to sector, by their high bytes, which one test holds inside: where the first one stands that is not there, or
-// where the loop ends past the last one. `step_by` does not tell where it ended, so that the loop counts by itself.
+// From sector to sector, by their high bytes, which one test holds inside: where the first one stands that is not there, or the
+// scrap's last byte, behind which no sector ends.
 fn first_bad(found: bool, sectors: usize, bytes: usize, scrap: &[u8]) -> usize
     requires { (bytes + length scrap.now ≤ most_bytes + 1) × (bytes % sidedef_size < high_place) }
     ensures { FirstBad found sectors bytes scrap.now result }
@@ -114,14 +114,12 @@ fn first_bad(found: bool, sectors: usize, bytes: usize, scrap: &[u8]) -> usize
     if found {
         return scrap.len();
     }
-    let mut high = HIGH - bytes % Sidedef::SIZE;
-    while high < scrap.len() {
+    for high in (HIGH - bytes % Sidedef::SIZE..scrap.len()).step_by(Sidedef::SIZE) {
         if sectors <= endian::u16_at(scrap, high - 1) as usize {
             return high - 1;
         }
-        high += Sidedef::SIZE;
     }
-    high - 1
+    scrap.len().saturating_sub(1)
 }
 
 // A scrap's last byte is kept where it is the low byte of a sector.
@@ -129,14 +127,11 @@ fn low_after(low: u8, bytes: usize, scrap: &[u8]) -> u8
     requires { bytes + length scrap.now ≤ most_bytes + 1 }
     ensures { result ≡ low_after low bytes scrap.now (length scrap.now) }
 {
-    if scrap.len() == 0 {
-        return low;
+    match scrap.last() {
+        None => low,
+        Some(&last) if (bytes + scrap.len() - 1) % Sidedef::SIZE == LOW => last,
+        Some(_) => 0,
     }
-    let last = scrap.len() - 1;
-    if (bytes + last) % Sidedef::SIZE == LOW {
-        return scrap[last];
-    }
-    0
 }
 
 // A choice as a value: the state is made anew in one expression and stays in registers.

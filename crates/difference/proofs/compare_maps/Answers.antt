@@ -1,5 +1,5 @@
 -- `difference::compare_maps` meets its contract: the old map is refused, or the new one, or both are compared. Assumes nothing.
-use Rattle.std.proofs.Common.{rules, ℕ, ◌≡◌, refl, sym, ap, ◌∙◌, Ok, Err}
+use Rattle.std.proofs.Common.{rules, ◌≡◌}
 use Rattle.map_check.specs.Verdict.{accepted, verdict}
 use Rattle.difference.proofs.Accepting.{accepted-map, accepted-numbered}
 use Rattle.difference.proofs.Answering.{differ, lifted-ok, lifted-err}
@@ -18,21 +18,21 @@ invariant_of-old c =
     let a = c.args in
     let map = c.in_ok-old.old in
     let e = old_is (goal.at.invariant_of-old c).In_ok-new in
-    record {
-      has_lumps = accepted-map a.old_wad.now a.old_name.now a.words.now map.depth map.marker e;
-      numbered = accepted-numbered a.old_wad.now a.old_name.now a.words.now map.depth map.marker e;
-    }
+    record { has_lumps = accepted-map a.old_wad.now a.old_name.now a.words.now map.depth map.marker e }
 
 pub invariant_of-new : goal.invariant_of-new
 invariant_of-new c =
     let a = c.args in
     let map = c.in_ok-new.new in
-    let words = c.judge_map.new.words in
     let e = new_is (goal.at.invariant_of-new c).In_ok-new in
-    record {
-      has_lumps = accepted-map a.new_wad.now a.new_name.now words map.depth map.marker e;
-      numbered = accepted-numbered a.new_wad.now a.new_name.now words map.depth map.marker e;
-    }
+    record { has_lumps = accepted-map a.new_wad.now a.new_name.now c.judge_map.new.words map.depth map.marker e }
+
+pub list_changes-requires : goal.list_changes-requires
+list_changes-requires c =
+    let a = c.args in
+    let map = c.in_ok-new.new in
+    let e = new_is (goal.at.list_changes-requires c).In_ok-new in
+    accepted-numbered a.new_wad.now a.new_name.now c.judge_map.new.words map.depth map.marker e
 
 pub returns-in-Ok : goal.returns-in-Ok
 returns-in-Ok c =

@@ -1,8 +1,8 @@
 -- `difference::list_changes` meets its contract: 76, 75, or the counts and the list. Assumes nothing.
-use Rattle.std.proofs.Common.{rules, ℕ, ◌≤◌, ◌<◌, Bool, List, ◌≡◌, refl, sym, ap, ◌∙◌, length, arith, Ok}
+use Rattle.std.proofs.Common.{rules, Bool, ap, ◌∙◌, arith, Ok}
 use mathlib.Core.Path.{subst⁻¹}
 use Rattle.std.specs.Prelude.{sum}
-use Rattle.difference.specs.Differences.{changes_in, game_in, lumps_in}
+use Rattle.difference.specs.Differences.{game_in, lumps_in}
 use Rattle.difference.specs.Inner.Lumps.{Numbered}
 use Rattle.difference.proofs.Answering.{counted-few, refused-games, one-game, refused-room, fits, all-listed}
 use Rattle.difference.proofs.list_changes.Goals as goal
@@ -19,7 +19,7 @@ total-requires c =
     let new = c.args.new.now in
     let game = one-game old.wad.now old.marker new.wad.now new.marker c.args.list.now c.is_hexen.ensures c.is_hexen-2.ensures c.in_ok-pass_if.ensures in
     let few = counted-few (game_in old.wad.now old.marker) (lumps_in old.wad.now old.marker) (lumps_in new.wad.now new.marker)
-    (subst⁻¹ (λ (h : Bool). Numbered h (lumps_in new.wad.now new.marker)) game new.numbered) in
+    (subst⁻¹ (λ (h : Bool). Numbered h (lumps_in new.wad.now new.marker)) game c.requires) in
     omega (arith, few, ap sum c.count_all-counts.ensures)
 
 pub returns-in_err-pass_if-2 : goal.returns-in_err-pass_if-2
@@ -29,11 +29,12 @@ returns-in_err-pass_if-2 c =
     refused-room old.wad.now old.marker new.wad.now new.marker c.args.list.now c.is_hexen.ensures c.is_hexen-2.ensures c.in_ok-pass_if.ensures
     (c.total.ensures ∙ ap sum c.count_all-counts.ensures) c.in_err-pass_if-2.ensures (search rules)
 
-pub write_all-requires-clause-one_game : goal.write_all-requires-clause-one_game
-write_all-requires-clause-one_game c =
+pub write_all-requires-clause-numbered : goal.write_all-requires-clause-numbered
+write_all-requires-clause-numbered c =
     let old = c.args.old.now in
     let new = c.args.new.now in
-    one-game old.wad.now old.marker new.wad.now new.marker c.args.list.now c.is_hexen.ensures c.is_hexen-2.ensures c.in_ok-pass_if.ensures
+    let game = one-game old.wad.now old.marker new.wad.now new.marker c.args.list.now c.is_hexen.ensures c.is_hexen-2.ensures c.in_ok-pass_if.ensures in
+    subst⁻¹ (λ (h : Bool). Numbered h (lumps_in new.wad.now new.marker)) game c.requires
 
 pub write_all-requires-clause-room : goal.write_all-requires-clause-room
 write_all-requires-clause-room c =

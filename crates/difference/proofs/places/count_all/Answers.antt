@@ -1,5 +1,5 @@
 -- `difference::places::count_all` meets its contract: the counts of the places before `i` are stored. Assumes nothing.
-use Rattle.std.proofs.Common.{rules, ℕ, ◌+◌, List, [], ◌∷◌, ◌≡◌, sym, ap, ◌∙◌, length, replicate}
+use Rattle.std.proofs.Common.{rules, ℕ, ◌+◌, [], ◌∷◌, ◌≡◌, sym, ap, ◌∙◌, length, replicate}
 use lib.ListN.{set}
 use lib.Seq.{sets}
 use Rattle.layout.proofs.LaidOut.{laid_none}

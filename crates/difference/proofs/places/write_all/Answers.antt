@@ -1,8 +1,7 @@
 -- `difference::places::write_all` meets its contract: the numbers of the places before `i` are stored. Assumes nothing.
-use Rattle.std.proofs.Common.{rules, ℕ, Bool, ◌+◌, ◌≤◌, ◌++◌, List, ◌≡◌, sym, ap, ◌∙◌, length, arith}
+use Rattle.std.proofs.Common.{rules, ℕ, ◌+◌, ◌≤◌, ◌++◌, List, ◌≡◌, sym, ap, ◌∙◌, length, arith}
 use Rattle.std.proofs.lemmas.List.{take_rest}
 use mathlib.Core.Path.{subst}
-use Rattle.record_table.specs.Lumps.{record_size}
 use lib.ListN.{length-drop}
 use Rattle.layout.specs.Rows.{laid_out}
 use Rattle.layout.proofs.LaidOut.{laid_none, laid_more, length_laid_le}
@@ -42,12 +41,10 @@ room c =
 pub write_changes-count-requires : goal.write_changes-count-requires
 write_changes-count-requires c =
     let at = (goal.at.write_changes-count-requires c).After-versions in
-    let new = c.args.new.now in
     let l = c.loop-i in
     let v = c.versions.ensures in
-    let size = v.size ∙ ap (λ (h : Bool). record_size h (l.i + 1)) c.requires.one_game in
-    let many : count_in c.versions.result.size c.versions.result.new.now ≡ _ = λ k. count_in (size k) (v.new k) in (
-      subst (λ (n : ℕ). n ≤ 65535) (sym many) (new.numbered (l.i + 1) (omega arith) (omega arith)),
+    let many : count_in c.versions.result.size c.versions.result.new.now ≡ _ = λ k. count_in (v.size k) (v.new k) in (
+      subst (λ (n : ℕ). n ≤ 65535) (sym many) (c.requires.numbered (l.i + 1) (omega arith) (omega arith)),
       rw (take_rest l.list l.count, length-drop l.count l.list) (omega (arith, room at, l.auto.list)),
     )
 

@@ -9,10 +9,10 @@ use Rattle.renumber.proofs.writing.write_nodes.Goals as goal
 pub loop-i-init : goal.loop-i-init
 loop-i-init c =
     let a = c.args in
-    sym (ap (λ (x : List ℕ). sets a.out.now 0 x) (laid_none (new_node a.nodes.now a.order.now)))
+    sym (ap (λ (x : List ℕ). sets a.out.now 0 x) (laid_none (new_node a.graph.now.nodes.now a.order.now)))
 
 pub loop-i-preserved : goal.loop-i-preserved
 loop-i-preserved c =
     let a = c.args in
     let l = c.loop-i in
-    nodes_more a.nodes.now a.count a.words.now a.order.now (length a.out.now) c.requires l.i (omega arith) a.out.now l.invariant c.write_node.ensures
+    nodes_more a.graph.now.nodes.now a.graph.now.count a.words.now a.order.now (length a.out.now) c.requires l.i (omega arith) a.out.now l.invariant c.write_node.ensures

@@ -7,4 +7,4 @@ use Rattle.renumber.proofs.writing.write_nodes.Given as goal
 
 abbrev pub invariant-loop-i : goal.invariant-loop-i
 invariant-loop-i l =
-    l.out ≡ sets l.initial.out 0 (laid_out (new_node l.nodes l.order) l.i)
+    l.out ≡ sets l.initial.out 0 (laid_out (new_node l.graph.nodes.now l.order) l.i)

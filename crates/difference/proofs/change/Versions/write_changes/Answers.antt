@@ -1,6 +1,6 @@
 -- `difference::change::Versions::write_changes` meets its contract: the numbers of the changed records before record `i` are stored. Assumes
 -- nothing.
-use Rattle.std.proofs.Common.{ℕ, ◌+◌, ◌≤◌, ◌++◌, ◌≡◌, List, sym, ap, ◌∙◌, length, take, drop, ◌-◌, min, arith, length-append}
+use Rattle.std.proofs.Common.{ℕ, ◌+◌, ◌≤◌, ◌++◌, ◌≡◌, List, sym, ap, ◌∙◌, length, ◌-◌, min, arith, length-append}
 use Rattle.std.proofs.lemmas.List.{take_rest}
 use borrow.Rule.Slice.PartMut.{put_mid}
 use lib.ListN.{length-drop}
