@@ -2,8 +2,7 @@
 // The definitions are in specs/.
 #![tactic(auto)]
 
-ghost use Rattle.std.specs.Prelude.{false, not, cond, ◌≡◌, eqb, length};
-ghost use Rattle.text_table.specs.Scopes.{scope_number};
+ghost use Rattle.std.specs.Prelude.{false, not, cond, ◌≡◌, length};
 ghost use Rattle.text_block.specs.Blocks.{count_of, counted, is_full, is_asked, stops_there, stops_inside, no_places, stored, all_given};
 
 use text_table::{Fallback, Scope};
@@ -86,16 +85,10 @@ pub fn is_asked(asked: Asked, kind: Scope, before: usize) -> bool
     ensures { result ≡ is_asked asked kind before }
 {
     match asked {
-        Asked::Numbered(of, number) => is_same(of, kind) & (before == number),
-        Asked::First(of) => is_same(of, kind),
+        Asked::Numbered(of, number) => (of == kind) & (before == number),
+        Asked::First(of) => of == kind,
         Asked::Nothing | Asked::Opening => false,
     }
-}
-
-fn is_same(of: Scope, kind: Scope) -> bool
-    ensures { result ≡ eqb (scope_number of) (scope_number kind) }
-{
-    of == kind
 }
 
 // Nothing more is read behind it.
@@ -110,7 +103,7 @@ pub fn stops_inside(asked: Asked, kind: Scope) -> bool
     ensures { result ≡ stops_inside asked kind }
 {
     match asked {
-        Asked::Opening => !is_same(kind, Scope::Unknown),
+        Asked::Opening => kind != Scope::Unknown,
         _ => false,
     }
 }

@@ -1,5 +1,6 @@
 -- Laws of the bytes of a text map. Assumes nothing.
 
 pub mod Spans
+pub mod Fronts
 pub mod Bytes
 pub mod Letters

@@ -5,10 +5,13 @@ ghost use Rattle.std.specs.Prelude.{◌≡◌, ◌+◌, ◌-◌, ◌≤◌, ◌<
 ghost use Rattle.text_gap.specs.declared.Mode.TheVariants.{Between, Line, Opening, Comment};
 ghost use Rattle.text_gap.specs.Gaps.{is_open, gap_from};
 ghost use Rattle.text_byte.specs.Spans.{span_end};
-ghost use Rattle.text_gap.specs.Passing.{blank_at, other_end, starts_token, Ends};
+ghost use Rattle.text_gap.specs.Passing.{blank_at, other_at, other_end, starts_token, Ends};
 
 use memchr::memchr;
 use text_byte as bytes;
+
+// How many bytes are looked at one by one before the rest is searched.
+const NEAR: usize = 16;
 
 // How the reading of a gap goes on: between tokens, in a comment up to the line's end, at the star that opens a
 // comment, in that comment, behind a star in it, and at a token's first byte.
@@ -53,7 +56,7 @@ fn starts_token(text: &[u8], at: usize) -> bool
     false
 }
 
-// Past white space and comments, one comment after the other.
+// Past white space and comments, one comment after the other. Each comment says where the loop goes on.
 fn read_gap(text: &[u8], from: usize) -> Gap
     ensures { result ≡ gap_from text.now Between from (length text.now - from) }
 {
@@ -128,6 +131,7 @@ fn comment_end(text: &[u8], from: usize) -> Gap
     close_end(text, from + 1)
 }
 
+// The search says where the loop goes on: behind the star that it found.
 fn close_end(text: &[u8], from: usize) -> Gap
     requires { from ≤ length text.now }
     ensures { Ends text.now Comment from result }
@@ -167,8 +171,27 @@ pub fn blank_end(text: &[u8], from: usize) -> usize
     bytes::span_end(from, text.len(), |i| bytes::is_blank(text[i]))
 }
 
-// The first byte of a value.
+// The first byte of a value. In most comments it is near: a search of the whole rest begins with 64 bytes at once.
 fn byte_end(text: &[u8], from: usize, b: u8) -> usize
+    requires { from ≤ length text.now }
+    ensures { result ≡ other_end text.now b from }
+{
+    let near = from + (text.len() - from).min(NEAR);
+    let at = near_end(text, from, near, b);
+    if at < near {
+        return at;
+    }
+    far_end(text, near, b)
+}
+
+fn near_end(text: &[u8], from: usize, end: usize, b: u8) -> usize
+    requires { end ≤ length text.now }
+    ensures { result ≡ span_end (other_at text.now b) from (end - from) }
+{
+    bytes::span_end(from, end, |i| text[i] != b)
+}
+
+fn far_end(text: &[u8], from: usize, b: u8) -> usize
     requires { from ≤ length text.now }
     ensures { result ≡ other_end text.now b from }
 {

@@ -21,7 +21,8 @@ pub struct TextSummary {
     pub counts: Counts,
 }
 
-// A block: its kind, 1 to 5, and the place of its name.
+// A block: its kind, 1 to 5, and the place of its name. The kind is a number, as `block_by` has it, since export_texts hands it to C as
+// it stands.
 #[derive(Clone, Copy)]
 pub struct TextBlock {
     pub kind: u32,
@@ -29,7 +30,8 @@ pub struct TextBlock {
 }
 
 // What a block's record is read from, beside the places of its values: the check, the place behind the block, and the
-// namespace of what was read.
+// namespace of what was read. The check stands beside the values: FoundBelowTheCount speaks of it, and `places_by` and `rows_by` take it
+// alone.
 #[derive(Clone, Copy)]
 pub struct BlockFields {
     pub check: Result<(), Refusal>,

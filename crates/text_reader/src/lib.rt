@@ -16,7 +16,7 @@ use text_table::Scope;
 use text_token::Form;
 
 // The text from a place on: where its reading ended, and of each field of the block that was asked for the place of its
-// last value, 0 for none.
+// last value, 0 for none: ValueCounts speaks of the places as numbers. The loop counts nothing: each statement says where the next begins.
 pub fn read(text: &[u8], asked: Asked, from: usize, kept: &mut [usize; 34]) -> Parse
     requires { kept.old ≡ no_places }
     ensures value { result ≡ (text_from text.now asked from).parse }

@@ -15,7 +15,8 @@ use text_token::{Form, Token};
 use text_value::{Misread, Value};
 
 // What was noted so far: the place of the last namespace's value, 0 for none; the counts; and whether the block that is asked for was
-// found, its kind, the place of its name, and the place behind it.
+// found, its kind, the place of its name, and the place behind it. Found is a flag beside what was found, and 0 no place, since theorems
+// speak of them so: EndsAsked of `found`, SameStand of `kind`, LastNamespaceCounts of `namespace`, `block_check` and `fields_by` of the rest.
 #[derive(Clone, Copy)]
 pub struct Notes {
     pub namespace: usize,
@@ -27,7 +28,7 @@ pub struct Notes {
 }
 
 // How far a text was read: what is wanted next; in which scope, and where the open block's name stands; the place to go on; the
-// refusal, if any; and what was noted.
+// refusal, if any; and what was noted. The check stands beside the values: PutBetween speaks of it, and of what was read before it.
 #[derive(Clone, Copy)]
 pub struct Parse {
     pub wanted: Wanted,
@@ -259,15 +260,14 @@ pub fn on_semicolon(s: Parse, t: Token, field: Option<usize>, place: usize) -> P
     misfit(s, t)
 }
 
-// The only name that the top knows is the namespace: the last one's value counts.
+// The only name that the top knows is the namespace: the last one's value counts. One expression for both cases, so that the notes
+// stay in registers.
 fn notes_assigned(s: Parse, field: Option<usize>, place: usize) -> Notes
     ensures { result ≡ notes_assigned s field place }
 {
-    if is_top(s.scope) & field.is_some() {
-        return Notes {
-            namespace: place,
-            ..s.notes
-        };
+    let named = is_top(s.scope) & field.is_some();
+    Notes {
+        namespace: if named { place } else { s.notes.namespace },
+        ..s.notes
     }
-    s.notes
 }

@@ -1,5 +1,5 @@
 -- Laws of a test of each number below another. Assumes nothing.
-use Prim.Native.Nat.{ℕ, zero, suc, ◌+◌, ◌≤◌, ◌<◌}
+use Prim.Native.Nat.{ℕ, zero, suc, ◌+◌, ◌-◌, ◌≤◌, ◌<◌}
 use mathlib.Core.Bool.{Bool, true, false, ◌&&◌, and-false, and-true}
 use mathlib.Core.Logic.{⊎_elim}
 use mathlib.Core.Path.{◌≡◌, refl, sym, ap, ◌∙◌}
@@ -31,6 +31,18 @@ module _ (test : ℕ → Bool) where
 
   pub every-done : (k n : ℕ) → true ≡ every test k → k ≤ n → n ≤ k → true ≡ every test n
   every-done k n h low high = let e : k ≡ n = omega arith in h ∙ ap (every test) e
+
+  -- by the last of some numbers
+  every-last : (k : ℕ) {b : Bool} → 0 < k → test (k - 1) ≡ b → every test k ≡ (every test (k - 1) && b)
+  every-last k h e =
+      let q : k ≡ suc (k - 1) = omega (arith, h) in
+      ap (every test) q ∙ every-step (k - 1) ∙ ap (λ (x : Bool). every test (k - 1) && x) e
+
+  pub every-fails : (k : ℕ) → 0 < k → test (k - 1) ≡ false → every test k ≡ false
+  every-fails k h e = every-last k h e ∙ and-false (every test (k - 1))
+
+  pub every-passes : (k : ℕ) → 0 < k → test (k - 1) ≡ true → every test k ≡ every test (k - 1)
+  every-passes k h e = every-last k h e ∙ and-true (every test (k - 1))
 
 pub every-same : (f g : ℕ → Bool) (n : ℕ) → ((k : ℕ) → k < n → f k ≡ g k) → every f n ≡ every g n
 unfolding every

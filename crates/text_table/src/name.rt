@@ -1,8 +1,8 @@
 // A word's place among the names that a text map knows (W-206). The definitions are in specs/.
-ghost use Rattle.std.specs.Prelude.{false, cond, ◌≡◌, position};
+ghost use Rattle.std.specs.Prelude.{false, cond, ◌≡◌, eqb, length, get_or, position};
 ghost use Rattle.text_byte.specs.Bytes.{lower};
 ghost use Rattle.text_table.specs.Scopes.{scope_of};
-ghost use Rattle.text_table.specs.Names.{is_name, field_named, kind_named, zero_ids};
+ghost use Rattle.text_table.specs.Names.{every, letter_at, is_name, field_named, kind_named, zero_ids};
 
 use crate::field::Field;
 use crate::scope::Scope;
@@ -60,14 +60,20 @@ pub fn zero_ids(namespace: &[u8]) -> bool
     ZERO_IDS.iter().any(|name| is_name(name, namespace, true))
 }
 
-// The word is the name: as long, and the same letter by letter.
+// The word is the name: as long, and the same letter by letter. The length tells most names apart.
 fn is_name(name: &[u8], word: &[u8], exact: bool) -> bool
     ensures { result ≡ is_name word.now exact name.now }
 {
-    if name.len() != word.len() {
-        return false;
-    }
-    for k in 0..name.len() {
+    (name.len() == word.len()) && is_spelled(name, word, exact)
+}
+
+// From the last letter on, since names of one length differ there first. Only the word's letters are made small, so that
+// eq_ignore_ascii_case would pass more.
+fn is_spelled(name: &[u8], word: &[u8], exact: bool) -> bool
+    requires { length word.now ≡ length name.now }
+    ensures { result ≡ every (λ k. eqb (letter_at word.now exact k) (get_or name.now k 0)) (length word.now) }
+{
+    for k in (0..word.len()).rev() {
         if letter(exact, word[k]) != name[k] {
             return false;
         }

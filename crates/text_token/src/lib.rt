@@ -2,15 +2,18 @@
 // definitions are in specs/.
 #![tactic(auto)]
 
-ghost use Rattle.std.specs.Prelude.{true, false, ◌≡◌, ◌+◌, ◌-◌, ◌≤◌, ◌<◌, length};
-ghost use Rattle.text_byte.specs.Bytes.{is_mark};
+ghost use Rattle.std.specs.Prelude.{true, false, not, ◌||◌, ◌≡◌, ◌+◌, ◌-◌, ◌≤◌, ◌<◌, eqb, length};
+ghost use Rattle.text_byte.specs.Bytes.{double_quote, backslash, is_mark};
 ghost use Rattle.text_byte.specs.Spans.{span_end};
 ghost use Rattle.text_token.specs.Tokens.{mark_form, in_word, quote_end, ended, string_to, word_to, token_here, token_behind, token_at, bytes_of, word_of, Placed};
-ghost use Rattle.text_token.specs.Inner.{StringRun};
+ghost use Rattle.text_token.specs.Inner.{ends_run, StringRun};
 
 use memchr::memchr2;
 use text_byte as bytes;
 use text_gap::Gap;
+
+// How many bytes of a string are looked at one by one before the rest is searched.
+const NEAR: usize = 16;
 
 // What a token is: the text's end; a comment or string that is never closed, which ends the text too; a word; a string;
 // or a mark.
@@ -164,7 +167,7 @@ fn in_word(text: &[u8], at: usize) -> bool
     bytes::is_plain(b) || !bytes::ends_word(b, bytes::byte_at(text, at + 1))
 }
 
-// The closing quote of a string: a backslash takes the next byte, whatever it is.
+// The closing quote of a string: a backslash takes the next byte, whatever it is. Each run says where the loop goes on.
 fn quote_end(text: &[u8], from: usize) -> usize
     requires { from ≤ length text.now }
     ensures { result ≡ quote_end text.now false from (length text.now - from) }
@@ -182,10 +185,36 @@ fn quote_end(text: &[u8], from: usize) -> usize
     at
 }
 
-// Past the bytes of a string that are neither a quote nor a backslash.
+// Past the bytes of a string that are neither a quote nor a backslash. In most strings one is near: a search of the whole rest begins
+// with 64 bytes at once.
 fn string_run(text: &[u8], from: usize) -> usize
     requires { from ≤ length text.now }
     ensures { StringRun text.now from result }
+{
+    let near = from + (text.len() - from).min(NEAR);
+    let at = near_end(text, from, near);
+    if at < near {
+        return at;
+    }
+    far_end(text, near)
+}
+
+fn near_end(text: &[u8], from: usize, end: usize) -> usize
+    requires { end ≤ length text.now }
+    ensures { result ≡ span_end (λ i. not (ends_run text.now i)) from (end - from) }
+{
+    bytes::span_end(from, end, |i| !ends_run(text[i]))
+}
+
+fn ends_run(b: u8) -> bool
+    ensures { result ≡ (eqb b double_quote || eqb b backslash) }
+{
+    (b == bytes::DOUBLE_QUOTE) | (b == bytes::BACKSLASH)
+}
+
+fn far_end(text: &[u8], from: usize) -> usize
+    requires { from ≤ length text.now }
+    ensures { result ≡ span_end (λ i. not (ends_run text.now i)) from (length text.now - from) }
 {
     match memchr2(bytes::DOUBLE_QUOTE, bytes::BACKSLASH, &text[from..]) {
         Some(i) => from + i,

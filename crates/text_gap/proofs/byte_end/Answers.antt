@@ -1,10 +1,18 @@
--- `text_gap::byte_end` meets its contract: the first byte of the value in the rest of the text, or none. Assumes nothing.
-use Rattle.memchr.specs.Find.{is_byte}
-use Rattle.text_gap.proofs.Found.{found, missed}
+-- `text_gap::byte_end` meets its contract: the value is met among the next bytes, or behind them. Assumes nothing.
+use native.Mathlib.Omega.{arith}
+use lib.ListN.{length}
+use Rattle.text_byte.proofs.Fronts.{first_near, first_far}
+use Rattle.text_gap.specs.Passing.{other_at}
 use Rattle.text_gap.proofs.byte_end.Goals as goal
 
-pub returns-in-Some : goal.returns-in-Some
-returns-in-Some c = found (is_byte c.args.b) c.args.text.now c.args.from c.requires c.in-Some.ensures.0 c.in-Some.ensures.1
+pub returns-then-at-near : goal.returns-then-at-near
+returns-then-at-near c =
+    let m = c.min.ensures in
+    first_near (other_at c.args.text.now c.args.b) c.args.from _ (length c.args.text.now) (omega (arith, m)) (omega (arith, m, c.requires))
+    c.near_end-at.ensures c.if-at-near.true
 
-pub returns-in-None : goal.returns-in-None
-returns-in-None c = missed (is_byte c.args.b) c.args.text.now c.args.from c.requires c.in-None.ensures
+pub returns : goal.returns
+returns c =
+    let m = c.min.ensures in
+    first_far (other_at c.args.text.now c.args.b) c.args.from _ (length c.args.text.now) (omega (arith, m)) (omega (arith, m, c.requires))
+    c.near_end-at.ensures c.if-at-near.false c.far_end.ensures

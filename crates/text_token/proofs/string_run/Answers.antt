@@ -1,15 +1,21 @@
--- `text_token::string_run` meets its contract: the first quote or backslash in the rest of the text, or none. Assumes nothing.
-use Rattle.memchr.specs.Find.{is_byte2}
-use Rattle.text_gap.proofs.Found.{found, missed}
-use Rattle.text_token.proofs.QuoteRuns.{runs_to}
+-- `text_token::string_run` meets its contract: a quote or backslash is met among the next bytes, or behind them. Assumes nothing.
+use native.Mathlib.Omega.{arith}
+use lib.ListN.{length}
+use Rattle.text_byte.proofs.Fronts.{first_near, first_far}
+use Rattle.text_token.proofs.QuoteRuns.{plain_at, runs_to}
 use Rattle.text_token.proofs.string_run.Goals as goal
 
-pub returns-in-Some : goal.returns-in-Some
-returns-in-Some c =
+pub returns-then-at-near : goal.returns-then-at-near
+returns-then-at-near c =
+    let m = c.min.ensures in
     let text = c.args.text.now in
-    runs_to text c.args.from c.requires (found (is_byte2 34 92) text c.args.from c.requires c.in-Some.ensures.0 c.in-Some.ensures.1)
+    runs_to text c.args.from c.requires
+    (first_near (plain_at text) c.args.from _ (length text) (omega (arith, m)) (omega (arith, m, c.requires)) c.near_end-at.ensures c.if-at-near.true)
 
-pub returns-in-None : goal.returns-in-None
-returns-in-None c =
+pub returns : goal.returns
+returns c =
+    let m = c.min.ensures in
     let text = c.args.text.now in
-    runs_to text c.args.from c.requires (missed (is_byte2 34 92) text c.args.from c.requires c.in-None.ensures)
+    runs_to text c.args.from c.requires
+    (first_far (plain_at text) c.args.from _ (length text) (omega (arith, m)) (omega (arith, m, c.requires)) c.near_end-at.ensures c.if-at-near.false
+    c.far_end.ensures)
