@@ -17,6 +17,7 @@ pub struct Versions<'a, 'b> {
     ghost has_size: { 0 < size },
 }
 
+// A block is i and n of one turn of the loops below, so the methods ask that it lies in the new lump.
 impl<'a, 'b> Versions<'a, 'b> {
     // Whether the old lump has the bytes `from` to `to` too, and the same.
     fn same(&self, from: usize, to: usize) -> bool

@@ -63,6 +63,7 @@ struct Camera<'a> {
     ghost most: { count ≤ 32767 },
 }
 
+// The words are lent apart, since the walk changes them, and a node is the walk's at each call: so the methods ask for both.
 impl Camera<'_> {
     // The list in the first words, and these zero where it is refused.
     fn list_all(&self, words: &mut [u16]) -> Result<usize, Refusal>

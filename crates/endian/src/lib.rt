@@ -1,5 +1,5 @@
 // Little-endian numbers of 16 and 32 bits, unsigned and signed, read out of bytes and written into them. The definitions
-// are in specs/. Callers show that the bytes lie inside the slice.
+// are in specs/. Callers show that the bytes lie inside the slice: a type of a slice with a place in it would be built for each number.
 #![tactic(auto)]
 
 ghost use Rattle.std.specs.Prelude.{◌≡◌, ◌+◌, ◌<◌, length};

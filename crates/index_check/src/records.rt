@@ -30,6 +30,7 @@ pub struct IndexedDirectory<'a> {
     pub ghost room: { record_offset count ≤ length index.now },
 }
 
+// A record's number is the caller's at each call, so the methods ask that it is below the count.
 impl IndexedDirectory<'_> {
     // Record i of the index.
     pub fn record(&self, i: usize) -> IndexRecord

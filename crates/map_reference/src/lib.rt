@@ -159,7 +159,7 @@ pub fn judge_nodes(nodes: &[u8], subsectors: usize) -> Result<(), Refusal>
     })
 }
 
-// The unsigned number at `at` of record i, read in place.
+// The unsigned number at `at` of record i, read in place: lump, size and place of a field differ at each call.
 pub fn field(lump: &[u8], size: usize, i: usize, at: usize) -> usize
     requires { (i < length lump.now / size) × (at + 1 < size) }
     ensures { (result ≡ u16_at (record_bytes lump.now size i) at) × (result < 65536) }

@@ -1,5 +1,5 @@
 // Names of eight bytes: which are good, which are the same, and which are a map's. What follows a name's first zero is not
-// looked at.
+// looked at. A name is a slice of eight bytes, as a directory and C have it: `as_array` would answer an Option that is never None.
 #![tactic(auto)]
 
 ghost use Rattle.std.specs.Prelude.{◌≡◌, length};

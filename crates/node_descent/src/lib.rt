@@ -46,7 +46,7 @@ pub fn subsectors_ok(count: usize, subsectors: usize) -> bool
     (1 <= subsectors) & (subsectors <= MOST) & ((0 < count) | (subsectors == 1))
 }
 
-// The walk from the root: a choice at each node, and no more choices than nodes.
+// Lump and count come apart: only the size of NODES is judged here, so it is no `NodeGraph`. The walk from the root: a choice at each node, and no more choices than nodes.
 fn descend_from_root(
     nodes: &[u8],
     count: usize,

@@ -92,7 +92,8 @@ pub struct NodeGraph<'a> {
 }
 
 impl NodeGraph<'_> {
-    // The verdict. Whatever the words hold, only what the search wrote is read.
+    // The words are lent apart from the graph, since the search changes them: so each method asks for their length. The verdict:
+    // whatever the words hold, only what the search wrote is read.
     fn verdict(&self, words: &mut [u16]) -> Result<usize, GraphError>
         requires { 2 * self.now.count ≤ length words.old }
         ensures { result ≡ graph_verdict self.now.nodes.now }

@@ -54,6 +54,7 @@ fn tell(graph: &NodeGraph, words: &mut [u16], out: &mut [u8]) -> Told
     }
 }
 
+// The marks are read in the lent words, of which n are the length of what is told: no buffer's length.
 fn tell_loop(graph: &NodeGraph, words: &[u16], n: usize, out: &mut [u8]) -> Told
     requires { (2 * graph.now.count ≤ length words.now) × LoopMet graph.now.nodes.now (mark_of words.now) n }
     ensures { WayPrinted graph.now.nodes.now out.old out.new result }

@@ -12,7 +12,7 @@ use node::Choice;
 // An eighth of the words that 16 bits can say.
 const SEEN: usize = 8192;
 
-// Whether some child of the marked nodes is met twice. A node is marked where its word of `marks` is not 0.
+// Lump and count come apart, as this lies below `NodeGraph`. Whether some child of the marked nodes is met twice. A node is marked where its word of `marks` is not 0.
 pub fn shares(nodes: &[u8], count: usize, marks: &[u16]) -> bool
     requires { (node_size * count ≤ length nodes.now) × (count ≤ length marks.now) }
     ensures { result ≡ repeats (child_words nodes.now marks.now count) }

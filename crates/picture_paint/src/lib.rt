@@ -53,7 +53,7 @@ fn paint_picture(lump: &[u8], colour: &mut [u8], cover: &mut [u8])
     canvas.paint_columns();
 }
 
-// Zeros the first `count` bytes.
+// Zeros the first `count` bytes: as many as the picture has, of a plane that may be longer.
 fn clear(plane: &mut [u8], count: usize)
     requires { count ≤ length plane.old }
     ensures { plane.new ≡ replicate count 0 ++ drop count plane.old }

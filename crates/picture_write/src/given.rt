@@ -29,7 +29,7 @@ fn fits(width: usize, height: usize, room: usize) -> bool
     }
 }
 
-// Whether the first `count` bytes are 0 or 1. All are looked at: a loop without an early end takes many at a time.
+// Of a cover that may be longer: whether the first `count` bytes are 0 or 1. All are looked at: a loop without an early end takes many at a time.
 fn cover_ok(cover: &[u8], count: usize) -> bool
     requires { count ≤ length cover.now }
     ensures { result ≡ cover_ok cover.now count }

@@ -145,7 +145,8 @@ fn field_at(record: &[u8], at: usize, least: usize, most: usize) -> Field
     }
 }
 
-// The bytes of record i.
+// The bytes of record i. Records of five sizes go through the functions above, which ask for the place of a field and for a record
+// short enough to be numbered: a type for each size would be no plainer.
 fn bytes_of(lump: &[u8], size: usize, i: usize) -> &[u8]
     requires { i < length lump.now / size }
     ensures { (result.now ≡ record_bytes lump.now size i) × (length result.now ≡ size) }

@@ -49,7 +49,8 @@ pub fn replace_if(
     Ok(())
 }
 
-// The eight bytes of a name.
+// The eight bytes of a name; `args_at` copies five. Each has a definition that spells its bytes out, so one function of any size would
+// be no plainer. Sizes and places are arguments here: the traits have them as const parameters.
 pub fn name_at(s: &[u8], at: usize) -> [u8; 8]
     requires { at + 7 < length s.now }
     ensures { result ≡ name_at s.now at }

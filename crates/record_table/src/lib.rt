@@ -107,7 +107,7 @@ const KINDS: [KindRow; 8] = [
     KindRow(Sector::PLACE, Sector::SIZE, Sector::SIZE),
 ];
 
-// The name of the lump at a place.
+// The name of the lump at a place. A place is a number, 1 to 10, as refusals and C's answers have it.
 pub fn lump_name(place: usize) -> [u8; 8]
     requires { (1 ≤ place) × (place ≤ 10) }
     ensures { result ≡ lump_name place }

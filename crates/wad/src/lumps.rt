@@ -13,6 +13,7 @@ pub struct Entry {
     pub size: usize,
 }
 
+// The functions of one entry ask for that entry alone, whatever the directory's count.
 pub fn entry_size(dir: &[u8], i: usize) -> usize
     requires { 16 * i + 16 ≤ length dir.now }
     ensures { (result ≡ entry_size dir.now i) × (result < 2147483648) }

@@ -17,7 +17,7 @@ pub struct MarkerSearch {
     pub compared: usize,
 }
 
-// The last entry of the name, from the end on.
+// The last entry of the name, from the end on. A directory comes with its count here and in `entries`: what is judged of each differs.
 pub fn last_named(dir: &[u8], count: usize, name: &[u8]) -> MarkerSearch
     requires { (16 * count ≤ length dir.now) × (length name.now ≡ 8) }
     ensures { result ≡ counted count (find_marker dir.now name.now count) }

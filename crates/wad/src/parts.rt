@@ -1,4 +1,4 @@
-// Parts of a file.
+// Parts of a file. The number of bytes is what is asked for, and no buffer's length.
 ghost use Rattle.std.specs.Prelude.{◌≡◌, ◌+◌, ◌≤◌, length};
 ghost use Rattle.wad.specs.Slices.{part, part_if};
 
