@@ -3,12 +3,12 @@ use Rattle.std.proofs.Common.{ℕ, zero, suc, ◌+◌, ◌-◌, ◌*◌, ◌≤�
 use Rattle.std.proofs.Math.Nat.{le_trans, mul-div-le, mul-suc, mul-add, mul-le-mul_left, le-div_iff_mul-le, mul_comm}
 use Rattle.std.proofs.lemmas.Bool.{and_parts}
 use Rattle.std.proofs.lemmas.List.{drop-take, take_rest}
-use Rattle.std.specs.List.{range_with_len, filter, list_any, zip}
+use Rattle.std.specs.List.{range_with_len, filter}
 use borrow.Author.Tests.{eqb-true, eq-eqb, lt-leb, leb-true}
 use borrow.Rule.Slice.PartMut.{put_mid}
 use lib.ListN.{set, length-drop, drop_of_length-le}
 use mathlib.Core.List.{append-nil}
-use lib.Seq.{drop-drop, take-take, length-take-le, take-append_seam, drop-append_seam, set-append_seam}
+use lib.Seq.{drop-drop, take-take, take-append_seam, drop-append_seam, set-append_seam}
 use Rattle.layout.proofs.LaidOut.{laid_none, laid_more, laid_same, length_laid_le}
 use Rattle.layout.specs.Rows.{laid_out}
 use Rattle.name.specs.Names.{same_bytes}
@@ -33,17 +33,13 @@ itself : (xs : List ℕ) → same_bytes xs xs ≡ true
 itself [] = refl
 itself (x ∷ xs) = rw (eq-eqb x x refl) (itself xs)
 
--- the test of each byte against the other's, over rows of one length
-both-or : (a b : Bool) → (not a || not b) ≡ not (a && b)
-both-or true b = refl
-both-or false b = refl
+-- from byte `i` on two rows are the same where that byte is, and the later ones
+pub same_from : (old new : List ℕ) (i : ℕ) → i < length old → i < length new
+    → same_bytes (drop i old) (drop i new) ≡ (eqb (get_or old i 0) (get_or new i 0) && same_bytes (drop (i + 1) old) (drop (i + 1) new))
+same_from old new i h k = let next : i + 1 ≡ suc i = omega arith in rw (drop-cons old i 0 h, drop-cons new i 0 k, next) refl
 
-pub others : (xs ys : List ℕ) → length xs ≡ length ys → list_any (λ (p : ℕ × ℕ). not (eqb p.0 p.1)) (zip xs ys) ≡ not (same_bytes xs ys)
-others [] [] e = refl
-others [] (y ∷ ys) e = cc
-others (x ∷ xs) [] e = cc
-others (x ∷ xs) (y ∷ ys) e =
-    ap (λ (b : Bool). not (eqb x y) || b) (others xs ys (omega (arith, e))) ∙ both-or (eqb x y) (same_bytes xs ys)
+pub same_ended : (old new : List ℕ) (i : ℕ) → length old ≤ i → length new ≤ i → same_bytes (drop i old) (drop i new) ≡ true
+same_ended old new i h k = rw (drop_of_length-le old h, drop_of_length-le new k) refl
 
 -- record `i + j` is in the run of the `n` records from `i` on
 in_run : (size i j n : ℕ) (lump : List ℕ) → j < n
@@ -86,26 +82,18 @@ record_inside size lump i h =
     let all : size * suc i ≤ size * count_in size lump = mul-le-mul_left size h in
     rw (← mul-suc size i) (le_trans all (mul-div-le (length lump) size))
 
--- a record that the old lump has too, by the test of each byte
-pub other_there : (size : ℕ) (old new : List ℕ) (i : ℕ) {row : List ℕ} {test : Bool} → 0 < size → i < count_in size new → size * i + size ≤ length old
+-- a record that the old lump has too
+pub there_too : (size : ℕ) (old new : List ℕ) (i : ℕ) {row : List ℕ} {same : Bool} → 0 < size → size * i + size ≤ length old
     → row ≡ take (size * i + size - size * i) (drop (size * i) old)
-    → test ≡ list_any (λ (p : ℕ × ℕ). not (eqb p.0 p.1)) (zip row (take (size * i + size - size * i) (drop (size * i) new)))
-    → test ≡ changed size old new i
-other_there size old new i {row} {test} p inside there e t =
+    → same ≡ same_bytes row (take (size * i + size - size * i) (drop (size * i) new))
+    → not same ≡ changed size old new i
+there_too size old new i p there e t =
     let n : size * i + size - size * i ≡ size = omega arith in
     let last : size * suc i ≡ size * i + size = mul-suc size i in
     let kept : i < count_in size old = (le-div_iff_mul-le p).1 (omega (arith, there, last, mul_comm (suc i) size)) in
     let xs = take size (drop (size * i) old) in
     let ys = take size (drop (size * i) new) in
-    let long : length xs ≡ length ys =
-    omega (
-      arith,
-      length-take-le size (drop (size * i) old) (omega (arith, length-drop (size * i) old, there)),
-      length-take-le size (drop (size * i) new) (omega (arith, length-drop (size * i) new, record_inside size new i inside)),
-    ) in
-    t
-    ∙ (λ k. list_any (λ (p : ℕ × ℕ). not (eqb p.0 p.1)) (zip ((e ∙ ap (λ (m : ℕ). take m (drop (size * i) old)) n) k) (take (n k) (drop (size * i) new))))
-    ∙ others xs ys long
+    ap not (t ∙ (λ k. same_bytes ((e ∙ ap (λ (m : ℕ). take m (drop (size * i) old)) n) k) (take (n k) (drop (size * i) new))))
     ∙ ap (λ (b : Bool). b || not (same_bytes xs ys)) (sym (lt-leb (count_in size old) i kept))
 
 -- ---- the numbers of the changed records
