@@ -7,7 +7,7 @@ ghost use Rattle.export_differences.specs.Differences.{refused_in, differences_o
 use difference::CompareError;
 use refusal::{Refusal, Status};
 
-// The numbers by which the files are noted.
+// The numbers by which C is told the file: MESHPIGEON_NO_FILE, MESHPIGEON_OLD and MESHPIGEON_NEW. Inside, `CompareError` says it.
 const NEITHER: u32 = 0;
 
 const OLD: u32 = 1;

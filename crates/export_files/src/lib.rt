@@ -1,4 +1,4 @@
-// A file's directory.
+// A file's directory. An answer for each call: C has no generic struct.
 #![tactic(auto)]
 
 ghost use Rattle.std.specs.Prelude.{◌≡◌};
@@ -73,6 +73,7 @@ impl From<Result<Entry, Refusal>> for EntryAnswer {
     }
 }
 
+// As `IndexAnswer` of export_index is made: C has a struct for each of the two searches, with a name of its own for the entry.
 impl From<MarkerSearch> for MarkerAnswer {
     ghost from_gives = { λ search answer. answer ≡ marker_out search };
 

@@ -18,6 +18,7 @@ pub struct IndexAnswer {
     pub compared: usize,
 }
 
+// As `MarkerAnswer` of export_files is made: C has a struct for each of the two searches, with a name of its own for the entry.
 impl From<MarkerSearch> for IndexAnswer {
     ghost from_gives = { λ search answer. answer ≡ index_entry_out search };
 

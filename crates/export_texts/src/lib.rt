@@ -1,4 +1,4 @@
-// Text maps: the summary, the next block, and the records of blocks.
+// Text maps: the summary, the next block, and the records of blocks. An answer for each call: C has no generic struct.
 #![tactic(auto)]
 
 mod records;

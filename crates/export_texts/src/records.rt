@@ -1,4 +1,5 @@
-// The records of blocks, as C and Rust are given them: with a refusal every field is 0.
+// The records of blocks, as C and Rust are given them: with a refusal every field is 0. What the kinds share is `fields_by`. The rest
+// of each function is its own reader of `text_record` and its own struct of C, which has no generic one.
 ghost use Rattle.std.specs.Prelude.{◌≡◌, map};
 ghost use Rattle.export_texts.specs.Answers.{vertex_out, linedef_out, sidedef_out, sector_out, thing_out};
 ghost use Rattle.text_map.specs.Answers.{rows_by};
