@@ -1,4 +1,7 @@
 // Answers as text: numbers, each after a space.
+ghost use Rattle.std.specs.Prelude.{Some};
+ghost use Rattle.vector_script.specs.Script.{verdict_text};
+
 use refusal::Status;
 use std::fmt::{Display, Formatter};
 use std::{fmt, io};
@@ -19,6 +22,8 @@ pub fn faults(rt: &impl Print, count: usize) -> io::Result<()> {
 pub struct Verdict(pub Status);
 
 impl Display for Verdict {
+    ghost output = { λ v. Some (verdict_text v.0) };
+
     fn fmt<W: fmt::Write>(&self, f: &mut Formatter<W>) -> fmt::Result {
         let Verdict(status) = self;
         if status.number == 0 {
