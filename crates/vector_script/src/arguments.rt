@@ -109,3 +109,19 @@ impl<R: Print + AllocGlobal> Loan<'_, R> {
         Ok(copied.to_vec(self.rt.alloc())?)
     }
 }
+
+#[cfg(test)]
+mod tests {
+    use super::*;
+
+    #[test]
+    fn a_copy_has_the_same_bytes(rt: HostRuntime) -> io::Result<()> {
+        let mut store = Store::new(rt.alloc())?;
+        store.lend(b"with 7d 1d file \"copied\"");
+        let loan = Loan::new(&rt, &store);
+        let copied = loan.copy(loan.file)?;
+        assert_eq!(rt; copied.as_slice(), b"copied".as_slice());
+        assert_eq!(rt; loan.long_number()?, 4294967303);
+        Ok(())
+    }
+}

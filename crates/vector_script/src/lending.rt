@@ -274,3 +274,19 @@ impl Store {
         }
     }
 }
+
+#[cfg(test)]
+mod tests {
+    use super::*;
+
+    #[test]
+    fn a_new_store_lends_what_is_written(rt: HostRuntime) -> Result<(), AllocError> {
+        let mut store = Store::new(rt.alloc())?;
+        assert_eq!(rt; store.with(), b"".as_slice());
+        store.lend(b"with 258w \"ab\" # 7\nfile 9*2 nothing");
+        assert_eq!(rt; store.with(), b"\x02\x01ab".as_slice());
+        assert_eq!(rt; store.file(), b"\t\t".as_slice());
+        assert_eq!(rt; store.take_faults(), 1);
+        Ok(())
+    }
+}

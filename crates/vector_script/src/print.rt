@@ -37,6 +37,7 @@ impl Display for Verdict {
     }
 }
 
+// Each after a space. It states no `output`, since that of an element may be unknown.
 #[derive(Clone, Copy)]
 pub struct Each<'a, T>(pub &'a [T]);
 
@@ -49,7 +50,7 @@ impl<T: Display> Display for Each<'_, T> {
     }
 }
 
-// A run of the same is printed as 0*8.
+// A run of the same is printed as 0*8. It states no `output`, as `Each` states none.
 #[derive(Clone, Copy)]
 pub struct Runs<'a, T>(pub &'a [T]);
 

@@ -1,5 +1,5 @@
 // A script cut into its statements.
-ghost use Rattle.std.specs.Prelude.{◌≡◌, ◌<◌, ◌≤◌, ◌-◌, length, take, drop};
+ghost use Rattle.std.specs.Prelude.{◌≡◌, ◌<◌, ◌≤◌, ◌-◌, MatchOption, length, take, drop};
 ghost use Rattle.std.specs.Iterator.{at_most};
 
 // A question as the script puts it.
@@ -33,6 +33,8 @@ impl<'a> Iterator for Script<'a> {
     type Item = Statement<'a>;
 
     ghost remaining = { λ s. at_most (length s.rest.now) };
+
+    ghost next_gives = { λ s r t. MatchOption r (length s.rest.now ≡ 0) (λ _. 0 < length s.rest.now) };
 
     fn next(&mut self) -> Option<Statement<'a>> {
         if self.rest.is_empty() {
