@@ -1,5 +1,7 @@
 // What a question is asked with.
-ghost use Rattle.std.specs.Prelude.{◌<◌, IfOk};
+ghost use Rattle.std.specs.Prelude.{◌≡◌, ◌+◌, ◌*◌, ◌%◌, ◌<◌, IfOk, length, take, drop};
+ghost use Rattle.std.specs.Int.{w16, cast_signed};
+ghost use Rattle.vector_script.specs.Script.{part_between, number_at};
 
 use crate::lending::{Store, WorkWords};
 use crate::print;
@@ -19,7 +21,11 @@ pub struct Loan<'a, R> {
 }
 
 impl<'a, R: Print> Loan<'a, R> {
-    pub fn new(rt: &'a R, store: &'a Store) -> Loan<'a, R> {
+    pub fn new(rt: &'a R, store: &'a Store) -> Loan<'a, R>
+        ensures with { result.with.now ≡ part_between store.now.memory.items 0 store.now.ends.with }
+        ensures file { result.file.now ≡ part_between store.now.memory.items 196608 store.now.ends.file }
+        ensures words { result.words ≡ store.now.words }
+    {
         Loan {
             rt,
             with: store.with(),
@@ -30,7 +36,7 @@ impl<'a, R: Print> Loan<'a, R> {
 
     // A number of 32 bits.
     pub fn number(&self, at: usize) -> io::Result<usize>
-        ensures { IfOk result (λ n. n < 4294967296) }
+        ensures { IfOk result (λ n. (n ≡ number_at self.now.with.now at) × (n < 4294967296)) }
     {
         let number = self.with.get(at..).and_then(|rest| rest.first_chunk());
         match number {
@@ -43,25 +49,33 @@ impl<'a, R: Print> Loan<'a, R> {
     }
 
     // A coordinate, of which the lowest 16 bits count.
-    pub fn coordinate(&self, at: usize) -> io::Result<i16> {
+    pub fn coordinate(&self, at: usize) -> io::Result<i16>
+        ensures { IfOk result (λ z. z ≡ cast_signed w16 (number_at self.now.with.now at % 65536)) }
+    {
         let number = self.number(at)?;
         Ok(((number % 65536) as u16).cast_signed())
     }
 
     // The first number, of 64 bits.
-    pub fn long_number(&self) -> io::Result<usize> {
+    pub fn long_number(&self) -> io::Result<usize>
+        ensures { IfOk result (λ n. n ≡ number_at self.now.with.now 0 + 4294967296 * number_at self.now.with.now 4) }
+    {
         let low = self.number(0)?;
         let high = self.number(4)?;
         Ok(low + 4294967296 * high)
     }
 
     // The bytes that it is asked with, from a place on.
-    pub fn rest(&self, from: usize) -> &'a [u8] {
+    pub fn rest(&self, from: usize) -> &'a [u8]
+        ensures { result.now ≡ drop from self.now.with.now }
+    {
         self.with.get(from..).unwrap_or_default()
     }
 
     // Bytes that have to be there.
-    pub fn part(&self, bytes: &'a [u8], from: usize, to: usize) -> io::Result<&'a [u8]> {
+    pub fn part(&self, bytes: &'a [u8], from: usize, to: usize) -> io::Result<&'a [u8]>
+        ensures { IfOk result (λ part. part.now ≡ part_between bytes.now from to) }
+    {
         match bytes.get(from..to) {
             Some(part) => Ok(part),
             None => {
@@ -72,7 +86,10 @@ impl<'a, R: Print> Loan<'a, R> {
     }
 
     // The file as two files: it is asked with the first one's length.
-    pub fn two_files(&self) -> io::Result<(&'a [u8], &'a [u8])> {
+    pub fn two_files(&self) -> io::Result<(&'a [u8], &'a [u8])>
+        ensures { IfOk result (λ files. (files.0.now ≡ part_between self.now.file.now 0 (number_at self.now.with.now 0))
+            × (files.1.now ≡ drop (number_at self.now.with.now 0) self.now.file.now)) }
+    {
         let length = self.number(0)?;
         let first = self.part(self.file, 0, length)?;
         let second = self.file.get(length..).unwrap_or_default();
@@ -82,11 +99,29 @@ impl<'a, R: Print> Loan<'a, R> {
 
 impl<R: Print + AllocGlobal> Loan<'_, R> {
     // A copy to be written. Too many bytes are ill-formed, and their number is then taken modulo the limit and one.
-    pub fn copy(&self, bytes: &[u8]) -> io::Result<Vec<u8>> {
+    pub fn copy(&self, bytes: &[u8]) -> io::Result<Vec<u8>>
+        ensures { IfOk result (λ copied. copied.items ≡ take (length bytes.now % 64001) bytes.now) }
+    {
         if MOST_COPIED < bytes.len() {
             print::ill_formed(self.rt)?;
         }
         let copied = &bytes[..bytes.len() % (MOST_COPIED + 1)];
         Ok(copied.to_vec(self.rt.alloc())?)
+    }
+}
+
+#[cfg(test)]
+mod tests {
+    use super::*;
+
+    #[test]
+    fn a_copy_has_the_same_bytes(rt: HostRuntime) -> io::Result<()> {
+        let mut store = Store::new(rt.alloc())?;
+        store.lend(b"with 7d 1d file \"copied\"");
+        let loan = Loan::new(&rt, &store);
+        let copied = loan.copy(loan.file)?;
+        assert_eq!(rt; copied.as_slice(), b"copied".as_slice());
+        assert_eq!(rt; loan.long_number()?, 4294967303);
+        Ok(())
     }
 }

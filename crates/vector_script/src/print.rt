@@ -1,4 +1,7 @@
 // Answers as text: numbers, each after a space.
+ghost use Rattle.std.specs.Prelude.{Some};
+ghost use Rattle.vector_script.specs.Script.{verdict_text};
+
 use refusal::Status;
 use std::fmt::{Display, Formatter};
 use std::{fmt, io};
@@ -19,6 +22,8 @@ pub fn faults(rt: &impl Print, count: usize) -> io::Result<()> {
 pub struct Verdict(pub Status);
 
 impl Display for Verdict {
+    ghost output = { λ v. Some (verdict_text v.0) };
+
     fn fmt<W: fmt::Write>(&self, f: &mut Formatter<W>) -> fmt::Result {
         let Verdict(status) = self;
         if status.number == 0 {
@@ -32,6 +37,7 @@ impl Display for Verdict {
     }
 }
 
+// Each after a space. It states no `output`, since that of an element may be unknown.
 #[derive(Clone, Copy)]
 pub struct Each<'a, T>(pub &'a [T]);
 
@@ -44,7 +50,7 @@ impl<T: Display> Display for Each<'_, T> {
     }
 }
 
-// A run of the same is printed as 0*8.
+// A run of the same is printed as 0*8. It states no `output`, as `Each` states none.
 #[derive(Clone, Copy)]
 pub struct Runs<'a, T>(pub &'a [T]);
 

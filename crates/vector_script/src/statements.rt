@@ -1,5 +1,5 @@
 // A script cut into its statements.
-ghost use Rattle.std.specs.Prelude.{◌<◌, ◌≤◌, ◌-◌, length};
+ghost use Rattle.std.specs.Prelude.{◌≡◌, ◌<◌, ◌≤◌, ◌-◌, MatchOption, length, take, drop};
 ghost use Rattle.std.specs.Iterator.{at_most};
 
 // A question as the script puts it.
@@ -20,7 +20,10 @@ pub struct Script<'a> {
 
 impl<'a> Script<'a> {
     // The lines before the first statement, and then the statements.
-    pub fn split(text: &'a [u8]) -> (&'a [u8], Script<'a>) {
+    pub fn split(text: &'a [u8]) -> (&'a [u8], Script<'a>)
+        ensures head { result.0.now ≡ take (length result.0.now) text.now }
+        ensures rest { result.1.rest.now ≡ drop (length result.0.now) text.now }
+    {
         let (head, rest) = text.split_at(statement_start(text, true));
         (head, Script { rest })
     }
@@ -30,6 +33,8 @@ impl<'a> Iterator for Script<'a> {
     type Item = Statement<'a>;
 
     ghost remaining = { λ s. at_most (length s.rest.now) };
+
+    ghost next_gives = { λ s r t. MatchOption r (length s.rest.now ≡ 0) (λ _. 0 < length s.rest.now) };
 
     fn next(&mut self) -> Option<Statement<'a>> {
         if self.rest.is_empty() {

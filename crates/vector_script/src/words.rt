@@ -1,4 +1,6 @@
 // The words of a script.
+ghost use Rattle.std.specs.Prelude.{◌≡◌};
+ghost use Rattle.vector_script.specs.Script.{matched};
 
 // A part of what is lent.
 #[derive(Clone, Copy, Debug, PartialEq, Eq)]
@@ -58,7 +60,9 @@ pub fn named<T: Copy>(names: &[(&str, T)], word: &[u8]) -> Result<T, UnknownWord
 }
 
 // How far the word agrees with a name. After a letter that differs it is compared past the length of all names.
-fn matched(name: &str, word: &[u8], past_all: usize) -> usize {
+fn matched(name: &str, word: &[u8], past_all: usize) -> usize
+    ensures { result ≡ matched word.now past_all name.now }
+{
     name.as_bytes().iter().fold(0, |at: usize, letter| {
         if word.get(at) == Some(letter) {
             at.wrapping_add(1)

@@ -1,0 +1,3 @@
+-- What the contracts of vector_script cite. Assumes nothing.
+
+pub mod Script
