@@ -1,5 +1,7 @@
 -- Sidedefs, vertices and sectors: the fields, read out of the bytes that were made of them, are those fields, and the bytes are the row
 -- of the fields. Assumes nothing.
+-- It stands in specs/ because the law `lossless` of each kind's `impl` cites it. Plain terms: what needs a tactic is a lemma of
+-- `record_field`'s proofs/.
 use mathlib.Core.Path.{refl}
 use mathlib.Core.List.{[], ◌∷◌}
 use Rattle.endian.proofs.Unsigned.{u16_whole}

@@ -1,5 +1,7 @@
 -- Things: the fields, read out of the bytes that were made of them, are those fields, and the bytes are the row of the fields, by the
 -- game. Assumes nothing.
+-- It stands in specs/ because the law `lossless` of each kind's `impl` cites it. Plain terms: what needs a tactic is a lemma of
+-- `record_field`'s proofs/.
 use Prim.Native.Nat.{ℕ}
 use mathlib.Core.Bool.{Bool, true, false, ◌&&◌, ◌||◌}
 use mathlib.Core.Path.{◌≡◌, refl, sym, ap, ◌∙◌}
