@@ -1,4 +1,4 @@
-// A pair of files: a patch over a base.
+// A pair of files: a patch over a base. An answer for each call: C has no generic struct.
 #![tactic(auto)]
 
 ghost use Rattle.std.specs.Prelude.{◌≡◌};
