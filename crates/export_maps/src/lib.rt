@@ -1,4 +1,4 @@
-// A map, its game, a point's descent, its draw order, and its first hazard.
+// A map, its game, a point's descent, its draw order, and its first hazard. An answer for each call: C has no generic struct.
 #![tactic(auto)]
 
 mod hazards;
