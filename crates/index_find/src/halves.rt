@@ -24,7 +24,7 @@ fn compare(at: &IndexedDirectory, asked: [u8; 8], i: usize) -> Ordering
     key_of(record.name).cmp(&key_of(asked))
 }
 
-// The asked name is a slice of eight bytes, as C lends it (`name`). Compares the record behind half of those that are left. If it is not above the asked name the search goes on after
+// Compares the record behind half of those that are left. If it is not above the asked name the search goes on after
 // it, otherwise before it. No `partition_point`: it does not say how many names it compares, and `compared` is promised.
 pub fn gone_past(at: &IndexedDirectory, name: &[u8]) -> GonePast
     requires { length name.now ≡ 8 }

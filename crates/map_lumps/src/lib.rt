@@ -15,14 +15,14 @@ pub use size::judge_reject;
 
 // A map's ten lumps: the entries behind its marker in a file's directory.
 #[derive(Clone, Copy)]
-pub struct MapLumps<'a> {
+pub struct MapLumps<'a, 'd> {
     pub wad: &'a [u8],
-    pub dir: &'a [u8],
+    pub dir: &'d [u8],
     pub marker: usize,
     pub ghost present: { 16 * (marker + 11) ≤ length dir.now },
 }
 
-impl<'a> MapLumps<'a> {
+impl<'a> MapLumps<'a, '_> {
     // The lump at a place.
     pub fn lump(&self, place: usize) -> &'a [u8]
         requires { (1 ≤ place) × (place ≤ 10) }

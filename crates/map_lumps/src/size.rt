@@ -9,7 +9,7 @@ use crate::MapLumps;
 use record::{Node, Subsector};
 use refusal::Refusal;
 
-impl MapLumps<'_> {
+impl MapLumps<'_, '_> {
     fn whole_ok(&self, hexen: bool, place: usize) -> bool
         requires { (1 ≤ place) × (place ≤ 8) }
         ensures { result ≡ whole_ok hexen (map_lumps self.now.wad.now self.now.dir.now self.now.marker) place }

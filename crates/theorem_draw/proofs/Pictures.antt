@@ -41,7 +41,8 @@ use Rattle.std.specs.Result.{result_err}
 use Rattle.hazard.specs.Findings.{Finding, found_unless, ◌or_else◌, each_of}
 use Rattle.hazard.specs.Segs.{takes_again, seg_twice_at, seg_twice}
 use Rattle.hazard.specs.Hazards.{hazard_at, hazard_by}
-use Rattle.hazard.proofs.Findings.{unless-nothing, each_none, each-suc, each-nothing}
+use Rattle.refusal.specs.Checks.{each}
+use Rattle.refusal.proofs.Checks.{unless_pass, each_none, each_pass}
 use Rattle.export_maps.specs.declared.hazards.HazardAnswer.{HazardAnswer}
 use Rattle.export_maps.specs.Hazards.{hazard_out, finding_out, answer_out}
 use Rattle.export_maps.specs.declared.OrderAnswer.{OrderAnswer}
@@ -53,6 +54,10 @@ use Rattle.theorem_draw.specs.Pictures.{segs_drawn, PicturesBounded}
 use Rattle.theorem_draw.proofs.Draws.{draws_accepted}
 use Rattle.theorem_draw.proofs.Depths.{root-low}
 use Rattle.theorem_draw.proofs.Segs.{drawn-once, drawn-low}
+
+each-suc : (f : ℕ → Finding) (n : ℕ) → each f (suc n) ≡ each f n or_else f n
+unfolding each
+each-suc f n = refl
 
 -- ---- no hazard 1
 
@@ -79,8 +84,8 @@ module _ (lump : List ℕ) where
   none-again : (rest : Finding) → ((finding_out (result_err (seg_twice lump or_else rest))).hazard ≡ 1 → ⊥) → (k : ℕ) → k < length lump / subsector_size → takes_again lump k ≡ false
   none-again rest other k h =
       not-true (takes_again lump k)
-      (unless-nothing (not (takes_again lump k)) (SegTwice k)
-      (each-nothing (seg_twice_at lump) _ (nothing-by (seg_twice lump) rest refl other) k h))
+      (unless_pass (not (takes_again lump k)) (SegTwice k)
+      (each_pass (seg_twice_at lump) _ (nothing-by (seg_twice lump) rest refl other) k h))
 
 -- ---- an order that is listed
 
