@@ -26,11 +26,11 @@ matched word past name = fold (agrees word past) 0 name
 
 -- the memory of `t` is as long as that of `s`
 abbrev pub Kept : Store → Store → Type 0
-Kept s t = length t.memory.items ≡ length s.memory.items
+Kept s t = length t.memory.now ≡ length s.memory.now
 
 -- if the memory has room for `n` bytes more, writing goes on behind them
 abbrev pub GoesOn : Store → ℕ → Store → Type 0
-GoesOn s n t = s.at + n ≤ length s.memory.items → t.at ≡ s.at + n
+GoesOn s n t = s.at + n ≤ length s.memory.now → t.at ≡ s.at + n
 
 -- in how many bytes a number is written
 abbrev pub width_bytes : Width → ℕ

@@ -8,7 +8,7 @@ use crate::print;
 use std::io;
 
 // A copy has at most so many bytes.
-const MOST_COPIED: usize = 64000;
+pub const MOST_COPIED: usize = 64000;
 
 // What is lent to a question. Where it asks for what is not there, this prints that the script is ill-formed.
 #[derive(Drop)]
@@ -21,9 +21,9 @@ pub struct Loan<'a, R> {
 }
 
 impl<'a, R: Print> Loan<'a, R> {
-    pub fn new(rt: &'a R, store: &'a Store) -> Loan<'a, R>
-        ensures with { result.with.now ≡ part_between store.now.memory.items 0 store.now.ends.with }
-        ensures file { result.file.now ≡ part_between store.now.memory.items 196608 store.now.ends.file }
+    pub fn new(rt: &'a R, store: &'a Store<'_>) -> Loan<'a, R>
+        ensures with { result.with.now ≡ part_between store.now.memory.now 0 store.now.ends.with }
+        ensures file { result.file.now ≡ part_between store.now.memory.now 196608 store.now.ends.file }
         ensures words { result.words ≡ store.now.words }
     {
         Loan {
@@ -95,32 +95,41 @@ impl<'a, R: Print> Loan<'a, R> {
         let second = self.file.get(length..).unwrap_or_default();
         Ok((first, second))
     }
-}
 
-impl<R: Print + AllocGlobal> Loan<'_, R> {
-    // A copy to be written. Too many bytes are ill-formed, and their number is then taken modulo the limit and one.
-    pub fn copy(&self, bytes: &[u8]) -> io::Result<Vec<u8>>
-        ensures { IfOk result (λ copied. copied.items ≡ take (length bytes.now % 64001) bytes.now) }
-    {
+    // What is copied has to fit its copy.
+    pub fn fits(&self, bytes: &[u8]) -> io::Result<()> {
         if MOST_COPIED < bytes.len() {
             print::ill_formed(self.rt)?;
         }
-        let copied = &bytes[..bytes.len() % (MOST_COPIED + 1)];
-        Ok(copied.to_vec(self.rt.alloc())?)
+        Ok(())
+    }
+
+    // A copy to be written, in a buffer that is lent. Of too many bytes their number is taken modulo the limit and one.
+    pub fn copy<'b>(&self, bytes: &[u8], buffer: &'b mut [u8; MOST_COPIED]) -> &'b mut [u8]
+        ensures { result.now ≡ take (length bytes.now % 64001) bytes.now }
+    {
+        let length = bytes.len() % (MOST_COPIED + 1);
+        let copied = &mut buffer[..length];
+        copied.copy_from_slice(&bytes[..length]);
+        copied
     }
 }
 
 #[cfg(test)]
 mod tests {
     use super::*;
+    use crate::lending::MEMORY;
 
     #[test]
     fn a_copy_has_the_same_bytes(rt: HostRuntime) -> io::Result<()> {
-        let mut store = Store::new(rt.alloc())?;
-        store.lend(b"with 7d 1d file \"copied\"");
+        let mut memory = [0; MEMORY];
+        let mut store = Store::new(&mut memory);
+        store.lend(&rt, b"with 7d 1d file \"copied\"")?;
         let loan = Loan::new(&rt, &store);
-        let copied = loan.copy(loan.file)?;
-        assert_eq!(rt; copied.as_slice(), b"copied".as_slice());
+        loan.fits(loan.file)?;
+        let mut buffer = [0; MOST_COPIED];
+        let copied = loan.copy(loan.file, &mut buffer);
+        assert_eq!(rt; *copied, *b"copied".as_slice());
         assert_eq!(rt; loan.long_number()?, 4294967303);
         Ok(())
     }

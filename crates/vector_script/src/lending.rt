@@ -1,18 +1,18 @@
 // What the statements lend.
-ghost use Rattle.std.specs.Prelude.{◌≡◌, IfOk, length};
+ghost use Rattle.std.specs.Prelude.{◌≡◌, ◌<◌, IsOk, length, replicate};
 ghost use Rattle.vector_script.specs.Script.{part_between, width_bytes, Kept, GoesOn};
 
 use crate::numbers::{Number, Width};
-use crate::statements::up_to;
+use crate::print;
+use crate::statements::{Tokens, up_to};
 use crate::words::{Part, Purpose, UnknownWord, Word};
-use std::alloc::{AllocError, Global};
-use std::mem;
+use std::{io, mem};
 
 // Both parts lie in one memory, where a long one runs into the other, as ever: what is asked with at its front, and
 // behind it the file, of up to 2 MB.
 const FILE_START: usize = 196608;
 
-const MEMORY: usize = 2200000;
+pub const MEMORY: usize = 2200000;
 
 // How many bytes are repeated and how often is taken modulo this, so that the product fits.
 const REPEATED_BELOW: usize = 2097152;
@@ -31,42 +31,44 @@ struct Ends {
     file: usize,
 }
 
+// The memory is lent, so that nothing here allocates. Each method that lends prints where the script is ill-formed, at the
+// place where it meets it, and ends at the first error of printing.
 #[derive(Debug, Drop)]
-pub struct Store {
-    memory: Vec<u8>,
+pub struct Store<'a> {
+    memory: &'a mut [u8],
     ends: Ends,
     // The part that is written, where writing goes on, and what the next number is for.
     part: Part,
     at: usize,
     purpose: Purpose,
     words: WorkWords,
-    // How many places were ill-formed.
-    faults: usize,
 }
 
-impl Store {
-    pub fn new(alloc: Global) -> Result<Store, AllocError>
-        ensures { IfOk result (λ s. (length s.memory.items ≡ 2200000) × (s.ends.with ≡ 0) × (s.ends.file ≡ 0) × (s.words.count ≡ 0) × (s.faults ≡ 0)) }
+impl<'a> Store<'a> {
+    // The memory is filled with zeros.
+    pub fn new(memory: &'a mut [u8; MEMORY]) -> Store<'a>
+        ensures memory { result.memory.now ≡ replicate (length memory.old) 0 }
+        ensures nothing_lent { (result.ends.with ≡ 0) × (result.ends.file ≡ 0) × (result.words.count ≡ 0) }
     {
-        Ok(Store {
-            memory: vec![in alloc; 0; MEMORY]?,
+        memory.fill(0);
+        Store {
+            memory,
             ends: Ends::default(),
             part: Part::With,
             at: 0,
             purpose: Purpose::Write,
             words: WorkWords::default(),
-            faults: 0,
-        })
+        }
     }
 
     pub fn with(&self) -> &[u8]
-        ensures { result.now ≡ part_between self.now.memory.items 0 self.now.ends.with }
+        ensures { result.now ≡ part_between self.now.memory.now 0 self.now.ends.with }
     {
         self.memory.get(..self.ends.with).unwrap_or_default()
     }
 
     pub fn file(&self) -> &[u8]
-        ensures { result.now ≡ part_between self.now.memory.items 196608 self.now.ends.file }
+        ensures { result.now ≡ part_between self.now.memory.now 196608 self.now.ends.file }
     {
         self.memory
             .get(FILE_START..self.ends.file)
@@ -79,16 +81,8 @@ impl Store {
         self.words
     }
 
-    // How many places were ill-formed since the last call.
-    pub fn take_faults(&mut self) -> usize
-        ensures faults { (result ≡ self.old.faults) × (self.new.faults ≡ 0) }
-        ensures rest { (self.new.memory ≡ self.old.memory) × (self.new.ends ≡ self.old.ends) × (self.new.words ≡ self.old.words) }
-    {
-        mem::take(&mut self.faults)
-    }
-
     // Lends what the last base says, and then what the statement says.
-    pub fn lend_both(&mut self, base: &[u8], lines: &[u8])
+    pub fn lend_both(&mut self, rt: &impl Print, base: &[u8], lines: &[u8]) -> io::Result<()>
         ensures { Kept self.old self.new }
     {
         self.ends = Ends {
@@ -96,52 +90,41 @@ impl Store {
             file: FILE_START,
         };
         self.words.count = 0;
-        self.lend(base);
-        self.lend(lines);
+        self.lend(rt, base)?;
+        self.lend(rt, lines)
     }
 
-    // A # begins a comment.
-    pub fn lend(&mut self, lines: &[u8])
+    pub fn lend(&mut self, rt: &impl Print, lines: &[u8]) -> io::Result<()>
         ensures { Kept self.old self.new }
     {
-        for line in lines.split(|b| *b == b'\n') {
-            for token in line.split(|b| *b == b' ') {
-                if token.starts_with(b"#") {
-                    break;
-                }
-                self.take(token);
-            }
+        for token in Tokens::of(lines) {
+            self.take(rt, token)?;
         }
+        Ok(())
     }
 
-    fn take(&mut self, token: &[u8])
+    fn take(&mut self, rt: &impl Print, token: &[u8]) -> io::Result<()>
         ensures { Kept self.old self.new }
     {
         match token {
-            [] => {}
-            [b'"', text @ ..] => self.write_text(text),
-            [b'-' | b'0'..=b'9', ..] => self.use_number(Number::from(token)),
-            _ => self.obey(token),
+            [] | [b'#', ..] => Ok(()),
+            [b'"', text @ ..] => self.write_text(rt, text),
+            [b'-' | b'0'..=b'9', ..] => self.use_number(rt, Number::from(token)),
+            _ => self.obey(rt, token),
         }
     }
 
-    fn fault(&mut self)
-        ensures kept { Kept self.old self.new }
-        ensures goes_on { self.new.at ≡ self.old.at }
-    {
-        self.faults = self.faults.saturating_add(1);
-    }
-
     // A word says which part is written next, or what the next number is for.
-    fn obey(&mut self, word: &[u8])
+    fn obey(&mut self, rt: &impl Print, word: &[u8]) -> io::Result<()>
         ensures { Kept self.old self.new }
     {
         self.purpose = Purpose::Write;
         match Word::try_from(word) {
             Ok(Word::Begin(part)) => self.begin(part),
             Ok(Word::Next(purpose)) => self.purpose = purpose,
-            Err(UnknownWord) => self.fault(),
+            Err(UnknownWord) => print::ill_formed(rt)?,
         }
+        Ok(())
     }
 
     fn begin(&mut self, part: Part)
@@ -161,37 +144,39 @@ impl Store {
     }
 
     // A number is written, unless a word said what else it is for.
-    fn use_number(&mut self, number: Number)
+    fn use_number(&mut self, rt: &impl Print, number: Number) -> io::Result<()>
         ensures { Kept self.old self.new }
     {
-        self.faults = self.faults.saturating_add(number.strays);
+        print::faults(rt, number.strays)?;
         let Number { value, times, .. } = number;
         match mem::replace(&mut self.purpose, Purpose::Write) {
-            Purpose::Write => self.write_times(number),
+            Purpose::Write => self.write_times(rt, number),
             Purpose::Words => {
                 self.words = WorkWords {
                     word: value,
                     count: times,
                 };
+                Ok(())
             }
-            Purpose::At => self.go_to(value),
-            Purpose::Again => self.repeat(value, times),
-            Purpose::Rise => self.write_rising(value, times),
+            Purpose::At => self.go_to(rt, value),
+            Purpose::Again => self.repeat(rt, value, times),
+            Purpose::Rise => self.write_rising(rt, value, times),
         }
     }
 
     // Writing goes on in the file, at most at its end.
-    fn go_to(&mut self, offset: usize)
+    fn go_to(&mut self, rt: &impl Print, offset: usize) -> io::Result<()>
         ensures { Kept self.old self.new }
     {
         self.part = Part::File;
         self.at = FILE_START.wrapping_add(offset);
         if self.ends.file < self.at {
-            self.fault();
+            print::ill_formed(rt)?;
         }
+        Ok(())
     }
 
-    fn write_times(&mut self, number: Number)
+    fn write_times(&mut self, rt: &impl Print, number: Number) -> io::Result<()>
         ensures { Kept self.old self.new }
     {
         let Number {
@@ -200,78 +185,86 @@ impl Store {
             times,
             ..
         } = number;
-        self.write_number(value, width);
+        self.write_number(rt, value, width)?;
         if 1 < times {
-            self.repeat(width.bytes(), times - 1);
+            self.repeat(rt, width.bytes(), times - 1)?;
         }
+        Ok(())
     }
 
     // The lowest byte first. What does not fit the width is ill-formed, but for a negative number's upper bits.
-    fn write_number(&mut self, value: usize, width: Width)
+    fn write_number(&mut self, rt: &impl Print, value: usize, width: Width) -> io::Result<()>
         ensures kept { Kept self.old self.new }
         ensures goes_on { GoesOn self.old (width_bytes width) self.new }
     {
         let bytes = value.to_le_bytes();
         let (written, left) = bytes.split_at(width.bytes());
-        self.write_all(written);
+        self.write_all(rt, written)?;
         let fits = left.iter().all(|b| *b == 0);
         if !fits && value.cast_signed() >= 0 {
-            self.fault();
+            print::ill_formed(rt)?;
         }
+        Ok(())
     }
 
     // The last n bytes, so many times more.
-    fn repeat(&mut self, n: usize, times: usize)
+    fn repeat(&mut self, rt: &impl Print, n: usize, times: usize) -> io::Result<()>
         ensures { Kept self.old self.new }
     {
         let count = (n % REPEATED_BELOW) * (times % REPEATED_BELOW);
         for _place in self.at..self.at.wrapping_add(count) {
-            let last = self.memory.get(self.at.wrapping_sub(n)).copied();
-            self.write(last.unwrap_or(b'\n'));
+            let from = self.at.wrapping_sub(n);
+            let last = self.memory.get(from).copied();
+            self.write(rt, last.unwrap_or(b'\n'))?;
         }
+        Ok(())
     }
 
     // The words 0, 1, 2 and so on, at each n bytes.
-    fn write_rising(&mut self, n: usize, times: usize)
+    fn write_rising(&mut self, rt: &impl Print, n: usize, times: usize) -> io::Result<()>
         ensures { Kept self.old self.new }
     {
         for word in 0..times {
-            self.write_number(word, Width::Word);
+            self.write_number(rt, word, Width::Word)?;
             self.at = self.at.wrapping_add(n.wrapping_sub(2));
         }
+        Ok(())
     }
 
     // Text up to its first quote.
-    fn write_text(&mut self, text: &[u8])
+    fn write_text(&mut self, rt: &impl Print, text: &[u8]) -> io::Result<()>
         ensures { Kept self.old self.new }
     {
-        self.write_all(up_to(text, b'"'));
+        self.write_all(rt, up_to(text, b'"'))
     }
 
-    fn write_all(&mut self, bytes: &[u8])
+    fn write_all(&mut self, rt: &impl Print, bytes: &[u8]) -> io::Result<()>
         ensures kept { Kept self.old self.new }
         ensures goes_on { GoesOn self.old (length bytes.now) self.new }
     {
         for b in bytes {
-            self.write(*b);
+            self.write(rt, *b)?;
         }
+        Ok(())
     }
 
     // Writing goes on behind the byte, and so does the part, unless it was longer already.
-    fn write(&mut self, byte: u8)
+    fn write(&mut self, rt: &impl Print, byte: u8) -> io::Result<()>
         ensures kept { Kept self.old self.new }
         ensures goes_on { GoesOn self.old 1 self.new }
+        ensures fits { self.old.at < length self.old.memory.now → IsOk result }
     {
-        let Some(place) = self.memory.get_mut(self.at) else {
-            self.fault();
-            return;
-        };
-        *place = byte;
-        self.at += 1;
+        let at = self.at;
+        if self.memory.len() <= at {
+            return print::ill_formed(rt);
+        }
+        self.memory[at] = byte;
+        self.at = at + 1;
         match self.part {
             Part::With => self.ends.with = self.ends.with.max(self.at),
             Part::File => self.ends.file = self.ends.file.max(self.at),
         }
+        Ok(())
     }
 }
 
@@ -280,13 +273,14 @@ mod tests {
     use super::*;
 
     #[test]
-    fn a_new_store_lends_what_is_written(rt: HostRuntime) -> Result<(), AllocError> {
-        let mut store = Store::new(rt.alloc())?;
+    fn a_new_store_lends_what_is_written(rt: HostRuntime) -> io::Result<()> {
+        let mut memory = [0; MEMORY];
+        let mut store = Store::new(&mut memory);
         assert_eq!(rt; store.with(), b"".as_slice());
-        store.lend(b"with 258w \"ab\" # 7\nfile 9*2 nothing");
+        store.lend(&rt, b"with 258w \"ab\" # 7\nfile 9*2 nothing")?;
         assert_eq!(rt; store.with(), b"\x02\x01ab".as_slice());
         assert_eq!(rt; store.file(), b"\t\t".as_slice());
-        assert_eq!(rt; store.take_faults(), 1);
+        assert_eq!(rt; Word::try_from(b"nothing".as_slice()), Err(UnknownWord));
         Ok(())
     }
 }

@@ -8,8 +8,8 @@ pub mod print;
 mod statements;
 mod words;
 
-pub use arguments::Loan;
-pub use lending::{Store, WorkWords};
+pub use arguments::{Loan, MOST_COPIED};
+pub use lending::{MEMORY, Store, WorkWords};
 pub use statements::{Script, Statement};
 pub use words::{UnknownWord, named};
 

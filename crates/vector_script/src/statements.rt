@@ -52,6 +52,41 @@ impl<'a> Iterator for Script<'a> {
     }
 }
 
+// The tokens that are not read yet. A space or a line's end stands behind each, and more of these make empty tokens.
+#[derive(Clone, Copy, Debug)]
+pub(crate) struct Tokens<'a> {
+    rest: &'a [u8],
+}
+
+impl<'a> Tokens<'a> {
+    pub(crate) fn of(lines: &'a [u8]) -> Tokens<'a> {
+        Tokens { rest: lines }
+    }
+}
+
+impl<'a> Iterator for Tokens<'a> {
+    type Item = &'a [u8];
+
+    ghost remaining = { λ s. at_most (length s.rest.now) };
+
+    ghost next_gives = { λ s r t. MatchOption r (length s.rest.now ≡ 0) (λ _. 0 < length s.rest.now) };
+
+    // A # begins a comment, which is one token up to the line's end.
+    fn next(&mut self) -> Option<&'a [u8]> {
+        if self.rest.is_empty() {
+            return None;
+        }
+        let mark = if self.rest.starts_with(b"#") {
+            b'\n'
+        } else {
+            b' '
+        };
+        let token = up_to(self.rest, mark);
+        self.rest = self.rest.get(token.len() + 1..).unwrap_or_default();
+        Some(token)
+    }
+}
+
 // The bytes before the next mark, or before the line's end.
 pub(crate) fn up_to(text: &[u8], mark: u8) -> &[u8]
     ensures { length result.now ≤ length text.now }

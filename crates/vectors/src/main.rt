@@ -2,6 +2,8 @@
 // file stdout. The head of the file stdin says how a statement is written.
 #![tactic(auto)]
 
+ghost use Rattle.std.specs.Prelude.{◌≤◌, length, IfOk};
+
 mod files;
 mod maps;
 mod pictures;
@@ -12,23 +14,38 @@ mod texts;
 use questions::Question;
 use std::io;
 use std::io::Read;
-use vector_script::{Loan, ROOM, Script, Store, print};
+use vector_script::{Loan, MEMORY, ROOM, Script, Store, print};
 
 fn main(rt: HostRuntime) -> io::Result<()> {
-    let mut text = Vec::new(rt.alloc());
-    rt.reader().take(ROOM as u64).read_to_end(&mut text)?;
-    answer_all(&rt, text.as_slice())?;
-    if text.len() == ROOM {
+    let mut text = [0; ROOM];
+    let length = read_full(&mut rt.reader(), &mut text)?;
+    let mut memory = [0; MEMORY];
+    answer_all(&rt, &text[..length], &mut memory)?;
+    if length == ROOM {
         print::ill_formed(&rt)?;
     }
     Ok(())
 }
 
-fn answer_all(rt: &(impl Print + AllocGlobal), text: &[u8]) -> io::Result<()> {
+// Reads until the room is full or the input ends, and says how much was read.
+fn read_full(input: &mut impl Read, room: &mut [u8]) -> io::Result<usize>
+    ensures { IfOk result (λ n. n ≤ length room.new) }
+{
+    let mut n = 0;
+    while n < room.len() {
+        let more = input.read(&mut room[n..])?;
+        if more == 0 {
+            break;
+        }
+        n += more;
+    }
+    Ok(n)
+}
+
+fn answer_all(rt: &impl Print, text: &[u8], memory: &mut [u8; MEMORY]) -> io::Result<()> {
     let (head, script) = Script::split(text);
-    let mut store = Store::new(rt.alloc())?;
-    store.lend(head);
-    print::faults(rt, store.take_faults())?;
+    let mut store = Store::new(memory);
+    store.lend(rt, head)?;
     let mut base = head;
     for statement in script {
         rt.write_all(statement.heading)?;
@@ -36,8 +53,7 @@ fn answer_all(rt: &(impl Print + AllocGlobal), text: &[u8]) -> io::Result<()> {
         if question == Ok(Question::Base) {
             base = statement.lines;
         }
-        store.lend_both(base, statement.lines);
-        print::faults(rt, store.take_faults())?;
+        store.lend_both(rt, base, statement.lines)?;
         questions::put(question, &Loan::new(rt, &store))?;
         rt.write_all(b"\n")?;
     }

@@ -4,26 +4,22 @@ ghost use Rattle.std.specs.Prelude.{◌≤◌};
 use export_pictures::PictureAnswer;
 use picture_header::Picture;
 use std::io;
-use vector_script::Loan;
 use vector_script::print::{Each, Runs, Verdict};
+use vector_script::{Loan, MOST_COPIED};
 
 // Judged, painted, and both planes. Asked with the length of the colour plane, then what both planes hold.
-pub(crate) fn picture<R: Print + AllocGlobal>(loan: &Loan<'_, R>) -> io::Result<()> {
+pub(crate) fn picture<R: Print>(loan: &Loan<'_, R>) -> io::Result<()> {
     let (colours, covers) = planes(loan, 0)?;
-    let mut colour = loan.copy(colours)?;
-    let mut cover = loan.copy(covers)?;
+    loan.fits(colours)?;
+    loan.fits(covers)?;
+    let mut colour_room = [0; MOST_COPIED];
+    let mut cover_room = [0; MOST_COPIED];
+    let colour = loan.copy(colours, &mut colour_room);
+    let cover = loan.copy(covers, &mut cover_room);
     picture_answer(loan, export_pictures::meshpigeon_judge_picture(loan.file))?;
-    let painted = export_pictures::meshpigeon_paint_picture(
-        loan.file,
-        colour.as_mut_slice(),
-        cover.as_mut_slice(),
-    );
+    let painted = export_pictures::meshpigeon_paint_picture(loan.file, colour, cover);
     picture_answer(loan, painted)?;
-    print!(loan.rt;
-        "{} cover{}",
-        Runs(colour.as_slice()),
-        Runs(cover.as_slice())
-    )
+    print!(loan.rt; "{} cover{}", Runs(colour), Runs(cover))
 }
 
 fn picture_answer<R: Print>(loan: &Loan<'_, R>, a: PictureAnswer) -> io::Result<()> {
@@ -47,7 +43,7 @@ fn planes<'a, R: Print>(loan: &Loan<'a, R>, at: usize) -> io::Result<(&'a [u8], 
 }
 
 // Written over the file. Asked with width, height, both offsets and the length of the colour plane, then what both planes hold.
-pub(crate) fn encode<R: Print + AllocGlobal>(loan: &Loan<'_, R>) -> io::Result<()> {
+pub(crate) fn encode<R: Print>(loan: &Loan<'_, R>) -> io::Result<()> {
     let (colours, covers) = planes(loan, 16)?;
     let picture = Picture {
         width: loan.number(0)?,
@@ -55,12 +51,9 @@ pub(crate) fn encode<R: Print + AllocGlobal>(loan: &Loan<'_, R>) -> io::Result<(
         left: loan.coordinate(8)?,
         top: loan.coordinate(12)?,
     };
-    let mut out = loan.copy(loan.file)?;
-    let a = export_pictures::meshpigeon_write_picture(picture, colours, covers, out.as_mut_slice());
-    print!(loan.rt;
-        "{} {}{}",
-        Verdict(a.status),
-        a.length,
-        Runs(out.as_slice())
-    )
+    loan.fits(loan.file)?;
+    let mut room = [0; MOST_COPIED];
+    let out = loan.copy(loan.file, &mut room);
+    let a = export_pictures::meshpigeon_write_picture(picture, colours, covers, out);
+    print!(loan.rt; "{} {}{}", Verdict(a.status), a.length, Runs(out))
 }

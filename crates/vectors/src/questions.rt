@@ -1,7 +1,6 @@
 // The questions by their words.
 use crate::records::{Games, Kind};
 use crate::{files, maps, pictures, records, texts};
-use std::alloc::AllocError;
 use std::io;
 use vector_script::{Loan, UnknownWord, named, print};
 
@@ -105,12 +104,6 @@ impl From<io::Error> for Fault {
     }
 }
 
-impl From<AllocError> for Fault {
-    fn from(error: AllocError) -> Fault {
-        Fault::Io(io::Error::from(error))
-    }
-}
-
 impl From<UnknownWord> for Fault {
     fn from(_: UnknownWord) -> Fault {
         Fault::IllFormed
@@ -118,7 +111,7 @@ impl From<UnknownWord> for Fault {
 }
 
 // Puts a question to the library with what is lent, and prints the answer.
-pub(crate) fn put<R: Print + AllocGlobal>(
+pub(crate) fn put<R: Print>(
     question: Result<Question, UnknownWord>,
     loan: &Loan<'_, R>,
 ) -> io::Result<()> {
@@ -129,7 +122,7 @@ pub(crate) fn put<R: Print + AllocGlobal>(
     }
 }
 
-fn answer<R: Print + AllocGlobal>(
+fn answer<R: Print>(
     question: Result<Question, UnknownWord>,
     loan: &Loan<'_, R>,
 ) -> Result<(), Fault> {

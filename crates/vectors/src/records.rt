@@ -2,8 +2,8 @@
 // is printed too.
 use refusal::Status;
 use std::io;
-use vector_script::Loan;
 use vector_script::print::{Each, Runs, Verdict};
+use vector_script::{Loan, MOST_COPIED};
 
 // What things and linedefs are read as, and then written as: Hexen's or Doom's.
 #[derive(Clone, Copy, Debug, PartialEq, Eq)]
@@ -46,31 +46,35 @@ pub(crate) enum Kind {
     Sector,
 }
 
-// A record's place to be read from, and a copy of the lump with a place to write it to.
+// A record's place to be read from, and its place in the copy of the lump that it is written to.
 #[derive(Drop)]
 struct Places<'a, R> {
     rt: &'a R,
     from: &'a [u8],
     index: usize,
-    copy: Vec<u8>,
     written: usize,
 }
 
 impl<R: Print> Places<'_, R> {
     // Writes a record into the copy, and prints the write's status and the copy.
-    fn write<F: FnOnce(&mut [u8], usize) -> Status>(mut self, write: F) -> io::Result<()>
+    fn write<F: FnOnce(&mut [u8], usize) -> Status>(
+        self,
+        copy: &mut [u8],
+        write: F,
+    ) -> io::Result<()>
         requires { F.IsAlwaysCallable write }
     {
-        let index = self.written;
-        let status = write(self.copy.as_mut_slice(), index);
-        print!(self.rt; "{}{}", Verdict(status), Runs(self.copy.as_slice()))
+        let status = write(copy, self.written);
+        print!(self.rt; "{}{}", Verdict(status), Runs(copy))
     }
 }
 
 // Asked with an index alone, it is read there; with an index and its bytes, from those. It is written to the index.
-pub(crate) fn put<R: Print + AllocGlobal>(kind: Kind, loan: &Loan<'_, R>) -> io::Result<()> {
+pub(crate) fn put<R: Print>(kind: Kind, loan: &Loan<'_, R>) -> io::Result<()> {
     let written = loan.number(0)?;
-    let copy = loan.copy(loan.file)?;
+    loan.fits(loan.file)?;
+    let mut room = [0; MOST_COPIED];
+    let copy = loan.copy(loan.file, &mut room);
     let (from, index) = if loan.with.len() == 4 {
         (loan.file, written)
     } else {
@@ -80,26 +84,25 @@ pub(crate) fn put<R: Print + AllocGlobal>(kind: Kind, loan: &Loan<'_, R>) -> io:
         rt: loan.rt,
         from,
         index,
-        copy,
         written,
     };
-    read_and_write(kind, places)
+    read_and_write(kind, places, copy)
 }
 
-fn read_and_write<R: Print>(kind: Kind, places: Places<'_, R>) -> io::Result<()> {
+fn read_and_write<R: Print>(kind: Kind, places: Places<'_, R>, copy: &mut [u8]) -> io::Result<()> {
     match kind {
-        Kind::Thing(games) => thing(games, places),
-        Kind::Linedef(games) => linedef(games, places),
-        Kind::Sidedef => sidedef(places),
-        Kind::Vertex => vertex(places),
-        Kind::Seg => seg(places),
-        Kind::Subsector => subsector(places),
-        Kind::Node => node(places),
-        Kind::Sector => sector(places),
+        Kind::Thing(games) => thing(games, places, copy),
+        Kind::Linedef(games) => linedef(games, places, copy),
+        Kind::Sidedef => sidedef(places, copy),
+        Kind::Vertex => vertex(places, copy),
+        Kind::Seg => seg(places, copy),
+        Kind::Subsector => subsector(places, copy),
+        Kind::Node => node(places, copy),
+        Kind::Sector => sector(places, copy),
     }
 }
 
-fn thing<R: Print>(games: Games, places: Places<'_, R>) -> io::Result<()> {
+fn thing<R: Print>(games: Games, places: Places<'_, R>, copy: &mut [u8]) -> io::Result<()> {
     let a = export_records::meshpigeon_read_thing(places.from, places.index, games.read_hexen);
     let mut t = a.thing;
     print!(places.rt; "{}", Each(&[t.id, t.x, t.y, t.height]))?;
@@ -114,10 +117,13 @@ fn thing<R: Print>(games: Games, places: Places<'_, R>) -> io::Result<()> {
         Verdict(a.status)
     )?;
     t.hexen = games.write_hexen;
-    places.write(|lump, i| export_records::meshpigeon_write_thing(lump, i, t))
+    places.write(
+        copy,
+        |lump, i| export_records::meshpigeon_write_thing(lump, i, t),
+    )
 }
 
-fn linedef<R: Print>(games: Games, places: Places<'_, R>) -> io::Result<()> {
+fn linedef<R: Print>(games: Games, places: Places<'_, R>, copy: &mut [u8]) -> io::Result<()> {
     let a = export_records::meshpigeon_read_linedef(places.from, places.index, games.read_hexen);
     let mut l = a.linedef;
     let words = [l.start, l.end, l.flags, l.special, l.tag, l.right, l.left];
@@ -129,26 +135,35 @@ fn linedef<R: Print>(games: Games, places: Places<'_, R>) -> io::Result<()> {
         Verdict(a.status)
     )?;
     l.hexen = games.write_hexen;
-    places.write(|lump, i| export_records::meshpigeon_write_linedef(lump, i, l))
+    places.write(
+        copy,
+        |lump, i| export_records::meshpigeon_write_linedef(lump, i, l),
+    )
 }
 
-fn sidedef<R: Print>(places: Places<'_, R>) -> io::Result<()> {
+fn sidedef<R: Print>(places: Places<'_, R>, copy: &mut [u8]) -> io::Result<()> {
     let a = export_records::meshpigeon_read_sidedef(places.from, places.index);
     let s = a.sidedef;
     print!(places.rt; "{}", Each(&[s.x_offset, s.y_offset]))?;
     print!(places.rt; "{}{}{}", Runs(&s.upper), Runs(&s.lower), Runs(&s.middle))?;
     print!(places.rt; " {}{}", s.sector, Verdict(a.status))?;
-    places.write(|lump, i| export_records::meshpigeon_write_sidedef(lump, i, s))
+    places.write(
+        copy,
+        |lump, i| export_records::meshpigeon_write_sidedef(lump, i, s),
+    )
 }
 
-fn vertex<R: Print>(places: Places<'_, R>) -> io::Result<()> {
+fn vertex<R: Print>(places: Places<'_, R>, copy: &mut [u8]) -> io::Result<()> {
     let a = export_records::meshpigeon_read_vertex(places.from, places.index);
     let v = a.vertex;
     print!(places.rt; "{}{}", Each(&[v.x, v.y]), Verdict(a.status))?;
-    places.write(|lump, i| export_records::meshpigeon_write_vertex(lump, i, v))
+    places.write(
+        copy,
+        |lump, i| export_records::meshpigeon_write_vertex(lump, i, v),
+    )
 }
 
-fn seg<R: Print>(places: Places<'_, R>) -> io::Result<()> {
+fn seg<R: Print>(places: Places<'_, R>, copy: &mut [u8]) -> io::Result<()> {
     let a = export_records::meshpigeon_read_seg(places.from, places.index);
     let s = a.seg;
     print!(places.rt;
@@ -156,26 +171,35 @@ fn seg<R: Print>(places: Places<'_, R>) -> io::Result<()> {
         Runs(&[s.start, s.end, s.angle, s.linedef, s.direction])
     )?;
     print!(places.rt; " {}{}", s.offset, Verdict(a.status))?;
-    places.write(|lump, i| export_records::meshpigeon_write_seg(lump, i, s))
+    places.write(
+        copy,
+        |lump, i| export_records::meshpigeon_write_seg(lump, i, s),
+    )
 }
 
-fn subsector<R: Print>(places: Places<'_, R>) -> io::Result<()> {
+fn subsector<R: Print>(places: Places<'_, R>, copy: &mut [u8]) -> io::Result<()> {
     let a = export_records::meshpigeon_read_subsector(places.from, places.index);
     let s = a.subsector;
     print!(places.rt; "{}{}", Runs(&[s.number, s.first]), Verdict(a.status))?;
-    places.write(|lump, i| export_records::meshpigeon_write_subsector(lump, i, s))
+    places.write(
+        copy,
+        |lump, i| export_records::meshpigeon_write_subsector(lump, i, s),
+    )
 }
 
-fn node<R: Print>(places: Places<'_, R>) -> io::Result<()> {
+fn node<R: Print>(places: Places<'_, R>, copy: &mut [u8]) -> io::Result<()> {
     let a = export_records::meshpigeon_read_node(places.from, places.index);
     let n = a.node;
     print!(places.rt; "{}", Each(&[n.x, n.y, n.dx, n.dy]))?;
     print!(places.rt; "{}{}", Each(&n.right_box), Each(&n.left_box))?;
     print!(places.rt; "{}{}", Runs(&[n.right, n.left]), Verdict(a.status))?;
-    places.write(|lump, i| export_records::meshpigeon_write_node(lump, i, n))
+    places.write(
+        copy,
+        |lump, i| export_records::meshpigeon_write_node(lump, i, n),
+    )
 }
 
-fn sector<R: Print>(places: Places<'_, R>) -> io::Result<()> {
+fn sector<R: Print>(places: Places<'_, R>, copy: &mut [u8]) -> io::Result<()> {
     let a = export_records::meshpigeon_read_sector(places.from, places.index);
     let s = a.sector;
     print!(places.rt; "{}", Each(&[s.floor, s.ceiling]))?;
@@ -185,7 +209,10 @@ fn sector<R: Print>(places: Places<'_, R>) -> io::Result<()> {
         Runs(&[s.light, s.special, s.tag]),
         Verdict(a.status)
     )?;
-    places.write(|lump, i| export_records::meshpigeon_write_sector(lump, i, s))
+    places.write(
+        copy,
+        |lump, i| export_records::meshpigeon_write_sector(lump, i, s),
+    )
 }
 
 // What is asked with ends where the file begins; a longer one is taken modulo this and one.

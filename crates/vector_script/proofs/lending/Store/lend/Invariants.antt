@@ -2,8 +2,5 @@
 use Rattle.vector_script.specs.Script.{Kept}
 use Rattle.vector_script.proofs.lending.Store.lend.Given as goal
 
-abbrev pub invariant-loop-line : goal.invariant-loop-line
-invariant-loop-line l = Kept l.fn.self l.self
-
 abbrev pub invariant-loop-token : goal.invariant-loop-token
-invariant-loop-token l = Kept l.fn.self l.self
+invariant-loop-token g l = Kept l.fn.self l.self

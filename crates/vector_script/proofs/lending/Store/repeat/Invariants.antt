@@ -3,4 +3,4 @@ use Rattle.vector_script.specs.Script.{Kept}
 use Rattle.vector_script.proofs.lending.Store.repeat.Given as goal
 
 abbrev pub invariant-loop-place : goal.invariant-loop-place
-invariant-loop-place l = Kept l.fn.self l.self
+invariant-loop-place g l = Kept l.fn.self l.self

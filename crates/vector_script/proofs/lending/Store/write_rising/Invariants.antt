@@ -3,4 +3,4 @@ use Rattle.vector_script.specs.Script.{Kept}
 use Rattle.vector_script.proofs.lending.Store.write_rising.Given as goal
 
 abbrev pub invariant-loop-word : goal.invariant-loop-word
-invariant-loop-word l = Kept l.fn.self l.self
+invariant-loop-word g l = Kept l.fn.self l.self
