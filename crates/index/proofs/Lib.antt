@@ -6,5 +6,5 @@ pub mod NameKeys
 pub mod Sorting
 pub mod Holds
 pub mod Padded
-pub mod Cut
+pub mod Filled
 pub mod Bytes

@@ -16,11 +16,12 @@ pub struct IndexRecord {
     pub number: u16,
 }
 
-// By the name's bytes, and then by the number.
+// By the name's bytes, and then by the number: `a < b`, but a name's eight bytes are compared at once.
 pub fn precedes(a: IndexRecord, b: IndexRecord) -> bool
     ensures { result ≡ precedes a b }
 {
-    a < b
+    let (x, y) = (keys::key_of(a.name), keys::key_of(b.name));
+    (x < y) | (x == y) & (a.number < b.number)
 }
 
 // The record of entry `i` of a directory.

@@ -7,8 +7,12 @@ pub fn padded(name: &[u8]) -> [u8; 8]
     requires { length name.now ≡ 8 }
     ensures { result ≡ padded name.now }
 {
-    let n = name.iter().position(|c| *c == 0).unwrap_or(8);
     let mut bytes = [0; 8];
-    bytes[..n].copy_from_slice(&name[..n]);
+    for (i, &c) in name.iter().enumerate() {
+        if c == 0 {
+            return bytes;
+        }
+        bytes[i] = c;
+    }
     bytes
 }

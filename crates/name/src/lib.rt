@@ -5,10 +5,19 @@
 ghost use Rattle.std.specs.Prelude.{◌≡◌, length};
 ghost use Rattle.name.specs.Names.{name_of, character_ok, name_ok, same_name, episode_name, low_name, high_name, map_name_ok};
 
+// The characters of a name from `-` to `_`, a bit for each: `matches!` of their ranges tests up to four times for each character.
+const CHARACTERS: u64 = 1688849859223545;
+
 fn character_ok(c: u8) -> bool
     ensures { result ≡ character_ok c }
 {
-    matches!(c, b'A'..=b'Z' | b'0'..=b'9' | b'['..=b']' | b'-' | b'_')
+    if c < b'-' {
+        return false;
+    }
+    if b'_' < c {
+        return false;
+    }
+    (CHARACTERS >> ((c - b'-') as u64)) % 2 == 1
 }
 
 // One character or more before the zero, all of them good. A zero is no character, so that each byte is tested once.

@@ -114,9 +114,11 @@ fn first_bad(found: bool, sectors: usize, bytes: usize, scrap: &[u8]) -> usize
     if found {
         return scrap.len();
     }
-    for high in (HIGH - bytes % Sidedef::SIZE..scrap.len()).step_by(Sidedef::SIZE) {
-        if sectors <= endian::u16_at(scrap, high - 1) as usize {
-            return high - 1;
+    let first = HIGH - bytes % Sidedef::SIZE;
+    for i in 0..(scrap.len() + (Sidedef::SIZE - 1) - first) / Sidedef::SIZE {
+        let low = first + Sidedef::SIZE * i - 1;
+        if sectors <= endian::u16_at(scrap, low) as usize {
+            return low;
         }
     }
     scrap.len().saturating_sub(1)

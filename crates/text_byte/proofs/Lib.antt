@@ -2,5 +2,6 @@
 
 pub mod Spans
 pub mod Fronts
+pub mod Near
 pub mod Bytes
 pub mod Letters

@@ -16,7 +16,7 @@ pub none : (at end : ℕ) → end ≤ at → end - at ≡ 0
 none at end h = omega arith
 
 -- one place more, by the test's value there
-step : (test : ℕ → Bool) (at n : ℕ) {b : Bool} → test at ≡ b → span_end test at (suc n) ≡ cond b (span_end test (at + 1) n) at
+pub step : (test : ℕ → Bool) (at n : ℕ) {b : Bool} → test at ≡ b → span_end test at (suc n) ≡ cond b (span_end test (at + 1) n) at
 unfolding span_end
 step test at n e = ap (λ (x : Bool). cond x (span_end test (at + 1) n) at) e
 

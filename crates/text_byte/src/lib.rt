@@ -1,10 +1,15 @@
 // Which bytes are what in a text map (W-206). The definitions are in specs/.
 #![tactic(auto)]
 
-ghost use Rattle.std.specs.Prelude.{◌≡◌, ◌-◌, ◌<◌, ℕ, Bool, get_or};
+ghost use Rattle.std.specs.Prelude.{◌≡◌, ◌+◌, ◌-◌, ◌≤◌, ◌<◌, ℕ, Bool, length, get_or};
 ghost use Rattle.text_byte.specs.Bytes.{is_blank, is_mark, opens_line, opens_comment, ends_word, is_digit, is_hex_digit, is_letter, is_name_byte, lower};
-ghost use Rattle.text_byte.specs.Spans.{span_end};
+ghost use Rattle.text_byte.specs.Spans.{span_end, other_at};
 ghost use Rattle.text_byte.specs.WordBytes.{is_plain, stops_word};
+
+use std::simd::prelude::*;
+
+// How many bytes are compared at once.
+pub const NEAR: usize = 32;
 
 pub const NEWLINE: u8 = b'\n';
 
@@ -43,6 +48,20 @@ pub fn span_end<F: Fn(usize) -> bool>(from: usize, end: usize, test: F) -> usize
         }
     }
     from.max(end)
+}
+
+// The first of the next 32 bytes that has the value, or the place behind them: all are compared at once.
+pub fn near_end(text: &[u8], from: usize, b: u8) -> usize
+    requires { from + 32 ≤ length text.now }
+    ensures { result ≡ span_end (other_at text.now b) from 32 }
+{
+    let marks = u8x32::from_slice(&text[from..])
+        .simd_eq(u8x32::splat(b))
+        .to_bitmask();
+    if marks == 0 {
+        return from + NEAR;
+    }
+    from + marks.trailing_zeros() as usize
 }
 
 pub fn is_blank(b: u8) -> bool

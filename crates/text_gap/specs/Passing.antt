@@ -1,18 +1,16 @@
 -- What contracts of inner functions cite, and that of `blank_end`: a gap read comment by comment. Assumes nothing.
 use Rattle.std.specs.Prelude.{ℕ, ◌-◌, ◌≤◌, ◌<◌, Bool, true, false, not, ◌&&◌, List, ◌≡◌, eqb, ltb, length, get_or}
 use Rattle.text_byte.specs.Bytes.{slash, is_blank}
+pub use Rattle.text_byte.specs.Spans.{other_at}
 use Rattle.text_byte.specs.Spans.{span_end}
 use Rattle.text_gap.specs.declared.Mode.{Mode}
 use Rattle.text_gap.specs.declared.Mode.TheVariants.{Between, Line, Opening, Comment, Star, Stop}
 use Rattle.text_gap.specs.declared.Gap.{Gap}
 use Rattle.text_gap.specs.Gaps.{gap_from}
 
--- the byte at a place is white space; another than `b`
+-- the byte at a place is white space
 abbrev pub blank_at : List ℕ → ℕ → Bool
 blank_at text i = is_blank (get_or text i 0)
-
-abbrev pub other_at : List ℕ → ℕ → ℕ → Bool
-other_at text b i = not (eqb (get_or text i 0) b)
 
 -- the first place from `at` on that holds `b`, or the text's end
 abbrev pub other_end : List ℕ → ℕ → ℕ → ℕ

@@ -10,9 +10,6 @@ ghost use Rattle.text_gap.specs.Passing.{blank_at, other_at, other_end, starts_t
 use memchr::memchr;
 use text_byte as bytes;
 
-// How many bytes are looked at one by one before the rest is searched.
-const NEAR: usize = 16;
-
 // How the reading of a gap goes on: between tokens, in a comment up to the line's end, at the star that opens a
 // comment, in that comment, behind a star in it, and at a token's first byte.
 #[derive(Clone, Copy, PartialEq, Eq)]
@@ -173,24 +170,22 @@ pub fn blank_end(text: &[u8], from: usize) -> usize
 
 // The first byte of a value. In most comments it is near: a search of the whole rest begins with 64 bytes at once.
 fn byte_end(text: &[u8], from: usize, b: u8) -> usize
-    requires { from ≤ length text.now }
     ensures { result ≡ other_end text.now b from }
 {
-    let near = from + (text.len() - from).min(NEAR);
-    let at = near_end(text, from, near, b);
-    if at < near {
-        return at;
+    if text.len() < from {
+        return from;
     }
-    far_end(text, near, b)
+    if bytes::NEAR <= text.len() - from {
+        let at = bytes::near_end(text, from, b);
+        if at < from + bytes::NEAR {
+            return at;
+        }
+    }
+    far_end(text, from, b)
 }
 
-fn near_end(text: &[u8], from: usize, end: usize, b: u8) -> usize
-    requires { end ≤ length text.now }
-    ensures { result ≡ span_end (other_at text.now b) from (end - from) }
-{
-    bytes::span_end(from, end, |i| text[i] != b)
-}
-
+// Apart from the look at the next bytes, which is inlined.
+#[inline(never)]
 fn far_end(text: &[u8], from: usize, b: u8) -> usize
     requires { from ≤ length text.now }
     ensures { result ≡ other_end text.now b from }

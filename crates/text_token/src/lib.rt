@@ -12,9 +12,6 @@ use memchr::memchr2;
 use text_byte as bytes;
 use text_gap::Gap;
 
-// How many bytes of a string are looked at one by one before the rest is searched.
-const NEAR: usize = 16;
-
 // What a token is: the text's end; a comment or string that is never closed, which ends the text too; a word; a string;
 // or a mark.
 #[derive(Clone, Copy, PartialEq, Eq)]
@@ -169,7 +166,6 @@ fn in_word(text: &[u8], at: usize) -> bool
 
 // The closing quote of a string: a backslash takes the next byte, whatever it is. Each run says where the loop goes on.
 fn quote_end(text: &[u8], from: usize) -> usize
-    requires { from ≤ length text.now }
     ensures { result ≡ quote_end text.now false from (length text.now - from) }
 {
     let mut at = string_run(text, from);
@@ -188,30 +184,23 @@ fn quote_end(text: &[u8], from: usize) -> usize
 // Past the bytes of a string that are neither a quote nor a backslash. In most strings one is near: a search of the whole rest begins
 // with 64 bytes at once.
 fn string_run(text: &[u8], from: usize) -> usize
-    requires { from ≤ length text.now }
     ensures { StringRun text.now from result }
 {
-    let near = from + (text.len() - from).min(NEAR);
-    let at = near_end(text, from, near);
-    if at < near {
-        return at;
+    if text.len() < from {
+        return from;
     }
-    far_end(text, near)
+    if bytes::NEAR <= text.len() - from {
+        let quote = bytes::near_end(text, from, bytes::DOUBLE_QUOTE);
+        let at = quote.min(bytes::near_end(text, from, bytes::BACKSLASH));
+        if at < from + bytes::NEAR {
+            return at;
+        }
+    }
+    far_end(text, from)
 }
 
-fn near_end(text: &[u8], from: usize, end: usize) -> usize
-    requires { end ≤ length text.now }
-    ensures { result ≡ span_end (λ i. not (ends_run text.now i)) from (end - from) }
-{
-    bytes::span_end(from, end, |i| !ends_run(text[i]))
-}
-
-fn ends_run(b: u8) -> bool
-    ensures { result ≡ (eqb b double_quote || eqb b backslash) }
-{
-    (b == bytes::DOUBLE_QUOTE) | (b == bytes::BACKSLASH)
-}
-
+// Apart from the look at the next bytes, which is inlined.
+#[inline(never)]
 fn far_end(text: &[u8], from: usize) -> usize
     requires { from ≤ length text.now }
     ensures { result ≡ span_end (λ i. not (ends_run text.now i)) from (length text.now - from) }

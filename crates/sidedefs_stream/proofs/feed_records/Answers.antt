@@ -1,13 +1,12 @@
 -- `sidedefs_stream::feed_records` meets its contract: where not all of the scrap is looked at, the state is full. Assumes nothing.
-use Prim.Native.Nat.{ℕ, ◌+◌, ◌-◌, ◌<◌}
+use Prim.Native.Nat.{ℕ, ◌+◌, ◌<◌}
 use mathlib.Core.Path.{◌≡◌, ap, subst, ◌∙◌}
 use native.Mathlib.Omega.{arith}
 use borrow.Author.Rules.{rules}
-use lib.ListN.{length, take}
+use lib.ListN.{length}
 use lib.Seq.{length-take-le}
 use Rattle.sidedefs_stream.specs.declared.Stream.{Stream}
 use Rattle.wad.specs.Header.{most_bytes}
-use Rattle.sidedefs_stream.specs.Scraps.{fed}
 use Rattle.sidedefs_stream.proofs.Scraps.{fed-cut}
 use Rattle.sidedefs_stream.proofs.feed_records.Goals as goal
 

@@ -1,18 +1,23 @@
--- `text_gap::byte_end` meets its contract: the value is met among the next bytes, or behind them. Assumes nothing.
+-- `text_gap::byte_end` meets its contract: the value is met among the next bytes, or in a search of the rest. Assumes nothing.
+use Prim.Native.Nat.{◌+◌, ◌-◌}
+use mathlib.Core.Path.{◌≡◌, sym, ap, ◌∙◌}
 use native.Mathlib.Omega.{arith}
 use lib.ListN.{length}
-use Rattle.text_byte.proofs.Fronts.{first_near, first_far}
-use Rattle.text_gap.specs.Passing.{other_at}
+use Rattle.text_byte.specs.Spans.{span_end, other_at}
+use Rattle.text_byte.proofs.Spans.{span_done}
+use Rattle.text_byte.proofs.Fronts.{first_near}
 use Rattle.text_gap.proofs.byte_end.Goals as goal
 
-pub returns-then-at-near : goal.returns-then-at-near
-returns-then-at-near c =
-    let m = c.min.ensures in
-    first_near (other_at c.args.text.now c.args.b) c.args.from _ (length c.args.text.now) (omega (arith, m)) (omega (arith, m, c.requires))
-    c.near_end-at.ensures c.if-at-near.true
+pub returns-then-text-from : goal.returns-then-text-from
+returns-then-text-from c =
+    let text = c.args.text.now in
+    sym (span_done (other_at text c.args.b) c.args.from (length text) (omega (arith, c.if-text-from.true)))
 
-pub returns : goal.returns
-returns c =
-    let m = c.min.ensures in
-    first_far (other_at c.args.text.now c.args.b) c.args.from _ (length c.args.text.now) (omega (arith, m)) (omega (arith, m, c.requires))
-    c.near_end-at.ensures c.if-at-near.false c.far_end.ensures
+pub returns-then-at-from : goal.returns-then-at-from
+returns-then-at-from c =
+    let text = c.args.text.now in
+    let from = c.args.from in
+    let other = other_at text c.args.b in
+    let next : 32 ≡ from + 32 - from = omega arith in
+    first_near other from (from + 32) (length text) (omega arith) (omega (arith, c.if-text-from-ge-NEAR.true, c.if-text-from.false))
+    (c.near_end-at.ensures ∙ ap (span_end other from) next) c.if-at-from.true
