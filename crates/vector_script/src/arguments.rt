@@ -124,7 +124,7 @@ mod tests {
     fn a_copy_has_the_same_bytes(rt: HostRuntime) -> io::Result<()> {
         let mut memory = [0; MEMORY];
         let mut store = Store::new(&mut memory);
-        store.lend(&rt, b"with 7d 1d file \"copied\"")?;
+        store.lend_printing(&rt, b"with 7d 1d file \"copied\"")?;
         let loan = Loan::new(&rt, &store);
         loan.fits(loan.file)?;
         let mut buffer = [0; MOST_COPIED];

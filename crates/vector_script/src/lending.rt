@@ -1,7 +1,8 @@
 // What the statements lend.
-ghost use Rattle.std.specs.Prelude.{◌≡◌, ◌<◌, IsOk, length, replicate};
+ghost use Rattle.std.specs.Prelude.{◌≡◌, ◌≤◌, ◌<◌, IsOk, length, replicate};
 ghost use Rattle.vector_script.specs.Script.{part_between, width_bytes, Kept, GoesOn};
 
+use crate::counting::Count;
 use crate::numbers::{Number, Width};
 use crate::print;
 use crate::statements::{Tokens, up_to};
@@ -31,8 +32,9 @@ struct Ends {
     file: usize,
 }
 
-// The memory is lent, so that nothing here allocates. Each method that lends prints where the script is ill-formed, at the
-// place where it meets it, and ends at the first error of printing.
+// The memory is lent, so that nothing here allocates. `lend` and `lend_both` count the ill-formed places of the script,
+// and cannot fail. The methods with a printer print such a place where they meet it, and end at the first error of
+// printing.
 #[derive(Debug, Drop)]
 pub struct Store<'a> {
     memory: &'a mut [u8],
@@ -42,6 +44,8 @@ pub struct Store<'a> {
     at: usize,
     purpose: Purpose,
     words: WorkWords,
+    // How many ill-formed places were counted.
+    faults: usize,
 }
 
 impl<'a> Store<'a> {
@@ -49,6 +53,7 @@ impl<'a> Store<'a> {
     pub fn new(memory: &'a mut [u8; MEMORY]) -> Store<'a>
         ensures memory { result.memory.now ≡ replicate (length memory.old) 0 }
         ensures nothing_lent { (result.ends.with ≡ 0) × (result.ends.file ≡ 0) × (result.words.count ≡ 0) }
+        ensures no_faults { result.faults ≡ 0 }
     {
         memory.fill(0);
         Store {
@@ -58,6 +63,7 @@ impl<'a> Store<'a> {
             at: 0,
             purpose: Purpose::Write,
             words: WorkWords::default(),
+            faults: 0,
         }
     }
 
@@ -81,8 +87,41 @@ impl<'a> Store<'a> {
         self.words
     }
 
+    // How many ill-formed places were counted since the last call.
+    pub fn take_faults(&mut self) -> usize
+        ensures faults { (result ≡ self.old.faults) × (self.new.faults ≡ 0) }
+        ensures rest { (self.new.memory ≡ self.old.memory) × (self.new.ends ≡ self.old.ends) × (self.new.words ≡ self.old.words) }
+    {
+        mem::take(&mut self.faults)
+    }
+
     // Lends what the last base says, and then what the statement says.
-    pub fn lend_both(&mut self, rt: &impl Print, base: &[u8], lines: &[u8]) -> io::Result<()>
+    pub fn lend_both(&mut self, base: &[u8], lines: &[u8])
+        ensures kept { Kept self.old self.new }
+        ensures counted { self.old.faults ≤ self.new.faults }
+    {
+        let (before, count) = (self.faults, Count::default());
+        let _never_fails = self.lend_both_printing(&count, base, lines);
+        self.faults = before.saturating_add(count.places());
+    }
+
+    // Lends what the lines say. A # begins a comment.
+    pub fn lend(&mut self, lines: &[u8])
+        ensures kept { Kept self.old self.new }
+        ensures counted { self.old.faults ≤ self.new.faults }
+    {
+        let (before, count) = (self.faults, Count::default());
+        let _never_fails = self.lend_printing(&count, lines);
+        self.faults = count.places().saturating_add(before);
+    }
+
+    // The same as `lend_both`, but ill-formed places are printed.
+    pub fn lend_both_printing(
+        &mut self,
+        rt: &impl Print,
+        base: &[u8],
+        lines: &[u8],
+    ) -> io::Result<()>
         ensures { Kept self.old self.new }
     {
         self.ends = Ends {
@@ -90,11 +129,12 @@ impl<'a> Store<'a> {
             file: FILE_START,
         };
         self.words.count = 0;
-        self.lend(rt, base)?;
-        self.lend(rt, lines)
+        self.lend_printing(rt, base)?;
+        self.lend_printing(rt, lines)
     }
 
-    pub fn lend(&mut self, rt: &impl Print, lines: &[u8]) -> io::Result<()>
+    // The same as `lend`, but ill-formed places are printed.
+    pub fn lend_printing(&mut self, rt: &impl Print, lines: &[u8]) -> io::Result<()>
         ensures { Kept self.old self.new }
     {
         for token in Tokens::of(lines) {
@@ -277,7 +317,31 @@ mod tests {
         let mut memory = [0; MEMORY];
         let mut store = Store::new(&mut memory);
         assert_eq!(rt; store.with(), b"".as_slice());
-        store.lend(&rt, b"with 258w \"ab\" # 7\nfile 9*2 nothing")?;
+        store.lend(b"with 258w \"ab\" # 7\nfile 9*2 nothing");
+        assert_eq!(rt; store.with(), b"\x02\x01ab".as_slice());
+        assert_eq!(rt; store.file(), b"\t\t".as_slice());
+        assert_eq!(rt; store.take_faults(), 1);
+        Ok(())
+    }
+
+    #[test]
+    fn the_base_is_lent_first_and_faults_are_counted(rt: HostRuntime) -> io::Result<()> {
+        let mut memory = [0; MEMORY];
+        let mut store = Store::new(&mut memory);
+        store.lend_both(b"with 1 nothing", b"file 2 300 at 9 1-1");
+        assert_eq!(rt; store.with(), b"\x01".as_slice());
+        store.lend(b"nowhere");
+        assert_eq!(rt; store.take_faults(), 5);
+        assert_eq!(rt; store.take_faults(), 0);
+        Ok(())
+    }
+
+    #[test]
+    fn what_is_lent_printing_is_the_same(rt: HostRuntime) -> io::Result<()> {
+        let mut memory = [0; MEMORY];
+        let mut store = Store::new(&mut memory);
+        assert_eq!(rt; store.with(), b"".as_slice());
+        store.lend_printing(&rt, b"with 258w \"ab\" # 7\nfile 9*2 nothing")?;
         assert_eq!(rt; store.with(), b"\x02\x01ab".as_slice());
         assert_eq!(rt; store.file(), b"\t\t".as_slice());
         assert_eq!(rt; Word::try_from(b"nothing".as_slice()), Err(UnknownWord));

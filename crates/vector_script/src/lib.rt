@@ -2,6 +2,7 @@
 #![tactic(auto)]
 
 mod arguments;
+mod counting;
 mod lending;
 mod numbers;
 pub mod print;

@@ -45,7 +45,7 @@ fn read_full(input: &mut impl Read, room: &mut [u8]) -> io::Result<usize>
 fn answer_all(rt: &impl Print, text: &[u8], memory: &mut [u8; MEMORY]) -> io::Result<()> {
     let (head, script) = Script::split(text);
     let mut store = Store::new(memory);
-    store.lend(rt, head)?;
+    store.lend_printing(rt, head)?;
     let mut base = head;
     for statement in script {
         rt.write_all(statement.heading)?;
@@ -53,7 +53,7 @@ fn answer_all(rt: &impl Print, text: &[u8], memory: &mut [u8; MEMORY]) -> io::Re
         if question == Ok(Question::Base) {
             base = statement.lines;
         }
-        store.lend_both(rt, base, statement.lines)?;
+        store.lend_both_printing(rt, base, statement.lines)?;
         questions::put(question, &Loan::new(rt, &store))?;
         rt.write_all(b"\n")?;
     }
