@@ -44,7 +44,7 @@ pub struct Store<'a> {
     at: usize,
     purpose: Purpose,
     words: WorkWords,
-    // How many ill-formed places were counted.
+    // How many ill-formed places were counted and not taken yet.
     faults: usize,
 }
 
@@ -328,8 +328,8 @@ mod tests {
     fn the_base_is_lent_first_and_faults_are_counted(rt: HostRuntime) -> io::Result<()> {
         let mut memory = [0; MEMORY];
         let mut store = Store::new(&mut memory);
-        store.lend_both(b"with 1 nothing", b"file 2 300 at 9 1-1");
-        assert_eq!(rt; store.with(), b"\x01".as_slice());
+        store.lend_both(b"with 1 nothing", b"2 300 file 3 at 9 1-1");
+        assert_eq!(rt; store.with(), b"\x01\x02\x2c".as_slice());
         store.lend(b"nowhere");
         assert_eq!(rt; store.take_faults(), 5);
         assert_eq!(rt; store.take_faults(), 0);
